@@ -1,0 +1,101 @@
+-- The birth of a value, as the map's entries give it and as look-ups do.
+use Rattle.std.proofs.Common.{◌≡◌, ◌≢◌, ℕ, Bool, true, false, cond, List, [], ◌∷◌, Option, Some, None, IfSome, IfNone, nat_eq, ◌&&◌, refl, sym, ap, subst, ◌∙◌, arith}
+use Rattle.std.specs.Prelude.{T}
+use Rattle.std.specs.Option.{option_map}
+use Rattle.std.specs.List.{find}
+use Rattle.std.specs.Ordering.{nat_cmp, eq_by_cmp, is_lt}
+use Rattle.std.specs.Cmp.{IsEquivalence}
+use Rattle.std.specs.FinMap.{get, entries, get-entries, entries_sorted, is_sorted}
+use Rattle.std.specs.FinMap.Entries as entry
+use Rattle.std.proofs.lemmas.Bool.{eq-eqb, ne_eqb, eqb-true}
+use Rattle.std.proofs.lemmas.Grind.{common_steps}
+use Rattle.intern_store.specs.Kept.{Kept, is_at}
+use Rattle.intern_store.specs.State.{State, IsState, birth_of}
+use Rattle.intern_store.proofs.Compared.{tied}
+
+split : (a b : Bool) → T (a && b) → T a × T b
+split true b h = (tt, h)
+split false b h = absurd h
+
+not_less : (x : ℕ) → T (is_lt (nat_cmp x x)) → ⊥
+not_less x h = grind (arith, common_steps)
+
+module _ {X : Type 0} where
+  -- a key that is found is above a key that is below all
+  above : (x q : ℕ) (v : X) (es : List (ℕ × X)) → T (entry.below_all nat_cmp x es) → entry.find nat_cmp q es ≡ Some v → T (is_lt (nat_cmp x q))
+  above x q v [] h e = absurd (cc)
+  above x q v (y ∷ ys) h e = go (split _ _ h).0 (above x q v ys (split _ _ h).1) (eq_by_cmp nat_cmp q y.0) (sym (tied q y.0)) e
+    where
+      go : T (is_lt (nat_cmp x y.0)) → (entry.find nat_cmp q ys ≡ Some v → T (is_lt (nat_cmp x q))) → (t : Bool) → nat_eq q y.0 ≡ t → cond t (Some y.1) (entry.find nat_cmp q ys) ≡ Some v → T (is_lt (nat_cmp x q))
+      go here later true t e = subst (λ z. T (is_lt (nat_cmp x z))) (sym (eqb-true q y.0 t)) here
+      go here later false t e = later e
+
+  -- the first entry that passes a test is the entry of its key
+  first_found : (p : ℕ × X → Bool) (es : List (ℕ × X)) (e : ℕ × X) → T (is_sorted nat_cmp es) → find p es ≡ Some e → (entry.find nat_cmp e.0 es ≡ Some e.1) × (p e ≡ true)
+  first_found p [] e sorted is = absurd (cc)
+  first_found p (x ∷ xs) e sorted is = go (first_found p xs e (split _ _ sorted).1) (p x) refl is
+    where
+      go : (find p xs ≡ Some e → (entry.find nat_cmp e.0 xs ≡ Some e.1) × (p e ≡ true)) → (t : Bool) → p x ≡ t → cond t (Some x) (find p xs) ≡ Some e → (cond (eq_by_cmp nat_cmp e.0 x.0) (Some x.1) (entry.find nat_cmp e.0 xs) ≡ Some e.1) × (p e ≡ true)
+      go later true t is =
+          let same : x ≡ e = cc in
+          (ap (λ b. cond b (Some x.1) (entry.find nat_cmp e.0 xs)) (tied e.0 x.0 ∙ eq-eqb e.0 x.0 (ap (λ y. y.0) (sym same))) ∙ ap (λ y. Some y.1) same, ap p (sym same) ∙ t)
+      go later false t is =
+          let rest = later is in
+          let higher = above x.0 e.0 e.1 xs (split _ _ sorted).0 rest.0 in
+          let differs : e.0 ≢ x.0 = λ same. not_less x.0 (subst (λ z. T (is_lt (nat_cmp x.0 z))) same higher) in
+          (ap (λ b. cond b (Some x.1) (entry.find nat_cmp e.0 xs)) (tied e.0 x.0 ∙ ne_eqb e.0 x.0 differs) ∙ rest.0, rest.1)
+
+  -- where no entry passes, none that a key finds does
+  none_found : (p : ℕ × X → Bool) (f : X → Bool) → ((e : ℕ × X) → p e ≡ f e.1) → (es : List (ℕ × X)) (q : ℕ) (v : X) → find p es ≡ None → entry.find nat_cmp q es ≡ Some v → f v ≡ false
+  none_found p f by [] q v none is = absurd (cc)
+  none_found p f by (x ∷ xs) q v none is = go (none_found p f by xs q v) (p x) refl none (eq_by_cmp nat_cmp q x.0) is
+    where
+      go : (find p xs ≡ None → entry.find nat_cmp q xs ≡ Some v → f v ≡ false) → (t : Bool) → p x ≡ t → cond t (Some x) (find p xs) ≡ None → (b : Bool) → cond b (Some x.1) (entry.find nat_cmp q xs) ≡ Some v → f v ≡ false
+      go later true t none b is = absurd (cc)
+      go later false t none true is = let same : x.1 ≡ v = cc in ap f (sym same) ∙ sym (by x) ∙ t
+      go later false t none false is = later none is
+
+module _ {V : Type 0} (eq : V → V → Bool) where
+  -- an entry that is told by its value is there
+  pub is_stored : (s : State V) (v : V) (b : ℕ) → birth_of eq s v ≡ Some b → is_at eq v (get s.map b) ≡ true
+  is_stored s v b is = go (find (λ e. eq v e.1.value) (entries s.map)) refl is
+    where
+      go : (o : Option (ℕ × Kept V)) → find (λ e. eq v e.1.value) (entries s.map) ≡ o → option_map (λ e. e.0) o ≡ Some b → is_at eq v (get s.map b) ≡ true
+      go None found is = absurd (cc)
+      go (Some e) found is =
+          let same : e.0 ≡ b = cc in
+          let first = first_found _ (entries s.map) e (entries_sorted s.map) found in
+          ap (is_at eq v) (ap (get s.map) (sym same) ∙ get-entries s.map e.0 ∙ first.0) ∙ first.1
+
+  -- where no birth is told, no entry has an equal value
+  pub not_stored : (s : State V) (v : V) → birth_of eq s v ≡ None → (b : ℕ) → is_at eq v (get s.map b) ≡ false
+  not_stored s v is b = go (find (λ e. eq v e.1.value) (entries s.map)) refl is (get s.map b) refl
+    where
+      go : (o : Option (ℕ × Kept V)) → find (λ e. eq v e.1.value) (entries s.map) ≡ o → option_map (λ e. e.0) o ≡ None → (r : Option (Kept V)) → get s.map b ≡ r → is_at eq v r ≡ false
+      go o found is None has = refl
+      go None found is (Some k) has = none_found _ (λ x. eq v x.value) (λ e. refl) (entries s.map) b k found (sym (get-entries s.map b) ∙ has)
+      go (Some e) found is (Some k) has = absurd (cc)
+
+  -- the same of a state that is seen as another
+  pub not_stored_in : (s t : State V) → s ≡ t → (v : V) → birth_of eq t v ≡ None → (b : ℕ) → is_at eq v (get s.map b) ≡ false
+  not_stored_in s t view v is = not_stored s v (ap (λ x. birth_of eq x v) view ∙ is)
+
+  -- two entries that equal one value are one
+  one : IsEquivalence eq → (s : State V) → IsState eq s → (v : V) (b c : ℕ) → is_at eq v (get s.map b) ≡ true → is_at eq v (get s.map c) ≡ true → b ≡ c
+  one laws s ok v b c first second = go (get s.map b) refl first (get s.map c) refl second
+    where
+      go : (o : Option (Kept V)) → get s.map b ≡ o → is_at eq v o ≡ true → (r : Option (Kept V)) → get s.map c ≡ r → is_at eq v r ≡ true → b ≡ c
+      go None hb e r hc f = absurd (cc)
+      go (Some k) hb e None hc f = absurd (cc)
+      go (Some k) hb e (Some l) hc f = ok.apart b c k l hb hc (sym (laws.congr v k.value l.value e) ∙ f)
+
+  -- what a search finds is the birth of the value
+  pub birth_is : IsEquivalence eq → (s t : State V) → s ≡ t → IsState eq s → (v : V) (r : Option ℕ)
+      → IfSome r (λ b. is_at eq v (get s.map b) ≡ true) → IfNone r ((b : ℕ) → is_at eq v (get s.map b) ≡ false) → r ≡ birth_of eq t v
+  birth_is laws s t view ok v r found none = go r (birth_of eq s v) refl found none ∙ ap (λ x. birth_of eq x v) view
+    where
+      go : (r o : Option ℕ) → birth_of eq s v ≡ o → IfSome r (λ b. is_at eq v (get s.map b) ≡ true) → IfNone r ((b : ℕ) → is_at eq v (get s.map b) ≡ false) → r ≡ o
+      go None None is found none = refl
+      go None (Some c) is found none = let yes = is_stored s v c is in let no = none c in absurd (cc)
+      go (Some b) None is found none = let no = not_stored s v is b in absurd (cc)
+      go (Some b) (Some c) is found none = ap Some (one laws s ok v b c found (is_stored s v c is))

@@ -1,0 +1,3 @@
+mod Compared
+mod States
+mod Births

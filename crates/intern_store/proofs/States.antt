@@ -1,0 +1,168 @@
+-- What a storage keeps true of its entries.
+use Rattle.std.proofs.Common.{◌≡◌, ◌≢◌, inl, inr, ℕ, ◌+◌, ◌<◌, ◌≤◌, subst, Bool, true, false, cond, Option, Some, None, IsSome, is_some, nat_eq, refl, sym, ap, ◌∙◌, arith}
+use Rattle.std.specs.Option.{option_map}
+use Rattle.std.specs.Ordering.{nat_cmp}
+use Rattle.std.specs.Cmp.{nat_cmp_total, IsEquivalence}
+use Rattle.std.specs.FinMap as map
+use Rattle.std.specs.FinMap.{FinMap, get-empty, get-insert, get-remove, same_map, nat_cmp-IsAntisymmetric}
+use Rattle.std.proofs.lemmas.Bool.{cases_eq, eq-eqb, ne_eqb}
+use Rattle.std.proofs.lemmas.Option.{same_Some}
+use Rattle.intern_store.specs.Kept.{Kept, is_at}
+use Rattle.intern_store.specs.State.{State, IsState, entry_at, with_count, added, added_with, counted_up, birth_of, or_added, interned}
+use Rattle.intern_store.proofs.Compared.{tied}
+
+module _ {T : Type 0} (eq : T → T → Bool) where
+  pub empty_state : (number top numbers : ℕ) (m : FinMap nat_cmp (Kept T)) → 0 < top → m ≡ map.empty → IsState eq (record { number = number; next = 0; top = top; numbers = numbers; map = m })
+  empty_state number top numbers m room is =
+      let none = λ (b : ℕ). ap (λ n. map.get n b) is ∙ get-empty nat_cmp b in
+      record {
+        below = λ b some. let no = none b in absurd (cc);
+        within = omega arith;
+        counts = λ b k had. let no = none b in absurd (cc);
+        apart = λ b c k l had other e. let no = none b in absurd (cc);
+        counted = room;
+      }
+
+  pub fresh_state : (laws : IsEquivalence eq) (s : State T) (v : T) (n : ℕ) (m : FinMap nat_cmp (Kept T)) → IsState eq s → s.next < s.numbers → n ≤ s.top → ((b : ℕ) → is_at eq v (map.get s.map b) ≡ false)
+      → m ≡ map.insert s.map s.next (record { value = v; count = n }) → IsState eq (record { number = s.number; next = s.next + 1; top = s.top; numbers = s.numbers; map = m })
+  fresh_state laws s v n m is room fits new added =
+      record {
+        below = λ b some.
+            elim (cases_eq b s.next) [
+              | inl same ↦ omega arith
+              | inr differs ↦ let below = is.below b (ap is_some (sym (old b differs)) ∙ some) in omega arith
+            ];
+        within = omega arith;
+        counts = λ b k had.
+            elim (cases_eq b s.next) [
+              | inl same ↦ let is_new : n ≡ k.count = ap (λ x. x.count) (same_Some _ _ (sym (now b same) ∙ had)) in omega arith
+              | inr differs ↦ is.counts b k (sym (old b differs) ∙ had)
+            ];
+        apart = λ b c k l had other e.
+            elim (cases_eq b s.next) [
+              | inl first ↦
+                  elim (cases_eq c s.next) [
+                    | inl second ↦ first ∙ sym second
+                    | inr second ↦
+                        let value : v ≡ k.value = ap (λ x. x.value) (same_Some _ _ (sym (now b first) ∙ had)) in
+                        let found : is_at eq v (map.get s.map c) ≡ true = ap (is_at eq v) (sym (old c second) ∙ other) ∙ ap (λ x. eq x l.value) value ∙ e in
+                        let none = new c in
+                        absurd (cc)
+                  ]
+              | inr first ↦
+                  elim (cases_eq c s.next) [
+                    | inl second ↦
+                        let value : v ≡ l.value = ap (λ x. x.value) (same_Some _ _ (sym (now c second) ∙ other)) in
+                        let found : is_at eq v (map.get s.map b) ≡ true = ap (is_at eq v) (sym (old b first) ∙ had) ∙ laws.symm v k.value ∙ ap (eq k.value) value ∙ e in
+                        let none = new b in
+                        absurd (cc)
+                    | inr second ↦ is.apart b c k l (sym (old b first) ∙ had) (sym (old c second) ∙ other) e
+                  ]
+            ];
+        counted = is.counted;
+      }
+    where
+      at_any : (q : ℕ) → map.get m q ≡ cond (nat_eq q s.next) (Some (record { value = v; count = n })) (map.get s.map q)
+      at_any q = ap (λ n. map.get n q) added ∙ get-insert nat_cmp_total s.map s.next (record { value = v; count = n }) q ∙ ap (λ t. cond t (Some (record { value = v; count = n })) (map.get s.map q)) (tied q s.next)
+
+      old : (q : ℕ) → q ≢ s.next → map.get m q ≡ map.get s.map q
+      old q differs = at_any q ∙ ap (λ t. cond t (Some (record { value = v; count = n })) (map.get s.map q)) (ne_eqb q s.next differs)
+
+      now : (q : ℕ) → q ≡ s.next → map.get m q ≡ Some (record { value = v; count = n })
+      now q same = at_any q ∙ ap (λ t. cond t (Some (record { value = v; count = n })) (map.get s.map q)) (eq-eqb q s.next same)
+
+  -- an entry that is left after a removal was there
+  pub still : (m : FinMap nat_cmp (Kept T)) (b q : ℕ) (k : Kept T) → map.get (map.remove m b) q ≡ Some k → map.get m q ≡ Some k
+  still m b q k had = go (nat_eq q b) (sym (get-remove nat_cmp_total m b q ∙ ap (λ t. cond t None (map.get m q)) (tied q b)) ∙ had)
+    where
+      go : (t : Bool) → cond t None (map.get m q) ≡ Some k → map.get m q ≡ Some k
+      go true e = absurd (cc)
+      go false e = e
+
+  some_still : (m : FinMap nat_cmp (Kept T)) (b q : ℕ) (o : Option (Kept T)) → map.get (map.remove m b) q ≡ o → IsSome o → IsSome (map.get m q)
+  some_still m b q None e some = absurd (cc)
+  some_still m b q (Some k) e some = ap is_some (still m b q k e)
+
+  pub taken_state : (s : State T) (b : ℕ) (m : FinMap nat_cmp (Kept T)) → IsState eq s → m ≡ map.remove s.map b → IsState eq (record s { map = m })
+  taken_state s b m is removed = record {
+    below = λ q some. is.below q (some_still s.map b q _ refl (ap (λ n. is_some (map.get n q)) (sym removed) ∙ some));
+    within = is.within;
+    counts = λ q k had. is.counts q k (still s.map b q k (ap (λ n. map.get n q) (sym removed) ∙ had));
+    apart = λ q c k l had other e. is.apart q c k l (still s.map b q k (ap (λ n. map.get n q) (sym removed) ∙ had)) (still s.map b c l (ap (λ n. map.get n c) (sym removed) ∙ other)) e;
+    counted = is.counted;
+  }
+
+  -- one entry has another count
+  pub recounted_state : (s : State T) (b n : ℕ) (k : Kept T) (m : FinMap nat_cmp (Kept T)) → IsState eq s → map.get s.map b ≡ Some k → n ≤ s.top
+      → m ≡ map.insert s.map b (record k { count = n }) → IsState eq (record s { map = m })
+  recounted_state s b n k m is had fits recounted = record {
+    below = λ q some. is.below q (at_some q some);
+    within = is.within;
+    counts = λ q l now. let w = was q l now in w.3;
+    apart = λ q c l j now other e.
+        let w = was q l now in
+        let u = was c j other in
+        is.apart q c w.0 u.0 w.1 u.1 (ap (λ x. eq x u.0.value) w.2 ∙ ap (eq l.value) u.2 ∙ e);
+    counted = is.counted;
+  }
+    where
+      at_any : (q : ℕ) → map.get m q ≡ cond (nat_eq q b) (Some (record k { count = n })) (map.get s.map q)
+      at_any q = ap (λ x. map.get x q) recounted ∙ get-insert nat_cmp_total s.map b (record k { count = n }) q ∙ ap (λ t. cond t (Some (record k { count = n })) (map.get s.map q)) (tied q b)
+
+      was : (q : ℕ) (l : Kept T) → map.get m q ≡ Some l → (j : Kept T) × (map.get s.map q ≡ Some j) × (j.value ≡ l.value) × (l.count ≤ s.top)
+      was q l now =
+          elim (cases_eq q b) [
+            | inl same ↦
+                let is_new : record k { count = n } ≡ l = same_Some _ _ (sym (at_any q ∙ ap (λ t. cond t (Some (record k { count = n })) (map.get s.map q)) (eq-eqb q b same)) ∙ now) in
+                (k, ap (map.get s.map) same ∙ had, ap (λ x. x.value) is_new, subst (λ (x : Kept T). x.count ≤ s.top) is_new fits)
+            | inr differs ↦
+                let old = sym (at_any q ∙ ap (λ t. cond t (Some (record k { count = n })) (map.get s.map q)) (ne_eqb q b differs)) ∙ now in
+                (l, old, refl, is.counts q l old)
+          ]
+
+      at_some : (q : ℕ) → IsSome (map.get m q) → IsSome (map.get s.map q)
+      at_some q some = go (map.get m q) refl some
+        where
+          go : (o : Option (Kept T)) → map.get m q ≡ o → IsSome o → IsSome (map.get s.map q)
+          go None e some = absurd (cc)
+          go (Some l) e some = ap is_some (was q l e).1
+
+  -- the same, where the count is all that is known of the entry
+  pub counted_state : (s t : State T) (b n c : ℕ) (m : FinMap nat_cmp (Kept T)) → s ≡ t → IsState eq s → option_map (λ k. k.count) (map.get s.map b) ≡ Some c → (c ≤ s.top → n ≤ s.top)
+      → ((k : Kept T) → map.get s.map b ≡ Some k → m ≡ map.insert s.map b (record k { count = n })) → IsState eq (record s { map = m })
+  counted_state s t b n c m view is counts fits recounted = go (map.get s.map b) refl counts
+    where
+      go : (o : Option (Kept T)) → map.get s.map b ≡ o → option_map (λ k. k.count) o ≡ Some c → IsState eq (record s { map = m })
+      go None e counts = absurd (cc)
+      go (Some k) e counts =
+          let same : k.count ≡ c = cc in
+          recounted_state s b n k m is e (fits (subst (λ x. x ≤ s.top) same (is.counts b k e))) (recounted k e)
+
+shadowed : {A : Type 0} (b : Bool) (x y z : A) → cond b x (cond b y z) ≡ cond b x z
+shadowed true x y z = refl
+shadowed false x y z = refl
+
+module _ {T : Type 0} where
+  -- a new entry that is counted once
+  pub counted_up-added : (s : State T) (v : T) → counted_up (added s v) s.next ≡ added_with 1 s v
+  counted_up-added s v = ap (with_count (λ n. n + 1) (added s v) s.next) entry ∙ ap (λ m. record s { next = s.next + 1; map = m }) twice
+    where
+      at_any : (m : FinMap nat_cmp (Kept T)) (k : Kept T) (q : ℕ) → map.get (map.insert m s.next k) q ≡ cond (nat_eq q s.next) (Some k) (map.get m q)
+      at_any m k q = get-insert nat_cmp_total m s.next k q ∙ ap (λ t. cond t (Some k) (map.get m q)) (tied q s.next)
+
+      entry : entry_at (added s v) s.next ≡ Some (record { value = v; count = 0 })
+      entry = at_any s.map _ s.next ∙ ap (λ t. cond t (Some (record { value = v; count = 0 })) (map.get s.map s.next)) (eq-eqb s.next s.next refl)
+
+      one : Kept T
+      one = record { value = v; count = 1 }
+
+      twice : map.insert (map.insert s.map s.next (record { value = v; count = 0 })) s.next one ≡ map.insert s.map s.next one
+      twice = same_map nat_cmp_total nat_cmp-IsAntisymmetric _ _ (λ q.
+          at_any (map.insert s.map s.next (record { value = v; count = 0 })) one q
+          ∙ ap (cond (nat_eq q s.next) (Some one)) (at_any s.map _ q)
+          ∙ shadowed (nat_eq q s.next) (Some one) _ (map.get s.map q)
+          ∙ sym (at_any s.map one q))
+
+  -- interning a value that isn't stored, and counting it
+  pub counted_up-interned : (eq : T → T → Bool) (s : State T) (v : T) → birth_of eq s v ≡ None → counted_up (interned eq s v).1 (interned eq s v).0 ≡ added_with 1 s v
+  counted_up-interned eq s v none = ap (λ o. counted_up (or_added o s v).1 (or_added o s v).0) none ∙ counted_up-added s v

@@ -1,0 +1,61 @@
+//! What a store asks of the table that keeps its entries.
+ghost use Rattle.std.specs.Prelude.{◌≡◌, ℕ, IsSome, Some, None, OnOk, OnErr, IfErr, IfSome, IfNone, true, false};
+ghost use Rattle.std.specs.Option.{option_map};
+ghost use Rattle.std.specs.FinMap as map;
+ghost use Rattle.std.specs.Ordering.{nat_cmp};
+ghost use Rattle.intern_store.specs.Kept.{Kept, is_at};
+
+use std::alloc::Global;
+use std::cmp::Eq;
+
+/// Values with counts, each under a birth. Only an insertion takes memory.
+pub trait Entries: Sized {
+    /// What is kept, as contracts see it.
+    type Value: Eq;
+
+    // What is kept under each birth.
+    ghost entries: { Self → map.FinMap nat_cmp (Kept Self.Value) };
+
+    /// A table with no entry.
+    fn new(alloc: Global) -> Self
+        ensures { entries result ≡ map.empty };
+
+    /// How many entries there are.
+    fn len(&self) -> usize
+        ensures { result ≡ map.len (entries self.now) };
+
+    /// The count of the entry of a birth.
+    fn count(&self, birth: u64) -> Option<u64>
+        ensures { result ≡ option_map (λ k. k.count) (map.get (entries self.now) birth) };
+
+    /// Sets the count of a birth that has an entry.
+    fn set_count(&mut self, birth: u64, count: u64)
+        requires { IsSome (map.get (entries self.old) birth) }
+        ensures { (k : Kept Self.Value) → map.get (entries self.old) birth ≡ Some k → entries self.new ≡ map.insert (entries self.old) birth (record k { count = count }) };
+}
+
+/// A table that gives its entries out one by one.
+pub trait Removes: Entries {
+    /// Takes the entry of a birth out, and gives its value.
+    fn remove(&mut self, birth: u64) -> Option<Self::Value>
+        ensures value { result ≡ option_map (λ k. k.value) (map.get (Self.entries self.old) birth) }
+        ensures removed { Self.entries self.new ≡ map.remove (Self.entries self.old) birth };
+}
+
+/// A table that takes offers of this type.
+pub trait Takes<O>: Entries {
+    // The value that would be stored.
+    ghost value: { O → Self.Value };
+
+    /// The birth of an entry whose value equals the one offered.
+    fn find(&self, offer: &O) -> Option<u64>
+        ensures found { IfSome result (λ b. is_at Self.Value.eq (value offer.now) (map.get (Self.entries self.now) b) ≡ true) }
+        ensures none { IfNone result ((b : ℕ) → is_at Self.Value.eq (value offer.now) (map.get (Self.entries self.now) b) ≡ false) };
+
+    /// Adds an entry under a new birth, or hands the offer back where there is no memory.
+    fn insert(&mut self, birth: u64, offer: O, count: u64) -> Result<(), O>
+        requires { map.get (Self.entries self.old) birth ≡ None }
+        ensures ok { OnOk result (Self.entries self.new ≡ map.insert (Self.entries self.old) birth (record { value = value offer; count = count })) }
+        ensures err { OnErr result (Self.entries self.new ≡ Self.entries self.old) }
+        ensures back { IfErr result (λ back. back ≡ offer) };
+}

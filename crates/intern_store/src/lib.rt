@@ -1,0 +1,10 @@
+//! What every storage of interned values is: a table with a number, limits, counts and births.
+#![tactic(auto)]
+
+mod entries;
+mod names;
+mod store;
+
+pub use entries::{Entries, Removes, Takes};
+pub use names::{Limits, Name, Refusal, Refused};
+pub use store::Store;

@@ -1,0 +1,83 @@
+//! What handles and refusals are made of.
+ghost use Rattle.std.specs.Prelude.{◌≡◌};
+ghost use Rattle.intern_store.specs.State.{refusal_number};
+
+use thiserror::Error;
+
+/// A storage's limits.
+#[derive(Clone, Copy, Debug, PartialEq, Eq)]
+pub struct Limits {
+    /// The greatest count that an entry may have, at least 1.
+    pub top: u64,
+    /// How many births the storage may give in all.
+    pub numbers: u64,
+}
+
+impl Limits {
+    /// The limits of a storage that is made without any: the largest numbers.
+    pub const NONE: Limits = Limits {
+        top: u64::MAX,
+        numbers: u64::MAX,
+    };
+}
+
+/// What a handle names: an entry, by the number of its storage and by its birth.
+///
+/// The births of a storage begin at 0, rise by one, and are never given twice.
+#[derive(Clone, Copy, Debug, PartialEq, Eq, Hash)]
+pub struct Name {
+    /// The storage's number.
+    pub storage: u64,
+    /// The entry's birth.
+    pub birth: u64,
+}
+
+/// Why a call was refused. A refused call leaves the storage as it was.
+///
+/// The reasons are looked for in this order, and a call answers the first that holds.
+#[derive(Clone, Copy, Debug, PartialEq, Eq, Error)]
+pub enum Refusal {
+    /// The handle is of a storage of another number.
+    #[error("the handle is of another storage")]
+    Foreign,
+    /// The storage has no entry of this birth now.
+    #[error("the entry is gone, or was never there")]
+    Gone,
+    /// The entry's count is zero, and the call would lower it or take one over.
+    #[error("the entry's count is zero already")]
+    CountZero,
+    /// The entry's count is at its limit, and the call would raise it.
+    #[error("the entry's count is at its limit")]
+    CountFull,
+    /// The value isn't stored, and the storage has given all its births.
+    #[error("the storage has given all its numbers")]
+    NumbersUsedUp,
+    /// A growth that the call needs was refused.
+    #[error("out of memory")]
+    OutOfMemory,
+}
+
+/// A refusal, with what the call consumed.
+#[derive(Debug, Drop)]
+pub struct Refused<H> {
+    /// The reason.
+    pub why: Refusal,
+    /// The value, header or handle that the call was given.
+    pub back: H,
+}
+
+impl Refusal {
+    /// The refusal's number, from 1 in the order of the reasons.
+    pub fn number(self) -> u8
+        ensures { result ≡ refusal_number self }
+    {
+        match self {
+            Refusal::Foreign => 1,
+            Refusal::Gone => 2,
+            Refusal::CountZero => 3,
+            Refusal::CountFull => 4,
+            Refusal::NumbersUsedUp => 5,
+            Refusal::OutOfMemory => 6,
+        }
+    }
+}

@@ -1,0 +1,308 @@
+//! A table with a number, limits, counts and births: what every storage is.
+ghost use Rattle.std.specs.Prelude.{◌≡◌, ◌<◌, ◌≤◌, true, Some, None, IsSome, IfSome, IfNone, ◌≢◌, IfOk, IfErr, OnOk, is_ok, if◌then◌else◌};
+ghost use Rattle.std.specs.FinMap as map;
+ghost use Rattle.std.specs.Option.{option_map};
+ghost use Rattle.intern_store.specs.State.{IsState, new_state, name_in, entry_at, count_at, counts, counted_up, counted_down, taken, added_with, birth_of, is_new, interned, offered_back, due, due_at, due_adding, due_interning, full, zero_count, any_count, IsWhy, freed, released};
+
+use crate::entries::{Entries, Removes, Takes};
+use crate::names::{Limits, Name, Refusal, Refused};
+use std::alloc::Global;
+use std::marker::Model;
+
+/// A table of entries, with the storage's number and limits and the next birth.
+///
+/// Each refusal and each count is decided here, once for every kind of storage.
+#[derive(Drop)]
+pub struct Store<E: Entries> {
+    number: u64,
+    next: u64,
+    top: u64,
+    numbers: u64,
+    table: E,
+}
+
+impl<E: Entries> Model for Store<E> {
+    ghost use Rattle.intern_store.specs.State.{State, state_code, IsState};
+
+    ghost Value = { State E.Value };
+
+    ghost coded = { state_code E.Value.code };
+
+    ghost view = { λ a. record { number = a.number; next = a.next; top = a.top; numbers = a.numbers; map = E.entries a.table } };
+
+    ghost invariant = { λ a. IsState E.Value.eq (record { number = a.number; next = a.next; top = a.top; numbers = a.numbers; map = E.entries a.table }) };
+}
+
+impl<E: Entries> Store<E> {
+    /// An empty store with the largest limits. It takes no memory.
+    pub fn new(alloc: Global, number: u64) -> Store<E>
+        ensures { result ≡ new_state number u64.MAX u64.MAX }
+    {
+        let limits = Limits {
+            top: u64::MAX,
+            numbers: u64::MAX,
+        };
+        Store::with_limits(alloc, number, limits)
+    }
+
+    /// An empty store. It takes no memory.
+    pub fn with_limits(alloc: Global, number: u64, limits: Limits) -> Store<E>
+        requires { 0 < limits.top }
+        ensures { result ≡ new_state number limits.top limits.numbers }
+    {
+        Store {
+            number,
+            next: 0,
+            top: limits.top,
+            numbers: limits.numbers,
+            table: E::new(alloc),
+        }
+    }
+
+    /// The storage's number.
+    pub fn number(&self) -> u64
+        ensures number { result ≡ self.now.number }
+        ensures state { IsState E.Value.eq self.now }
+    {
+        self.number
+    }
+
+    /// How many entries there are.
+    pub fn len(&self) -> usize
+        ensures { result ≡ map.len self.now.map }
+    {
+        self.table.len()
+    }
+
+    /// The table, where a name is of this storage.
+    pub fn own(&self, name: Name) -> Option<&E>
+        ensures own { IfSome result (λ t. (name.storage ≡ self.now.number) × (E.entries t.now ≡ self.now.map)) }
+        ensures foreign { IfNone result (name.storage ≢ self.now.number) }
+    {
+        if name.storage != self.number {
+            return None;
+        }
+        Some(&self.table)
+    }
+
+    /// The count of the entry that a name names.
+    pub fn count(&self, name: Name) -> Option<u64>
+        ensures { result ≡ counts self.now name }
+    {
+        if name.storage != self.number {
+            return None;
+        }
+        self.table.count(name.birth)
+    }
+
+    // The name of a birth.
+    fn name(&self, birth: u64) -> Name
+        ensures { result ≡ name_in self.now birth }
+    {
+        Name {
+            storage: self.number,
+            birth,
+        }
+    }
+
+    /// The name of the entry of a birth.
+    pub fn entry(&self, birth: u64) -> Result<Name, Refusal>
+        ensures ok { IfOk result (λ n. n ≡ name_in self.now birth) }
+        ensures allowed { OnOk result (due_at (entry_at self.now birth) any_count ≡ None) }
+        ensures refused { IfErr result (λ why. due_at (entry_at self.now birth) any_count ≡ Some why) }
+    {
+        match self.table.count(birth) {
+            None => Err(Refusal::Gone),
+            Some(_) => Ok(self.name(birth)),
+        }
+    }
+
+    /// The name of the entry of a birth, where its count isn't zero.
+    pub fn counted_entry(&self, birth: u64) -> Result<Name, Refusal>
+        ensures ok { IfOk result (λ n. n ≡ name_in self.now birth) }
+        ensures allowed { OnOk result (due_at (entry_at self.now birth) zero_count ≡ None) }
+        ensures refused { IfErr result (λ why. due_at (entry_at self.now birth) zero_count ≡ Some why) }
+    {
+        match self.table.count(birth) {
+            None => Err(Refusal::Gone),
+            Some(0) => Err(Refusal::CountZero),
+            Some(_) => Ok(self.name(birth)),
+        }
+    }
+
+    // The birth of an entry whose value equals the one offered.
+    fn find<O>(&self, offer: &O) -> Option<u64>
+    where
+        E: Takes<O>,
+        ensures birth { result ≡ birth_of E.Value.eq self.now (E.value offer.now) }
+        ensures there { IfSome result (λ b. IsSome (entry_at self.now b)) }
+    {
+        let _next = self.next;
+        self.table.find(offer)
+    }
+
+    // Adds an entry with a count of its own.
+    fn add<O>(&mut self, offer: O, count: u64) -> Result<u64, Refused<O>>
+    where
+        E: Takes<O>,
+        requires fits { count ≤ self.old.top }
+        requires fresh { birth_of E.Value.eq self.old (E.value offer) ≡ None }
+        ensures ok { IfOk result (λ b. b ≡ self.old.next) }
+        ensures allowed { OnOk result (due_adding self.old ≡ None) }
+        ensures refused { IfErr result (λ r. IsWhy (due_adding self.old) true r.why) }
+        ensures back { IfErr result (λ r. r.back ≡ offer) }
+        ensures state { self.new ≡ (if is_ok result then added_with count self.old (E.value offer) else self.old) }
+    {
+        if self.next == self.numbers {
+            return Err(Refused {
+                why: Refusal::NumbersUsedUp,
+                back: offer,
+            });
+        }
+        let birth = self.next;
+        match self.table.insert(birth, offer, count) {
+            Ok(()) => {
+                self.next = birth + 1;
+                Ok(birth)
+            }
+            Err(back) => Err(Refused {
+                why: Refusal::OutOfMemory,
+                back,
+            }),
+        }
+    }
+
+    // Raises the count of a birth.
+    fn raise(&mut self, birth: u64) -> Result<(), Refusal>
+        ensures allowed { OnOk result (due_at (entry_at self.old birth) (full self.old.top) ≡ None) }
+        ensures refused { IfErr result (λ why. due_at (entry_at self.old birth) (full self.old.top) ≡ Some why) }
+        ensures state { self.new ≡ (if is_ok result then counted_up self.old birth else self.old) }
+    {
+        match self.table.count(birth) {
+            None => Err(Refusal::Gone),
+            Some(count) => {
+                if count == self.top {
+                    return Err(Refusal::CountFull);
+                }
+                self.table.set_count(birth, count + 1);
+                Ok(())
+            }
+        }
+    }
+
+    // The count of a name, where it isn't zero.
+    fn counted(&self, name: Name) -> Result<u64, Refusal>
+        ensures ok { IfOk result (λ n. (0 < n) × (count_at self.now name.birth ≡ Some n)) }
+        ensures allowed { OnOk result (due self.now name zero_count ≡ None) }
+        ensures refused { IfErr result (λ why. due self.now name zero_count ≡ Some why) }
+    {
+        if name.storage != self.number {
+            return Err(Refusal::Foreign);
+        }
+        match self.table.count(name.birth) {
+            None => Err(Refusal::Gone),
+            Some(0) => Err(Refusal::CountZero),
+            Some(count) => Ok(count),
+        }
+    }
+
+    // Lowers the count of a birth by one, from this one.
+    fn lower(&mut self, birth: u64, count: u64)
+        requires positive { 0 < count }
+        requires at { count_at self.old birth ≡ Some count }
+        ensures { self.new ≡ counted_down self.old birth }
+    {
+        let _next = self.next;
+        self.table.set_count(birth, count - 1);
+    }
+
+    /// Stores what is offered with no count, or hands it back where an equal value is stored.
+    pub fn intern<O>(&mut self, offer: O) -> Result<(Name, Option<O>), Refused<O>>
+    where
+        E: Takes<O>,
+        ensures ok { IfOk result (λ r. (r.0 ≡ name_in self.old (interned E.Value.eq self.old (E.value offer)).0) × (r.1 ≡ offered_back (birth_of E.Value.eq self.old (E.value offer)) offer)) }
+        ensures allowed { OnOk result (due_interning E.Value.eq self.old (E.value offer) any_count ≡ None) }
+        ensures refused { IfErr result (λ r. IsWhy (due_interning E.Value.eq self.old (E.value offer) any_count) (is_new E.Value.eq self.old (E.value offer)) r.why) }
+        ensures back { IfErr result (λ r. r.back ≡ offer) }
+        ensures state { self.new ≡ (if is_ok result then (interned E.Value.eq self.old (E.value offer)).1 else self.old) }
+    {
+        match self.find(&offer) {
+            Some(birth) => Ok((self.name(birth), Some(offer))),
+            None => {
+                let birth = self.add(offer, 0)?;
+                Ok((self.name(birth), None))
+            }
+        }
+    }
+
+    /// Stores what is offered, or hands it back where an equal value is stored. It is counted once more.
+    pub fn intern_counted<O>(&mut self, offer: O) -> Result<(Name, Option<O>), Refused<O>>
+    where
+        E: Takes<O>,
+        ensures ok { IfOk result (λ r. (r.0 ≡ name_in self.old (interned E.Value.eq self.old (E.value offer)).0) × (r.1 ≡ offered_back (birth_of E.Value.eq self.old (E.value offer)) offer)) }
+        ensures allowed { OnOk result (due_interning E.Value.eq self.old (E.value offer) (full self.old.top) ≡ None) }
+        ensures refused { IfErr result (λ r. IsWhy (due_interning E.Value.eq self.old (E.value offer) (full self.old.top)) (is_new E.Value.eq self.old (E.value offer)) r.why) }
+        ensures back { IfErr result (λ r. r.back ≡ offer) }
+        ensures state { let i = interned E.Value.eq self.old (E.value offer) in self.new ≡ (if is_ok result then counted_up i.1 i.0 else self.old) }
+    {
+        let _top = self.top;
+        match self.find(&offer) {
+            Some(birth) => match self.raise(birth) {
+                Ok(()) => Ok((self.name(birth), Some(offer))),
+                Err(why) => Err(Refused { why, back: offer }),
+            },
+            None => {
+                let birth = self.add(offer, 1)?;
+                Ok((self.name(birth), None))
+            }
+        }
+    }
+
+    /// Counts an entry once more.
+    pub fn count_up(&mut self, name: Name) -> Result<(), Refusal>
+        ensures allowed { OnOk result (due self.old name (full self.old.top) ≡ None) }
+        ensures refused { IfErr result (λ why. due self.old name (full self.old.top) ≡ Some why) }
+        ensures state { self.new ≡ (if is_ok result then counted_up self.old name.birth else self.old) }
+    {
+        if name.storage != self.number {
+            return Err(Refusal::Foreign);
+        }
+        self.raise(name.birth)
+    }
+
+    /// Counts an entry once less. It stays, also at zero.
+    pub fn count_down(&mut self, name: Name) -> Result<(), Refusal>
+        ensures allowed { OnOk result (due self.old name zero_count ≡ None) }
+        ensures refused { IfErr result (λ why. due self.old name zero_count ≡ Some why) }
+        ensures state { self.new ≡ (if is_ok result then counted_down self.old name.birth else self.old) }
+    {
+        let count = self.counted(name)?;
+        self.lower(name.birth, count);
+        Ok(())
+    }
+}
+
+impl<E: Removes> Store<E> {
+    // Takes an entry out.
+    fn take(&mut self, birth: u64) -> Option<E::Value>
+        ensures value { result ≡ option_map (λ k. k.value) (entry_at self.old birth) }
+        ensures state { self.new ≡ taken self.old birth }
+    {
+        self.table.remove(birth)
+    }
+
+    /// Gives a count up. The last one takes the entry out and frees its value, unless entries stay.
+    pub fn release(&mut self, name: Name, stays: bool) -> Result<Option<E::Value>, Refusal>
+        ensures value { IfOk result (λ v. v ≡ freed stays self.old name.birth) }
+        ensures allowed { OnOk result (due self.old name zero_count ≡ None) }
+        ensures refused { IfErr result (λ why. due self.old name zero_count ≡ Some why) }
+        ensures state { self.new ≡ (if is_ok result then released stays self.old name.birth else self.old) }
+    {
+        let count = self.counted(name)?;
+        if count == 1 && !stays {
+            return Ok(self.take(name.birth));
+        }
+        self.lower(name.birth, count);
+        Ok(None)
+    }
+}

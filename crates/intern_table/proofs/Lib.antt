@@ -1,0 +1,4 @@
+mod Held
+mod Steps
+mod MapValues
+mod Counted

@@ -1,0 +1,8 @@
+use Rattle.std.proofs.Common.{ap, sym, ◌∙◌}
+use Rattle.std.specs.FinMap.{len}
+use Rattle.intern_table.specs.Rows.{kept_row}
+use Rattle.intern_table.proofs.MapValues.{len-map_values}
+use Rattle.intern_table.proofs.table.TableEntries.len.Goals as goal
+
+pub returns : goal.returns
+returns g c = c.len.ensures ∙ sym (len-map_values kept_row _) ∙ ap len c.self.view_is

@@ -1,0 +1,5 @@
+pub mod Buckets
+pub mod Hashes
+pub mod Row
+pub mod Rows
+pub mod Tied

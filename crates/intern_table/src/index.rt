@@ -1,0 +1,185 @@
+//! Values with notes, each under a birth and a hash.
+ghost use Rattle.std.specs.Prelude.{◌≡◌, ℕ, option_copied, IsSome, Some, None, OnOk, OnErr, IfErr, nat_eq};
+ghost use Rattle.std.specs.Option.{option_map};
+ghost use Rattle.std.specs.FinMap as map;
+ghost use Rattle.std.specs.Ordering.{nat_cmp};
+ghost use Rattle.std.specs.List.{list_any};
+ghost use Rattle.intern_table.specs.Row.{Row, has_hash};
+
+use crate::buckets::{Buckets, enlist, unlist};
+use crate::offer::Offer;
+use slab::Slab;
+use std::alloc::Global;
+use std::collections::HashMap;
+use std::hash::Hash;
+use std::marker::Model;
+
+#[derive(Drop)]
+pub(crate) struct Entry<T, N: Copy> {
+    birth: u64,
+    hash: u64,
+    value: T,
+    note: N,
+}
+
+/// Entries in a slab, found by their births, and listed by hashes that the caller gives.
+///
+/// A look-up asks one map and the slab. Only an insertion takes memory.
+#[derive(Drop)]
+pub(crate) struct Index<T, N: Copy> {
+    alloc: Global,
+    slots: Slab<Entry<T, N>>,
+    births: Buckets,
+    places: HashMap<u64, usize>,
+}
+
+impl<T, N: Copy> Model for Index<T, N> {
+    ghost use Rattle.std.specs.FinMap as map;
+    ghost use Rattle.std.specs.Ordering.{nat_cmp};
+    ghost use Rattle.std.specs.Coded.{coded_ℕ};
+    ghost use Rattle.intern_table.specs.Row.{Row, row_code};
+
+    ghost Value = { map.FinMap nat_cmp (Row T N) };
+
+    ghost coded = { map.code coded_ℕ (row_code T.code N.code) };
+
+    ghost use Rattle.intern_table.specs.Tied.{held, IsTied, place_in};
+    ghost use Rattle.intern_table.specs.Buckets.{is_listed};
+    ghost use Rattle.slab.specs.Slab.{get};
+
+    ghost view = { λ a. held (get a.slots) a.places.entries };
+
+    ghost invariant = { λ a. IsTied (place_in a.places.entries) (get a.slots) (is_listed a.births) };
+}
+
+impl<T, N: Copy> Index<T, N> {
+    pub(crate) fn new(alloc: Global) -> Index<T, N>
+        ensures { result ≡ map.empty }
+    {
+        Index {
+            alloc,
+            slots: Slab::new(alloc),
+            births: HashMap::new(alloc),
+            places: HashMap::new(alloc),
+        }
+    }
+
+    pub(crate) fn len(&self) -> usize
+        ensures { result ≡ map.len self.now }
+    {
+        self.places.len()
+    }
+
+    /// The value of a birth.
+    pub(crate) fn get(&self, birth: u64) -> Option<&T>
+        ensures { option_copied result ≡ option_map (λ r. r.value) (map.get self.now birth) }
+    {
+        match self.places.get(&birth) {
+            Some(place) => match self.slots.get(*place) {
+                Some(entry) => Some(&entry.value),
+                None => None,
+            },
+            None => None,
+        }
+    }
+
+    /// The note of a birth.
+    pub(crate) fn note(&self, birth: u64) -> Option<N>
+        ensures { result ≡ option_map (λ r. r.note) (map.get self.now birth) }
+    {
+        match self.places.get(&birth) {
+            Some(place) => match self.slots.get(*place) {
+                Some(entry) => Some(entry.note),
+                None => None,
+            },
+            None => None,
+        }
+    }
+
+    /// Sets the note of a birth that has an entry.
+    pub(crate) fn set_note(&mut self, birth: u64, note: N)
+        requires { IsSome (map.get self.old birth) }
+        ensures { (r : Row T N) → map.get self.old birth ≡ Some r → self.new ≡ map.insert self.old birth (record r { note = note }) }
+    {
+        let place = self.places[&birth];
+        let entry = &mut self.slots[place];
+        entry.note = note;
+    }
+
+    /// The births whose values have a hash.
+    pub(crate) fn listed(&self, hash: u64) -> &[u64]
+        ensures { (b : ℕ) → list_any (nat_eq b) result.now ≡ has_hash hash (map.get self.now b) }
+    {
+        match self.births.get(&hash) {
+            Some(births) => births.as_slice(),
+            None => &[],
+        }
+    }
+
+    /// Takes the entry of a birth out, and gives its value.
+    pub(crate) fn remove(&mut self, birth: u64) -> Option<T>
+        ensures value { result ≡ option_map (λ r. r.value) (map.get self.old birth) }
+        ensures removed { self.new ≡ map.remove self.old birth }
+    {
+        match self.places.remove(&birth) {
+            Some(place) => {
+                let Entry {
+                    birth: _,
+                    hash,
+                    value,
+                    note: _,
+                } = self.slots.remove(place);
+                unlist(&mut self.births, hash, birth);
+                Some(value)
+            }
+            None => None,
+        }
+    }
+}
+
+impl<T: Hash, N: Copy> Index<T, N> {
+    /// Adds an entry under a new birth, or hands the offer back where there is no memory.
+    ///
+    /// The room is reserved first and the value is made last. Where a step between is refused,
+    /// those before it are undone, which takes no memory.
+    pub(crate) fn insert<O: Offer<T>>(
+        &mut self,
+        birth: u64,
+        hash: u64,
+        offer: O,
+        note: N,
+    ) -> Result<(), O>
+        requires { map.get self.old birth ≡ None }
+        ensures ok { OnOk result (self.new ≡ map.insert self.old birth (record { hash = hash; value = O.value offer; note = note })) }
+        ensures err { OnErr result (self.new ≡ self.old) }
+        ensures back { IfErr result (λ back. back ≡ offer) }
+    {
+        let Ok(()) = self.slots.reserve(1) else {
+            return Err(offer);
+        };
+        let place = self.slots.vacant_key();
+        let Ok(_) = self.places.insert(birth, place) else {
+            return Err(offer);
+        };
+        let Ok(()) = enlist(self.alloc, &mut self.births, hash, birth) else {
+            self.places.remove(&birth);
+            return Err(offer);
+        };
+        match offer.into_value(self.alloc) {
+            Ok(value) => {
+                self.slots.insert_reserved(Entry {
+                    birth,
+                    hash,
+                    value,
+                    note,
+                });
+                Ok(())
+            }
+            Err(back) => {
+                unlist(&mut self.births, hash, birth);
+                self.places.remove(&birth);
+                Err(back)
+            }
+        }
+    }
+}

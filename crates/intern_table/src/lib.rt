@@ -1,0 +1,11 @@
+//! How the entries of a storage are kept: a slab under an index of hashes and births.
+#![tactic(auto)]
+
+mod buckets;
+mod hashing;
+mod index;
+mod offer;
+mod table;
+
+pub use offer::Offer;
+pub use table::Table;

@@ -1,0 +1,110 @@
+//! Values with counts, each stored once under a birth.
+ghost use Rattle.std.specs.Prelude.{◌≡◌, ℕ, option_copied, IsSome, Some, None, OnOk, OnErr, IfErr, IfSome, IfNone, nat_eq, true, false};
+ghost use Rattle.std.specs.Option.{option_map};
+ghost use Rattle.std.specs.FinMap as map;
+ghost use Rattle.std.specs.List.{list_any};
+ghost use Rattle.intern_store.specs.Kept.{Kept, is_at};
+
+use crate::index::Index;
+use crate::offer::Offer;
+use intern_store::{Entries, Removes, Takes};
+use std::alloc::Global;
+use std::cmp::Eq;
+use std::hash::{BuildHasherDefault, FoldHasher, Hash};
+use std::marker::Model;
+
+/// The table of values: an index whose notes are the counts.
+///
+/// A search compares only values of one hash. Only an insertion takes memory.
+#[derive(Drop)]
+pub struct Table<T: Hash + Eq> {
+    hasher: BuildHasherDefault<FoldHasher>,
+    index: Index<T, u64>,
+}
+
+impl<T: Hash + Eq> Model for Table<T> {
+    ghost use Rattle.std.specs.FinMap as map;
+    ghost use Rattle.std.specs.Ordering.{nat_cmp};
+    ghost use Rattle.std.specs.Coded.{coded_ℕ};
+    ghost use Rattle.intern_store.specs.Kept.{Kept, kept_code};
+
+    ghost Value = { map.FinMap nat_cmp (Kept T) };
+
+    ghost coded = { map.code coded_ℕ (kept_code T.code) };
+
+    ghost use Rattle.intern_table.specs.Rows.{kept_rows, IsHashed};
+    ghost use Rattle.intern_table.specs.Hashes.{hash_by};
+
+    ghost view = { λ a. kept_rows a.index };
+
+    ghost invariant = { λ a. IsHashed (λ v. hash_by a.hasher (T.hash_input v)) a.index };
+}
+
+impl<T: Hash + Eq> Table<T> {
+    /// The value of a birth.
+    pub fn get(&self, birth: u64) -> Option<&T>
+        ensures { option_copied result ≡ option_map (λ k. k.value) (map.get self.now birth) }
+    {
+        self.index.get(birth)
+    }
+
+    // The first of these births whose value equals the one offered.
+    fn first_equal<O: Offer<T>>(&self, births: &[u64], offer: &O) -> Option<u64>
+        ensures found { IfSome result (λ b. is_at T.eq (O.value offer.now) (map.get self.now b) ≡ true) }
+        ensures none { IfNone result ((b : ℕ) → list_any (nat_eq b) births.now ≡ true → is_at T.eq (O.value offer.now) (map.get self.now b) ≡ false) }
+    {
+        for birth in births {
+            if let Some(stored) = self.get(*birth) {
+                if offer.equals(stored) {
+                    return Some(*birth);
+                }
+            }
+        }
+        None
+    }
+}
+
+impl<T: Hash + Eq> Entries for Table<T> {
+    type Value = T;
+
+    ghost entries = { λ a. a };
+
+    fn new(alloc: Global) -> Table<T> {
+        Table {
+            hasher: BuildHasherDefault::new(),
+            index: Index::new(alloc),
+        }
+    }
+
+    fn len(&self) -> usize {
+        self.index.len()
+    }
+
+    fn count(&self, birth: u64) -> Option<u64> {
+        self.index.note(birth)
+    }
+
+    fn set_count(&mut self, birth: u64, count: u64) {
+        self.index.set_note(birth, count)
+    }
+}
+
+impl<T: Hash + Eq> Removes for Table<T> {
+    fn remove(&mut self, birth: u64) -> Option<T> {
+        self.index.remove(birth)
+    }
+}
+
+impl<T: Hash + Eq, O: Offer<T>> Takes<O> for Table<T> {
+    ghost value = { O.value };
+
+    fn find(&self, offer: &O) -> Option<u64> {
+        let hash = offer.hash_in(&self.hasher);
+        self.first_equal(self.index.listed(hash), offer)
+    }
+
+    fn insert(&mut self, birth: u64, offer: O, count: u64) -> Result<(), O> {
+        let hash = offer.hash_in(&self.hasher);
+        self.index.insert(birth, hash, offer, count)
+    }
+}
