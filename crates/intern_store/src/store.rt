@@ -123,11 +123,9 @@ impl<E: Entries> Store<E> {
         ensures allowed { OnOk result (due_at (entry_at self.now birth) zero_count ≡ None) }
         ensures refused { IfErr result (λ why. due_at (entry_at self.now birth) zero_count ≡ Some why) }
     {
-        match self.table.count(birth) {
-            None => Err(Refusal::Gone),
-            Some(0) => Err(Refusal::CountZero),
-            Some(_) => Ok(self.name(birth)),
-        }
+        let name = self.name(birth);
+        self.counted(name)?;
+        Ok(name)
     }
 
     // The birth of an entry whose value equals the one offered.

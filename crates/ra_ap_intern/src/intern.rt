@@ -127,15 +127,6 @@ impl<T: Internable> InternStorage<T> {
     {
         self.store.count(reference.name)
     }
-
-    fn read(&self, name: Name) -> Option<&T>
-        ensures { option_copied result ≡ reads self.now name }
-    {
-        match self.store.own(name) {
-            None => None,
-            Some(table) => table.get(name.birth),
-        }
-    }
 }
 
 impl<T: Internable> Interned<T> {
@@ -195,7 +186,7 @@ impl<T: Internable> Interned<T> {
     pub fn get<'a>(&self, storage: &'a InternStorage<T>) -> Option<&'a T>
         ensures { option_copied result ≡ reads storage.now (name_of self.now) }
     {
-        storage.read(self.name)
+        self.as_ref().get(storage)
     }
 
     /// A second owned handle, which counts one more. Refused: `Foreign`, `Gone`, `CountFull`.
@@ -205,8 +196,7 @@ impl<T: Internable> Interned<T> {
         ensures refused { IfErr result (λ why. due storage.old (name_of self.now) (full storage.old.top) ≡ Some why) }
         ensures state { storage.new ≡ (if is_ok result then counted_up storage.old (name_of self.now).birth else storage.old) }
     {
-        storage.store.count_up(self.name)?;
-        Ok(owned(self.name))
+        self.as_ref().to_owned(storage)
     }
 
     /// Gives the handle up, with its count. In counted mode the last release frees the value and
@@ -250,7 +240,10 @@ impl<T: Internable> InternedRef<T> {
     pub fn get<'a>(self, storage: &'a InternStorage<T>) -> Option<&'a T>
         ensures { option_copied result ≡ reads storage.now (ref_name self) }
     {
-        storage.read(self.name)
+        match storage.store.own(self.name) {
+            None => None,
+            Some(table) => table.get(self.name.birth),
+        }
     }
 
     /// An owned handle of the entry, which counts one more, also from zero.

@@ -1,0 +1,6 @@
+mod Lines
+mod Numbers
+mod Reply
+mod Sent
+mod Slots
+mod Written

@@ -1,0 +1,69 @@
+-- The reply to a line, by the branches of the code.
+use Rattle.std.proofs.Common.{◌≡◌, ℕ, List, [], ◌∷◌, ◌++◌, ◌<◌, length, true, false, Option, Some, None, Result, Ok, Err, OnOk, IsErr, refl, sym, ap, ◌∙◌, arith, codes}
+use Rattle.std.proofs.lemmas.Bool.Decides.{nat_tests}
+use Rattle.std.specs.List.{before_first, after_first, position_or_len}
+use Rattle.std.specs.Str.{bytes_eq}
+use Rattle.ra_ap_intern.specs.Name.{Name}
+use Rattle.ra_ap_intern.specs.Refusal.{Refusal}
+use Rattle.ra_ap_intern.specs.Refusal.TheVariants.{OutOfMemory}
+use Rattle.ra_ap_intern.specs.State.{IsWhy, due_interning, full, is_new}
+use Rattle.intern_run.specs.Answers.{DeskState, Reply as DeskReply, text_eq, reply, word_reply, new_reply, len_reply, bad_command, no_slot, refusal_text, unless_due, handle_in, at_handle, at_slot, Writes, Replies}
+use Rattle.intern_run.specs.Lines.{is_space}
+
+pub reply-len : (d : DeskState) (line : List ℕ) → position_or_len is_space line ≡ length line → bytes_eq line (codes "len") ≡ true
+    → reply d line ≡ len_reply d
+unfolding reply
+reply-len d line e t = Prim.grind (arith, nat_tests, e, t)
+
+pub reply-other : (d : DeskState) (line : List ℕ) → position_or_len is_space line ≡ length line → bytes_eq line (codes "len") ≡ false
+    → reply d line ≡ bad_command d
+unfolding reply
+reply-other d line e t = Prim.grind (arith, nat_tests, e, t)
+
+-- a line with a space is a word and what follows
+pub reply-word : (d : DeskState) (line word rest : List ℕ) → position_or_len is_space line < length line → word ≡ before_first is_space line → rest ≡ after_first is_space line
+    → reply d line ≡ word_reply d word rest
+unfolding reply
+reply-word d line word rest spaced is_word is_rest =
+    let has : reply d line ≡ word_reply d (before_first is_space line) (after_first is_space line) = Prim.grind (arith, nat_tests, spaced) in
+    has ∙ ap (λ w. word_reply d w (after_first is_space line)) (sym is_word) ∙ ap (word_reply d word) (sym is_rest)
+
+-- the reply of a command on a slot with a handle
+pub at_slot-some : (d : DeskState) (o : Option ℕ) (n : ℕ) (h : Name) (r : ℕ → Name → DeskReply) → o ≡ Some n → handle_in d n ≡ Some h → at_slot d o r ≡ r n h
+at_slot-some d o n h r number there = ap (λ o. at_slot d o r) number ∙ ap (λ o. at_handle d o (r n)) there
+
+pub at_slot-none : (d : DeskState) (o : Option ℕ) (n : ℕ) (r : ℕ → Name → DeskReply) → o ≡ Some n → handle_in d n ≡ None → at_slot d o r ≡ no_slot d
+at_slot-none d o n r number none = ap (λ o. at_slot d o r) number ∙ ap (λ o. at_handle d o (r n)) none
+
+pub unless_due-none : (d : DeskState) (o : Option Refusal) (r : DeskReply) → o ≡ None → unless_due d o r ≡ r
+unless_due-none d o r none = ap (λ o. unless_due d o r) none
+
+pub unless_due-some : (d : DeskState) (o : Option Refusal) (why : Refusal) (r : DeskReply) → o ≡ Some why → unless_due d o r ≡ (d, refusal_text why)
+unless_due-some d o why r some = ap (λ o. unless_due d o r) some
+
+pub ok_then : {X E P Q : Type 0} (r : Result X E) → (P → Q) → OnOk r P → OnOk r Q
+ok_then (Ok x) f p = f p
+ok_then (Err e) f p = p
+
+-- a reply whose desk and answer were found, of the desk as it is seen
+pub replied : {X E : Type 0} (o : Result X E) (inside d new : DeskState) (before after : List ℕ) (r : DeskReply) (of : DeskState → DeskReply)
+    → inside ≡ d → of inside ≡ r → new ≡ r.0 → OnOk o (Writes before after r.1) → OnOk o (Replies new before after (of d))
+replied o inside d new before after r of view is state written =
+    let e : r ≡ of d = sym is ∙ ap of view in
+    ok_then o (λ h. (state ∙ ap (λ r. r.0) e, h ∙ ap (λ r. before ++ (r.1 ++ (10 ∷ []))) e)) written
+
+none_on_err : {X E : Type 0} (P : Type 0) (o : Result X E) → IsErr o → OnOk o P
+none_on_err P (Ok x) err = absurd (cc)
+none_on_err P (Err e) err = tt
+
+-- a refusal to keep a text is answered as due, and want of memory has no answer
+pub refused_new : {X E : Type 0} (o : Result X E) (inside d new : DeskState) (before after : List ℕ) (text : List ℕ) (why : Refusal) → inside ≡ d → new ≡ inside
+    → IsWhy (due_interning text_eq inside.texts text (full inside.texts.top)) (is_new text_eq inside.texts text) why
+    → OnOk o (Writes before after (refusal_text why)) → (why ≡ OutOfMemory → IsErr o) → OnOk o (Replies new before after (new_reply d text))
+refused_new o inside d new before after text why view state is_why written memory = go (due_interning text_eq inside.texts text (full inside.texts.top)) refl is_why
+  where
+    go : (due : Option Refusal) → due_interning text_eq inside.texts text (full inside.texts.top) ≡ due → IsWhy due (is_new text_eq inside.texts text) why → OnOk o (Replies new before after (new_reply d text))
+    go None is w = none_on_err _ o (memory w.0)
+    go (Some r) is w =
+        replied o inside d new before after (inside, refusal_text why) (λ d. new_reply d text) view
+        (unless_due-some inside _ why _ (is ∙ ap Some (sym w))) state written

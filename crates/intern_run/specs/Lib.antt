@@ -1,0 +1,6 @@
+pub mod Answers
+pub mod FaultLine
+pub mod Lines
+pub mod Served
+pub mod Watching
+pub mod Writing
