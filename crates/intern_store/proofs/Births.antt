@@ -90,12 +90,12 @@ module _ {V : Type 0} (eq : V → V → Bool) where
       go (Some k) hb e (Some l) hc f = ok.apart b c k l hb hc (sym (laws.congr v k.value l.value e) ∙ f)
 
   -- what a search finds is the birth of the value
-  pub birth_is : IsEquivalence eq → (s t : State V) → s ≡ t → IsState eq s → (v : V) (r : Option ℕ)
-      → IfSome r (λ b. is_at eq v (get s.map b) ≡ true) → IfNone r ((b : ℕ) → is_at eq v (get s.map b) ≡ false) → r ≡ birth_of eq t v
-  birth_is laws s t view ok v r found none = go r (birth_of eq s v) refl found none ∙ ap (λ x. birth_of eq x v) view
+  pub birth_is : {X : Type 0} (birth : X → ℕ) → IsEquivalence eq → (s t : State V) → s ≡ t → IsState eq s → (v : V) (r : Option X)
+      → IfSome r (λ x. is_at eq v (get s.map (birth x)) ≡ true) → IfNone r ((b : ℕ) → is_at eq v (get s.map b) ≡ false) → option_map birth r ≡ birth_of eq t v
+  birth_is {X} birth laws s t view ok v r found none = go r (birth_of eq s v) refl found none ∙ ap (λ x. birth_of eq x v) view
     where
-      go : (r o : Option ℕ) → birth_of eq s v ≡ o → IfSome r (λ b. is_at eq v (get s.map b) ≡ true) → IfNone r ((b : ℕ) → is_at eq v (get s.map b) ≡ false) → r ≡ o
+      go : (r : Option X) (o : Option ℕ) → birth_of eq s v ≡ o → IfSome r (λ x. is_at eq v (get s.map (birth x)) ≡ true) → IfNone r ((b : ℕ) → is_at eq v (get s.map b) ≡ false) → option_map birth r ≡ o
       go None None is found none = refl
       go None (Some c) is found none = let yes = is_stored s v c is in let no = none c in absurd (cc)
-      go (Some b) None is found none = let no = not_stored s v is b in absurd (cc)
-      go (Some b) (Some c) is found none = ap Some (one laws s ok v b c found (is_stored s v c is))
+      go (Some x) None is found none = let no = not_stored s v is (birth x) in absurd (cc)
+      go (Some x) (Some c) is found none = ap Some (one laws s ok v (birth x) c found (is_stored s v c is))

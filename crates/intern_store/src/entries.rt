@@ -1,10 +1,11 @@
 //! What a store asks of the table that keeps its entries.
-ghost use Rattle.std.specs.Prelude.{◌≡◌, ℕ, IsSome, Some, None, OnOk, OnErr, IfErr, IfSome, IfNone, true, false};
+ghost use Rattle.std.specs.Prelude.{◌≡◌, ℕ, IsSome, is_some, Some, None, OnOk, OnErr, IfErr, IfSome, IfNone, true, false};
 ghost use Rattle.std.specs.Option.{option_map};
 ghost use Rattle.std.specs.FinMap as map;
 ghost use Rattle.std.specs.Ordering.{nat_cmp};
 ghost use Rattle.intern_store.specs.Kept.{Kept, is_at};
 
+use crate::names::Spot;
 use std::alloc::Global;
 use std::cmp::Eq;
 
@@ -24,14 +25,18 @@ pub trait Entries: Sized {
     fn len(&self) -> usize
         ensures { result ≡ map.len (entries self.now) };
 
-    /// The count of the entry of a birth.
-    fn count(&self, birth: u64) -> Option<u64>
-        ensures { result ≡ option_map (λ k. k.count) (map.get (entries self.now) birth) };
+    /// Where the entry of a birth lies.
+    fn place(&self, birth: u64) -> Option<usize>
+        ensures { is_some result ≡ is_some (map.get (entries self.now) birth) };
 
-    /// Sets the count of a birth that has an entry.
-    fn set_count(&mut self, birth: u64, count: u64)
-        requires { IsSome (map.get (entries self.old) birth) }
-        ensures { (k : Kept Self.Value) → map.get (entries self.old) birth ≡ Some k → entries self.new ≡ map.insert (entries self.old) birth (record k { count = count }) };
+    /// The count of an entry.
+    fn count(&self, spot: Spot) -> Option<u64>
+        ensures { result ≡ option_map (λ k. k.count) (map.get (entries self.now) spot.birth) };
+
+    /// Sets the count of an entry that is there.
+    fn set_count(&mut self, spot: Spot, count: u64)
+        requires { IsSome (map.get (entries self.old) spot.birth) }
+        ensures { (k : Kept Self.Value) → map.get (entries self.old) spot.birth ≡ Some k → entries self.new ≡ map.insert (entries self.old) spot.birth (record k { count = count }) };
 }
 
 /// A table that gives its entries out one by one.
@@ -47,13 +52,14 @@ pub trait Takes<O>: Entries {
     // The value that would be stored.
     ghost value: { O → Self.Value };
 
-    /// The birth of an entry whose value equals the one offered.
-    fn find(&self, offer: &O) -> Option<u64>
-        ensures found { IfSome result (λ b. is_at Self.Value.eq (value offer.now) (map.get (Self.entries self.now) b) ≡ true) }
+    /// An entry whose value equals the one offered.
+    fn find(&self, offer: &O) -> Option<Spot>
+        ensures found { IfSome result (λ s. is_at Self.Value.eq (value offer.now) (map.get (Self.entries self.now) s.birth) ≡ true) }
         ensures none { IfNone result ((b : ℕ) → is_at Self.Value.eq (value offer.now) (map.get (Self.entries self.now) b) ≡ false) };
 
-    /// Adds an entry under a new birth, or hands the offer back where there is no memory.
-    fn insert(&mut self, birth: u64, offer: O, count: u64) -> Result<(), O>
+    /// Adds an entry under a new birth, and tells its place. Where there is no memory the offer
+    /// comes back.
+    fn insert(&mut self, birth: u64, offer: O, count: u64) -> Result<usize, O>
         requires { map.get (Self.entries self.old) birth ≡ None }
         ensures ok { OnOk result (Self.entries self.new ≡ map.insert (Self.entries self.old) birth (record { value = value offer; count = count })) }
         ensures err { OnErr result (Self.entries self.new ≡ Self.entries self.old) }

@@ -6,5 +6,5 @@ mod names;
 mod store;
 
 pub use entries::{Entries, Removes, Takes};
-pub use names::{Limits, Name, Refusal, Refused};
+pub use names::{Handle, Limits, Name, Refusal, Refused, Spot};
 pub use store::Store;

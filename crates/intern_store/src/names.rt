@@ -32,6 +32,40 @@ pub struct Name {
     pub birth: u64,
 }
 
+/// Where an entry is: its birth, and the place where it lay when it was found.
+///
+/// The birth alone decides. The place is a hint, which saves a look-up where it is right.
+#[derive(Clone, Copy, Default)]
+pub struct Spot {
+    /// The entry's birth.
+    pub birth: u64,
+    /// The hint.
+    pub place: usize,
+}
+
+/// What a handle holds: the name of an entry, and a hint where it lies. The name alone is compared
+/// and hashed.
+#[derive_where(Clone, Copy, PartialEq, Eq, Hash)]
+pub struct Handle {
+    /// The entry's name.
+    pub name: Name,
+    /// The hint.
+    #[derive_where(skip(EqHashOrd))]
+    pub place: usize,
+}
+
+impl Handle {
+    /// Where the entry is.
+    pub fn spot(self) -> Spot
+        ensures { result.birth ≡ self.name.birth }
+    {
+        Spot {
+            birth: self.name.birth,
+            place: self.place,
+        }
+    }
+}
+
 /// Why a call was refused. A refused call leaves the storage as it was.
 ///
 /// The reasons are looked for in this order, and a call answers the first that holds.

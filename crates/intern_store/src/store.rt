@@ -5,7 +5,7 @@ ghost use Rattle.std.specs.Option.{option_map};
 ghost use Rattle.intern_store.specs.State.{IsState, new_state, name_in, entry_at, count_at, counts, counted_up, counted_down, taken, added_with, birth_of, is_new, interned, offered_back, due, due_at, due_adding, due_interning, full, zero_count, any_count, IsWhy, freed, released};
 
 use crate::entries::{Entries, Removes, Takes};
-use crate::names::{Limits, Name, Refusal, Refused};
+use crate::names::{Handle, Limits, Name, Refusal, Refused, Spot};
 use std::alloc::Global;
 use std::marker::Model;
 
@@ -74,78 +74,81 @@ impl<E: Entries> Store<E> {
         self.table.len()
     }
 
-    /// The table, where a name is of this storage.
-    pub fn own(&self, name: Name) -> Option<&E>
-        ensures own { IfSome result (λ t. (name.storage ≡ self.now.number) × (E.entries t.now ≡ self.now.map)) }
-        ensures foreign { IfNone result (name.storage ≢ self.now.number) }
+    /// The table, where a handle is of this storage.
+    pub fn own(&self, handle: Handle) -> Option<&E>
+        ensures own { IfSome result (λ t. (handle.name.storage ≡ self.now.number) × (E.entries t.now ≡ self.now.map)) }
+        ensures foreign { IfNone result (handle.name.storage ≢ self.now.number) }
     {
-        if name.storage != self.number {
+        if handle.name.storage != self.number {
             return None;
         }
         Some(&self.table)
     }
 
-    /// The count of the entry that a name names.
-    pub fn count(&self, name: Name) -> Option<u64>
-        ensures { result ≡ counts self.now name }
+    /// The count of the entry of a handle.
+    pub fn count(&self, handle: Handle) -> Option<u64>
+        ensures { result ≡ counts self.now handle.name }
     {
-        if name.storage != self.number {
+        if handle.name.storage != self.number {
             return None;
         }
-        self.table.count(name.birth)
+        self.table.count(handle.spot())
     }
 
-    // The name of a birth.
-    fn name(&self, birth: u64) -> Name
-        ensures { result ≡ name_in self.now birth }
+    // A handle of a spot.
+    fn handle(&self, spot: Spot) -> Handle
+        ensures { result.name ≡ name_in self.now spot.birth }
     {
-        Name {
-            storage: self.number,
-            birth,
+        Handle {
+            name: Name {
+                storage: self.number,
+                birth: spot.birth,
+            },
+            place: spot.place,
         }
     }
 
-    /// The name of the entry of a birth.
-    pub fn entry(&self, birth: u64) -> Result<Name, Refusal>
-        ensures ok { IfOk result (λ n. n ≡ name_in self.now birth) }
+    /// A handle of the entry of a birth.
+    pub fn entry(&self, birth: u64) -> Result<Handle, Refusal>
+        ensures ok { IfOk result (λ h. h.name ≡ name_in self.now birth) }
         ensures allowed { OnOk result (due_at (entry_at self.now birth) any_count ≡ None) }
         ensures refused { IfErr result (λ why. due_at (entry_at self.now birth) any_count ≡ Some why) }
     {
-        match self.table.count(birth) {
+        match self.table.place(birth) {
             None => Err(Refusal::Gone),
-            Some(_) => Ok(self.name(birth)),
+            Some(place) => Ok(self.handle(Spot { birth, place })),
         }
     }
 
-    /// The name of the entry of a birth, where its count isn't zero.
-    pub fn counted_entry(&self, birth: u64) -> Result<Name, Refusal>
-        ensures ok { IfOk result (λ n. n ≡ name_in self.now birth) }
+    /// A handle of the entry of a birth, where its count isn't zero.
+    pub fn counted_entry(&self, birth: u64) -> Result<Handle, Refusal>
+        ensures ok { IfOk result (λ h. h.name ≡ name_in self.now birth) }
         ensures allowed { OnOk result (due_at (entry_at self.now birth) zero_count ≡ None) }
         ensures refused { IfErr result (λ why. due_at (entry_at self.now birth) zero_count ≡ Some why) }
     {
-        let name = self.name(birth);
-        self.counted(name)?;
-        Ok(name)
+        let handle = self.entry(birth)?;
+        self.counted(handle)?;
+        Ok(handle)
     }
 
-    // The birth of an entry whose value equals the one offered.
-    fn find<O>(&self, offer: &O) -> Option<u64>
+    // An entry whose value equals the one offered.
+    fn find<O>(&self, offer: &O) -> Option<Spot>
     where
         E: Takes<O>,
-        ensures birth { result ≡ birth_of E.Value.eq self.now (E.value offer.now) }
-        ensures there { IfSome result (λ b. IsSome (entry_at self.now b)) }
+        ensures birth { option_map (λ s. s.birth) result ≡ birth_of E.Value.eq self.now (E.value offer.now) }
+        ensures there { IfSome result (λ s. IsSome (entry_at self.now s.birth)) }
     {
         let _next = self.next;
         self.table.find(offer)
     }
 
     // Adds an entry with a count of its own.
-    fn add<O>(&mut self, offer: O, count: u64) -> Result<u64, Refused<O>>
+    fn add<O>(&mut self, offer: O, count: u64) -> Result<Handle, Refused<O>>
     where
         E: Takes<O>,
         requires fits { count ≤ self.old.top }
         requires fresh { birth_of E.Value.eq self.old (E.value offer) ≡ None }
-        ensures ok { IfOk result (λ b. b ≡ self.old.next) }
+        ensures ok { IfOk result (λ h. h.name ≡ name_in self.old self.old.next) }
         ensures allowed { OnOk result (due_adding self.old ≡ None) }
         ensures refused { IfErr result (λ r. IsWhy (due_adding self.old) true r.why) }
         ensures back { IfErr result (λ r. r.back ≡ offer) }
@@ -159,9 +162,9 @@ impl<E: Entries> Store<E> {
         }
         let birth = self.next;
         match self.table.insert(birth, offer, count) {
-            Ok(()) => {
+            Ok(place) => {
                 self.next = birth + 1;
-                Ok(birth)
+                Ok(self.handle(Spot { birth, place }))
             }
             Err(back) => Err(Refused {
                 why: Refusal::OutOfMemory,
@@ -170,74 +173,71 @@ impl<E: Entries> Store<E> {
         }
     }
 
-    // Raises the count of a birth.
-    fn raise(&mut self, birth: u64) -> Result<(), Refusal>
-        ensures allowed { OnOk result (due_at (entry_at self.old birth) (full self.old.top) ≡ None) }
-        ensures refused { IfErr result (λ why. due_at (entry_at self.old birth) (full self.old.top) ≡ Some why) }
-        ensures state { self.new ≡ (if is_ok result then counted_up self.old birth else self.old) }
+    // Raises the count of an entry.
+    fn raise(&mut self, spot: Spot) -> Result<(), Refusal>
+        ensures allowed { OnOk result (due_at (entry_at self.old spot.birth) (full self.old.top) ≡ None) }
+        ensures refused { IfErr result (λ why. due_at (entry_at self.old spot.birth) (full self.old.top) ≡ Some why) }
+        ensures state { self.new ≡ (if is_ok result then counted_up self.old spot.birth else self.old) }
     {
-        match self.table.count(birth) {
+        match self.table.count(spot) {
             None => Err(Refusal::Gone),
             Some(count) => {
                 if count == self.top {
                     return Err(Refusal::CountFull);
                 }
-                self.table.set_count(birth, count + 1);
+                self.table.set_count(spot, count + 1);
                 Ok(())
             }
         }
     }
 
-    // The count of a name, where it isn't zero.
-    fn counted(&self, name: Name) -> Result<u64, Refusal>
-        ensures ok { IfOk result (λ n. (0 < n) × (count_at self.now name.birth ≡ Some n)) }
-        ensures allowed { OnOk result (due self.now name zero_count ≡ None) }
-        ensures refused { IfErr result (λ why. due self.now name zero_count ≡ Some why) }
+    // The count of the entry of a handle, where it isn't zero.
+    fn counted(&self, handle: Handle) -> Result<u64, Refusal>
+        ensures ok { IfOk result (λ n. (0 < n) × (count_at self.now handle.name.birth ≡ Some n)) }
+        ensures allowed { OnOk result (due self.now handle.name zero_count ≡ None) }
+        ensures refused { IfErr result (λ why. due self.now handle.name zero_count ≡ Some why) }
     {
-        if name.storage != self.number {
+        if handle.name.storage != self.number {
             return Err(Refusal::Foreign);
         }
-        match self.table.count(name.birth) {
+        match self.table.count(handle.spot()) {
             None => Err(Refusal::Gone),
             Some(0) => Err(Refusal::CountZero),
             Some(count) => Ok(count),
         }
     }
 
-    // Lowers the count of a birth by one, from this one.
-    fn lower(&mut self, birth: u64, count: u64)
+    // Lowers the count of an entry by one, from this one.
+    fn lower(&mut self, spot: Spot, count: u64)
         requires positive { 0 < count }
-        requires at { count_at self.old birth ≡ Some count }
-        ensures { self.new ≡ counted_down self.old birth }
+        requires at { count_at self.old spot.birth ≡ Some count }
+        ensures { self.new ≡ counted_down self.old spot.birth }
     {
         let _next = self.next;
-        self.table.set_count(birth, count - 1);
+        self.table.set_count(spot, count - 1);
     }
 
     /// Stores what is offered with no count, or hands it back where an equal value is stored.
-    pub fn intern<O>(&mut self, offer: O) -> Result<(Name, Option<O>), Refused<O>>
+    pub fn intern<O>(&mut self, offer: O) -> Result<(Handle, Option<O>), Refused<O>>
     where
         E: Takes<O>,
-        ensures ok { IfOk result (λ r. (r.0 ≡ name_in self.old (interned E.Value.eq self.old (E.value offer)).0) × (r.1 ≡ offered_back (birth_of E.Value.eq self.old (E.value offer)) offer)) }
+        ensures ok { IfOk result (λ r. (r.0.name ≡ name_in self.old (interned E.Value.eq self.old (E.value offer)).0) × (r.1 ≡ offered_back (birth_of E.Value.eq self.old (E.value offer)) offer)) }
         ensures allowed { OnOk result (due_interning E.Value.eq self.old (E.value offer) any_count ≡ None) }
         ensures refused { IfErr result (λ r. IsWhy (due_interning E.Value.eq self.old (E.value offer) any_count) (is_new E.Value.eq self.old (E.value offer)) r.why) }
         ensures back { IfErr result (λ r. r.back ≡ offer) }
         ensures state { self.new ≡ (if is_ok result then (interned E.Value.eq self.old (E.value offer)).1 else self.old) }
     {
         match self.find(&offer) {
-            Some(birth) => Ok((self.name(birth), Some(offer))),
-            None => {
-                let birth = self.add(offer, 0)?;
-                Ok((self.name(birth), None))
-            }
+            Some(spot) => Ok((self.handle(spot), Some(offer))),
+            None => Ok((self.add(offer, 0)?, None)),
         }
     }
 
     /// Stores what is offered, or hands it back where an equal value is stored. It is counted once more.
-    pub fn intern_counted<O>(&mut self, offer: O) -> Result<(Name, Option<O>), Refused<O>>
+    pub fn intern_counted<O>(&mut self, offer: O) -> Result<(Handle, Option<O>), Refused<O>>
     where
         E: Takes<O>,
-        ensures ok { IfOk result (λ r. (r.0 ≡ name_in self.old (interned E.Value.eq self.old (E.value offer)).0) × (r.1 ≡ offered_back (birth_of E.Value.eq self.old (E.value offer)) offer)) }
+        ensures ok { IfOk result (λ r. (r.0.name ≡ name_in self.old (interned E.Value.eq self.old (E.value offer)).0) × (r.1 ≡ offered_back (birth_of E.Value.eq self.old (E.value offer)) offer)) }
         ensures allowed { OnOk result (due_interning E.Value.eq self.old (E.value offer) (full self.old.top) ≡ None) }
         ensures refused { IfErr result (λ r. IsWhy (due_interning E.Value.eq self.old (E.value offer) (full self.old.top)) (is_new E.Value.eq self.old (E.value offer)) r.why) }
         ensures back { IfErr result (λ r. r.back ≡ offer) }
@@ -245,37 +245,34 @@ impl<E: Entries> Store<E> {
     {
         let _top = self.top;
         match self.find(&offer) {
-            Some(birth) => match self.raise(birth) {
-                Ok(()) => Ok((self.name(birth), Some(offer))),
+            Some(spot) => match self.raise(spot) {
+                Ok(()) => Ok((self.handle(spot), Some(offer))),
                 Err(why) => Err(Refused { why, back: offer }),
             },
-            None => {
-                let birth = self.add(offer, 1)?;
-                Ok((self.name(birth), None))
-            }
+            None => Ok((self.add(offer, 1)?, None)),
         }
     }
 
     /// Counts an entry once more.
-    pub fn count_up(&mut self, name: Name) -> Result<(), Refusal>
-        ensures allowed { OnOk result (due self.old name (full self.old.top) ≡ None) }
-        ensures refused { IfErr result (λ why. due self.old name (full self.old.top) ≡ Some why) }
-        ensures state { self.new ≡ (if is_ok result then counted_up self.old name.birth else self.old) }
+    pub fn count_up(&mut self, handle: Handle) -> Result<(), Refusal>
+        ensures allowed { OnOk result (due self.old handle.name (full self.old.top) ≡ None) }
+        ensures refused { IfErr result (λ why. due self.old handle.name (full self.old.top) ≡ Some why) }
+        ensures state { self.new ≡ (if is_ok result then counted_up self.old handle.name.birth else self.old) }
     {
-        if name.storage != self.number {
+        if handle.name.storage != self.number {
             return Err(Refusal::Foreign);
         }
-        self.raise(name.birth)
+        self.raise(handle.spot())
     }
 
     /// Counts an entry once less. It stays, also at zero.
-    pub fn count_down(&mut self, name: Name) -> Result<(), Refusal>
-        ensures allowed { OnOk result (due self.old name zero_count ≡ None) }
-        ensures refused { IfErr result (λ why. due self.old name zero_count ≡ Some why) }
-        ensures state { self.new ≡ (if is_ok result then counted_down self.old name.birth else self.old) }
+    pub fn count_down(&mut self, handle: Handle) -> Result<(), Refusal>
+        ensures allowed { OnOk result (due self.old handle.name zero_count ≡ None) }
+        ensures refused { IfErr result (λ why. due self.old handle.name zero_count ≡ Some why) }
+        ensures state { self.new ≡ (if is_ok result then counted_down self.old handle.name.birth else self.old) }
     {
-        let count = self.counted(name)?;
-        self.lower(name.birth, count);
+        let count = self.counted(handle)?;
+        self.lower(handle.spot(), count);
         Ok(())
     }
 }
@@ -290,17 +287,17 @@ impl<E: Removes> Store<E> {
     }
 
     /// Gives a count up. The last one takes the entry out and frees its value, unless entries stay.
-    pub fn release(&mut self, name: Name, stays: bool) -> Result<Option<E::Value>, Refusal>
-        ensures value { IfOk result (λ v. v ≡ freed stays self.old name.birth) }
-        ensures allowed { OnOk result (due self.old name zero_count ≡ None) }
-        ensures refused { IfErr result (λ why. due self.old name zero_count ≡ Some why) }
-        ensures state { self.new ≡ (if is_ok result then released stays self.old name.birth else self.old) }
+    pub fn release(&mut self, handle: Handle, stays: bool) -> Result<Option<E::Value>, Refusal>
+        ensures value { IfOk result (λ v. v ≡ freed stays self.old handle.name.birth) }
+        ensures allowed { OnOk result (due self.old handle.name zero_count ≡ None) }
+        ensures refused { IfErr result (λ why. due self.old handle.name zero_count ≡ Some why) }
+        ensures state { self.new ≡ (if is_ok result then released stays self.old handle.name.birth else self.old) }
     {
-        let count = self.counted(name)?;
+        let count = self.counted(handle)?;
         if count == 1 && !stays {
-            return Ok(self.take(name.birth));
+            return Ok(self.take(handle.name.birth));
         }
-        self.lower(name.birth, count);
+        self.lower(handle.spot(), count);
         Ok(None)
     }
 }

@@ -44,6 +44,13 @@ module _ {T : Type 0} where
       go None = refl
       go (Some r) = refl
 
+  pub is_some_seen : (m : FinMap nat_cmp (Row T ℕ)) (k : FinMap nat_cmp (Kept T)) → kept_rows m ≡ k → (b : ℕ) → is_some (get m b) ≡ is_some (get k b)
+  is_some_seen m k view b = go (get m b) ∙ sym (ap is_some (seen m k view b))
+    where
+      go : (o : Option (Row T ℕ)) → is_some o ≡ is_some (option_map kept_row o)
+      go None = refl
+      go (Some r) = refl
+
   -- an entry has a row, and where there is none there is no row
   pub row_of : (m : FinMap nat_cmp (Row T ℕ)) (k : FinMap nat_cmp (Kept T)) → kept_rows m ≡ k → (b : ℕ) (e : Kept T) → get k b ≡ Some e → (r : Row T ℕ) × (get m b ≡ Some r) × (kept_row r ≡ e)
   row_of m k view b e had = go (get m b) refl (sym (seen m k view b) ∙ had)

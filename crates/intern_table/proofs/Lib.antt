@@ -1,4 +1,5 @@
-mod Held
-mod Steps
-mod MapValues
 mod Counted
+mod Held
+mod Listed
+mod MapValues
+mod Steps

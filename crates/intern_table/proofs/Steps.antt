@@ -1,9 +1,12 @@
 -- What ties the three parts, after each change of them.
-use Rattle.std.proofs.Common.{◌≡◌, ◌≢◌, inl, inr, ℕ, Bool, true, false, cond, not, ◌&&◌, ◌||◌, Option, Some, None, IsSome, nat_eq, refl, sym, ap, ◌∙◌, rules}
+use Rattle.std.proofs.Common.{◌≡◌, ◌≢◌, inl, inr, ℕ, Bool, true, false, cond, not, ◌&&◌, ◌||◌, List, Option, Some, None, IsSome, is_some, nat_eq, refl, sym, ap, ◌∙◌, rules}
 use Rattle.std.specs.Option.{option_map}
 use Rattle.std.proofs.lemmas.Bool.{cases_eq, eqb-true, eq-eqb, ne_eqb, and_parts, and_from, or_cases, or_left, or_right}
-use Rattle.intern_table.specs.Tied.{found, kept, IsTied}
-use Rattle.intern_table.specs.Row.{has_hash}
+use Rattle.intern_table.specs.Tied.{place_in, held, found, kept, is_entry, hinted, IsTied}
+use Rattle.std.specs.Ordering.{nat_cmp}
+use Rattle.std.specs.FinMap.{FinMap, get}
+use Rattle.intern_table.specs.Row.{Row, has_hash}
+use Rattle.intern_table.proofs.Held.{at_birth}
 use Rattle.intern_table.specs.declared.index.Entry.{Entry}
 
 here : {X : Type 0} (q b : ℕ) (x y : X) → q ≡ b → cond (nat_eq q b) x y ≡ x
@@ -81,6 +84,27 @@ module _ {T N : Type 0} (place : ℕ → Option ℕ) (slot : ℕ → Option (Ent
   -- a place has an entry
   pub present : (b p : ℕ) → place b ≡ Some p → IsSome (slot p)
   present b p at = some_of (slot p) b (tied.placed b p at)
+
+  -- a hint that is right is the place of the birth
+  pub hinted_is : (b hint : ℕ) → hinted slot place b hint ≡ place b
+  hinted_is b hint = go (slot hint) refl
+    where
+      right : (e : Entry T N) → slot hint ≡ Some e → (t : Bool) → nat_eq e.birth b ≡ t → cond t (Some hint) (place b) ≡ place b
+      right e has true t = sym (ap place (sym (eqb-true e.birth b t)) ∙ tied.slotted hint e has)
+      right e has false t = refl
+
+      go : (o : Option (Entry T N)) → slot hint ≡ o → cond (is_entry o b) (Some hint) (place b) ≡ place b
+      go None has = refl
+      go (Some e) has = right e has (nat_eq e.birth b) refl
+
+  -- a birth has an entry where it has a place
+  pub is_some-place : (es : List (ℕ × ℕ)) (m : FinMap nat_cmp (Row T N)) → held slot es ≡ m → ((b : ℕ) → place_in es b ≡ place b) → (b : ℕ) (o : Option ℕ) → place b ≡ o → is_some o ≡ is_some (get m b)
+  is_some-place es m view same b None at = sym (ap is_some (at_birth slot es m view b None (same b ∙ at) None refl))
+  is_some-place es m view same b (Some p) at = sym (ap is_some (at_birth slot es m view b (Some p) (same b ∙ at) (slot p) refl) ∙ still (slot p) (present b p at))
+    where
+      still : (o : Option (Entry T N)) → IsSome o → is_some (option_map kept o) ≡ true
+      still None some = some
+      still (Some e) some = refl
 
   -- a birth under which nothing is found has no place
   pub unplaced : (q : ℕ) → option_map kept (found slot (place q)) ≡ None → place q ≡ None

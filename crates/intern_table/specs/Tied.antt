@@ -1,5 +1,5 @@
 -- How the slots, the births of each hash and the places make one map.
-use Rattle.std.specs.Prelude.{◌≡◌, ℕ, Bool, true, List, [], ◌∷◌, Option, Some, None, nat_eq}
+use Rattle.std.specs.Prelude.{◌≡◌, ℕ, Bool, true, false, if◌then◌else◌, List, [], ◌∷◌, Option, Some, None, nat_eq}
 use Rattle.std.specs.Option.{option_map}
 use Rattle.std.specs.Map.{lookup}
 use Rattle.std.specs.Ordering.{nat_cmp}
@@ -29,6 +29,15 @@ module _ {T N : Type 0} where
   abbrev pub found : (ℕ → Option (Entry T N)) → Option ℕ → Option (Entry T N)
   found slot None = None
   found slot (Some p) = slot p
+
+  -- whether an entry has this birth
+  abbrev pub is_entry : Option (Entry T N) → ℕ → Bool
+  is_entry None b = false
+  is_entry (Some e) b = nat_eq e.birth b
+
+  -- the place of a birth, by a hint where it is right
+  abbrev pub hinted : (ℕ → Option (Entry T N)) → (ℕ → Option ℕ) → ℕ → ℕ → Option ℕ
+  hinted slot place b hint = if is_entry (slot hint) b then Some hint else place b
 
   pub record IsTied (place : ℕ → Option ℕ) (slot : ℕ → Option (Entry T N)) (is_listed : ℕ → ℕ → Bool) : Type 0 where
     -- the place of a birth has the entry of that birth

@@ -1,13 +1,16 @@
 //! Values with notes, each under a birth and a hash.
-ghost use Rattle.std.specs.Prelude.{◌≡◌, ℕ, option_copied, IsSome, Some, None, OnOk, OnErr, IfErr, nat_eq};
+ghost use Rattle.std.specs.Prelude.{◌≡◌, ℕ, option_copied, IsSome, is_some, Some, None, OnOk, OnErr, IfErr};
 ghost use Rattle.std.specs.Option.{option_map};
 ghost use Rattle.std.specs.FinMap as map;
 ghost use Rattle.std.specs.Ordering.{nat_cmp};
-ghost use Rattle.std.specs.List.{list_any};
+ghost use Rattle.slab.specs.Slab.{get};
+ghost use Rattle.intern_table.specs.Buckets.{has_birth};
+ghost use Rattle.intern_table.specs.Tied.{hinted, place_in};
 ghost use Rattle.intern_table.specs.Row.{Row, has_hash};
 
 use crate::buckets::{Buckets, enlist, unlist};
 use crate::offer::Offer;
+use intern_store::Spot;
 use slab::Slab;
 use std::alloc::Global;
 use std::collections::HashMap;
@@ -24,7 +27,8 @@ pub(crate) struct Entry<T, N: Copy> {
 
 /// Entries in a slab, found by their births, and listed by hashes that the caller gives.
 ///
-/// A look-up asks one map and the slab. Only an insertion takes memory.
+/// A look-up reads the slab alone where its hint is right, and else asks one map first. Only an
+/// insertion takes memory.
 #[derive(Drop)]
 pub(crate) struct Index<T, N: Copy> {
     alloc: Global,
@@ -52,6 +56,20 @@ impl<T, N: Copy> Model for Index<T, N> {
     ghost invariant = { λ a. IsTied (place_in a.places.entries) (get a.slots) (is_listed a.births) };
 }
 
+/// The place of an entry: the hint where it is right, and else what the map says.
+fn place_of<T, N: Copy>(
+    slots: &Slab<Entry<T, N>>,
+    places: &HashMap<u64, usize>,
+    spot: Spot,
+) -> Option<usize>
+    ensures { result ≡ hinted (get slots.now) (place_in places.now.entries) spot.birth spot.place }
+{
+    match slots.get(spot.place) {
+        Some(entry) if entry.birth == spot.birth => Some(spot.place),
+        _ => places.get(&spot.birth).copied(),
+    }
+}
+
 impl<T, N: Copy> Index<T, N> {
     pub(crate) fn new(alloc: Global) -> Index<T, N>
         ensures { result ≡ map.empty }
@@ -70,12 +88,22 @@ impl<T, N: Copy> Index<T, N> {
         self.places.len()
     }
 
-    /// The value of a birth.
-    pub(crate) fn get(&self, birth: u64) -> Option<&T>
-        ensures { option_copied result ≡ option_map (λ r. r.value) (map.get self.now birth) }
+    /// The place of the entry of a birth.
+    pub(crate) fn place(&self, birth: u64) -> Option<usize>
+        ensures { is_some result ≡ is_some (map.get self.now birth) }
     {
         match self.places.get(&birth) {
-            Some(place) => match self.slots.get(*place) {
+            Some(place) => Some(*place),
+            None => None,
+        }
+    }
+
+    /// The value of an entry.
+    pub(crate) fn get(&self, spot: Spot) -> Option<&T>
+        ensures { option_copied result ≡ option_map (λ r. r.value) (map.get self.now spot.birth) }
+    {
+        match place_of(&self.slots, &self.places, spot) {
+            Some(place) => match self.slots.get(place) {
                 Some(entry) => Some(&entry.value),
                 None => None,
             },
@@ -83,12 +111,12 @@ impl<T, N: Copy> Index<T, N> {
         }
     }
 
-    /// The note of a birth.
-    pub(crate) fn note(&self, birth: u64) -> Option<N>
-        ensures { result ≡ option_map (λ r. r.note) (map.get self.now birth) }
+    /// The note of an entry.
+    pub(crate) fn note(&self, spot: Spot) -> Option<N>
+        ensures { result ≡ option_map (λ r. r.note) (map.get self.now spot.birth) }
     {
-        match self.places.get(&birth) {
-            Some(place) => match self.slots.get(*place) {
+        match place_of(&self.slots, &self.places, spot) {
+            Some(place) => match self.slots.get(place) {
                 Some(entry) => Some(entry.note),
                 None => None,
             },
@@ -96,19 +124,19 @@ impl<T, N: Copy> Index<T, N> {
         }
     }
 
-    /// Sets the note of a birth that has an entry.
-    pub(crate) fn set_note(&mut self, birth: u64, note: N)
-        requires { IsSome (map.get self.old birth) }
-        ensures { (r : Row T N) → map.get self.old birth ≡ Some r → self.new ≡ map.insert self.old birth (record r { note = note }) }
+    /// Sets the note of an entry that is there.
+    pub(crate) fn set_note(&mut self, spot: Spot, note: N)
+        requires { IsSome (map.get self.old spot.birth) }
+        ensures { (r : Row T N) → map.get self.old spot.birth ≡ Some r → self.new ≡ map.insert self.old spot.birth (record r { note = note }) }
     {
-        let place = self.places[&birth];
+        let place = place_of(&self.slots, &self.places, spot).unwrap();
         let entry = &mut self.slots[place];
         entry.note = note;
     }
 
     /// The births whose values have a hash.
-    pub(crate) fn listed(&self, hash: u64) -> &[u64]
-        ensures { (b : ℕ) → list_any (nat_eq b) result.now ≡ has_hash hash (map.get self.now b) }
+    pub(crate) fn listed(&self, hash: u64) -> &[Spot]
+        ensures { (b : ℕ) → has_birth result.now b ≡ has_hash hash (map.get self.now b) }
     {
         match self.births.get(&hash) {
             Some(births) => births.as_slice(),
@@ -138,7 +166,8 @@ impl<T, N: Copy> Index<T, N> {
 }
 
 impl<T: Hash, N: Copy> Index<T, N> {
-    /// Adds an entry under a new birth, or hands the offer back where there is no memory.
+    /// Adds an entry under a new birth, and tells its place. Where there is no memory the offer
+    /// comes back.
     ///
     /// The room is reserved first and the value is made last. Where a step between is refused,
     /// those before it are undone, which takes no memory.
@@ -148,7 +177,7 @@ impl<T: Hash, N: Copy> Index<T, N> {
         hash: u64,
         offer: O,
         note: N,
-    ) -> Result<(), O>
+    ) -> Result<usize, O>
         requires { map.get self.old birth ≡ None }
         ensures ok { OnOk result (self.new ≡ map.insert self.old birth (record { hash = hash; value = O.value offer; note = note })) }
         ensures err { OnErr result (self.new ≡ self.old) }
@@ -161,7 +190,7 @@ impl<T: Hash, N: Copy> Index<T, N> {
         let Ok(_) = self.places.insert(birth, place) else {
             return Err(offer);
         };
-        let Ok(()) = enlist(self.alloc, &mut self.births, hash, birth) else {
+        let Ok(()) = enlist(self.alloc, &mut self.births, hash, Spot { birth, place }) else {
             self.places.remove(&birth);
             return Err(offer);
         };
@@ -173,7 +202,7 @@ impl<T: Hash, N: Copy> Index<T, N> {
                     value,
                     note,
                 });
-                Ok(())
+                Ok(place)
             }
             Err(back) => {
                 unlist(&mut self.births, hash, birth);

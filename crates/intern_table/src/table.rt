@@ -1,13 +1,13 @@
 //! Values with counts, each stored once under a birth.
-ghost use Rattle.std.specs.Prelude.{◌≡◌, ℕ, option_copied, IsSome, Some, None, OnOk, OnErr, IfErr, IfSome, IfNone, nat_eq, true, false};
+ghost use Rattle.std.specs.Prelude.{◌≡◌, ℕ, option_copied, IsSome, Some, None, OnOk, OnErr, IfErr, IfSome, IfNone, is_some, true, false};
 ghost use Rattle.std.specs.Option.{option_map};
 ghost use Rattle.std.specs.FinMap as map;
-ghost use Rattle.std.specs.List.{list_any};
+ghost use Rattle.intern_table.specs.Buckets.{has_birth};
 ghost use Rattle.intern_store.specs.Kept.{Kept, is_at};
 
 use crate::index::Index;
 use crate::offer::Offer;
-use intern_store::{Entries, Removes, Takes};
+use intern_store::{Entries, Removes, Spot, Takes};
 use std::alloc::Global;
 use std::cmp::Eq;
 use std::hash::{BuildHasherDefault, FoldHasher, Hash};
@@ -41,22 +41,22 @@ impl<T: Hash + Eq> Model for Table<T> {
 }
 
 impl<T: Hash + Eq> Table<T> {
-    /// The value of a birth.
-    pub fn get(&self, birth: u64) -> Option<&T>
-        ensures { option_copied result ≡ option_map (λ k. k.value) (map.get self.now birth) }
+    /// The value of an entry.
+    pub fn get(&self, spot: Spot) -> Option<&T>
+        ensures { option_copied result ≡ option_map (λ k. k.value) (map.get self.now spot.birth) }
     {
-        self.index.get(birth)
+        self.index.get(spot)
     }
 
-    // The first of these births whose value equals the one offered.
-    fn first_equal<O: Offer<T>>(&self, births: &[u64], offer: &O) -> Option<u64>
-        ensures found { IfSome result (λ b. is_at T.eq (O.value offer.now) (map.get self.now b) ≡ true) }
-        ensures none { IfNone result ((b : ℕ) → list_any (nat_eq b) births.now ≡ true → is_at T.eq (O.value offer.now) (map.get self.now b) ≡ false) }
+    // The first of these spots whose value equals the one offered.
+    fn first_equal<O: Offer<T>>(&self, spots: &[Spot], offer: &O) -> Option<Spot>
+        ensures found { IfSome result (λ s. is_at T.eq (O.value offer.now) (map.get self.now s.birth) ≡ true) }
+        ensures none { IfNone result ((b : ℕ) → has_birth spots.now b ≡ true → is_at T.eq (O.value offer.now) (map.get self.now b) ≡ false) }
     {
-        for birth in births {
-            if let Some(stored) = self.get(*birth) {
+        for spot in spots {
+            if let Some(stored) = self.get(*spot) {
                 if offer.equals(stored) {
-                    return Some(*birth);
+                    return Some(*spot);
                 }
             }
         }
@@ -80,12 +80,16 @@ impl<T: Hash + Eq> Entries for Table<T> {
         self.index.len()
     }
 
-    fn count(&self, birth: u64) -> Option<u64> {
-        self.index.note(birth)
+    fn place(&self, birth: u64) -> Option<usize> {
+        self.index.place(birth)
     }
 
-    fn set_count(&mut self, birth: u64, count: u64) {
-        self.index.set_note(birth, count)
+    fn count(&self, spot: Spot) -> Option<u64> {
+        self.index.note(spot)
+    }
+
+    fn set_count(&mut self, spot: Spot, count: u64) {
+        self.index.set_note(spot, count)
     }
 }
 
@@ -98,12 +102,12 @@ impl<T: Hash + Eq> Removes for Table<T> {
 impl<T: Hash + Eq, O: Offer<T>> Takes<O> for Table<T> {
     ghost value = { O.value };
 
-    fn find(&self, offer: &O) -> Option<u64> {
+    fn find(&self, offer: &O) -> Option<Spot> {
         let hash = offer.hash_in(&self.hasher);
         self.first_equal(self.index.listed(hash), offer)
     }
 
-    fn insert(&mut self, birth: u64, offer: O, count: u64) -> Result<(), O> {
+    fn insert(&mut self, birth: u64, offer: O, count: u64) -> Result<usize, O> {
         let hash = offer.hash_in(&self.hasher);
         self.index.insert(birth, hash, offer, count)
     }

@@ -10,7 +10,7 @@ ghost use Rattle.std.specs.FinMap as map;
 ghost use Rattle.intern_store.specs.State.{IsState, new_state, name_in, entry_at, reads, counts, counted_up, counted_down, birth_of, is_new, interned, offered_back, due, due_at, due_interning, full, zero_count, any_count, IsWhy, freed, released};
 ghost use Rattle.ra_ap_intern.specs.Handle.{name_of, ref_name};
 
-use intern_store::{Limits, Name, Refusal, Refused, Store};
+use intern_store::{Handle, Limits, Name, Refusal, Refused, Store};
 use intern_table::Table;
 use std::alloc::Global;
 use std::hash::Hash;
@@ -28,8 +28,9 @@ pub trait Internable: Hash + Eq {
 /// A storage of values, each kept once.
 ///
 /// Only interning a value that isn't stored takes memory. Interning takes the time of one hash,
-/// and of a comparison with each stored value of that hash; every other call takes that of one or
-/// two look-ups.
+/// one look-up, and a comparison with each stored value of that hash. Reads and counts go straight
+/// to the entry by the handle's hint; `from_raw` and the release that frees a value take a few
+/// look-ups more.
 #[derive(Drop)]
 pub struct InternStorage<T: Internable> {
     store: Store<Table<T>>,
@@ -48,11 +49,12 @@ impl<T: Internable> Model for InternStorage<T> {
 /// An owned handle, which counts one.
 ///
 /// Handles are compared and hashed by their names alone, so two of one storage are equal exactly
-/// if the values that they read are.
+/// if the values that they read are. Beside the name a handle holds a hint where its entry lies:
+/// 24 bytes in all.
 #[derive(Drop)]
 #[derive_where(PartialEq, Eq, Hash)]
 pub struct Interned<T> {
-    name: Name,
+    handle: Handle,
     #[derive_where(skip)]
     marker: PhantomData<*const T>,
 }
@@ -60,25 +62,25 @@ pub struct Interned<T> {
 /// A reference, which counts nothing. It is compared and hashed by its name alone.
 #[derive_where(Clone, Copy, PartialEq, Eq, Hash)]
 pub struct InternedRef<T> {
-    name: Name,
+    handle: Handle,
     #[derive_where(skip)]
     marker: PhantomData<*const T>,
 }
 
-fn owned<T>(name: Name) -> Interned<T>
-    ensures { name_of result ≡ name }
+fn owned<T>(handle: Handle) -> Interned<T>
+    ensures { name_of result ≡ handle.name }
 {
     Interned {
-        name,
+        handle,
         marker: PhantomData,
     }
 }
 
-fn reference<T>(name: Name) -> InternedRef<T>
-    ensures { ref_name result ≡ name }
+fn reference<T>(handle: Handle) -> InternedRef<T>
+    ensures { ref_name result ≡ handle.name }
 {
     InternedRef {
-        name,
+        handle,
         marker: PhantomData,
     }
 }
@@ -125,7 +127,7 @@ impl<T: Internable> InternStorage<T> {
     pub fn count(&self, reference: InternedRef<T>) -> Option<u64>
         ensures { result ≡ counts self.now (ref_name reference) }
     {
-        self.store.count(reference.name)
+        self.store.count(reference.handle)
     }
 }
 
@@ -147,8 +149,8 @@ impl<T: Internable> Interned<T> {
         ensures back { IfErr result (λ r. r.back ≡ obj) }
         ensures state { let i = interned T.eq storage.old obj in storage.new ≡ (if is_ok result then counted_up i.1 i.0 else storage.old) }
     {
-        let (name, back) = storage.store.intern_counted(obj)?;
-        Ok((owned(name), back))
+        let (handle, back) = storage.store.intern_counted(obj)?;
+        Ok((owned(handle), back))
     }
 
     /// Collected mode: a reference to the value, which counts nothing.
@@ -167,8 +169,8 @@ impl<T: Internable> Interned<T> {
         ensures back { IfErr result (λ r. r.back ≡ obj) }
         ensures state { storage.new ≡ (if is_ok result then (interned T.eq storage.old obj).1 else storage.old) }
     {
-        let (name, back) = storage.store.intern(obj)?;
-        Ok((reference(name), back))
+        let (handle, back) = storage.store.intern(obj)?;
+        Ok((reference(handle), back))
     }
 
     /// An owned handle of the entry of a birth, which takes over one count that a handle left
@@ -209,7 +211,7 @@ impl<T: Internable> Interned<T> {
         ensures back { IfErr result (λ r. r.back ≡ self) }
         ensures state { storage.new ≡ (if is_ok result then released T.Internable.USE_GC storage.old (name_of self).birth else storage.old) }
     {
-        match storage.store.release(self.name, T::USE_GC) {
+        match storage.store.release(self.handle, T::USE_GC) {
             Ok(value) => Ok(value),
             Err(why) => Err(Refused { why, back: self }),
         }
@@ -221,7 +223,7 @@ impl<T> Interned<T> {
     pub fn as_ref(&self) -> InternedRef<T>
         ensures { ref_name result ≡ name_of self.now }
     {
-        reference(self.name)
+        reference(self.handle)
     }
 }
 
@@ -240,9 +242,9 @@ impl<T: Internable> InternedRef<T> {
     pub fn get<'a>(self, storage: &'a InternStorage<T>) -> Option<&'a T>
         ensures { option_copied result ≡ reads storage.now (ref_name self) }
     {
-        match storage.store.own(self.name) {
+        match storage.store.own(self.handle) {
             None => None,
-            Some(table) => table.get(self.name.birth),
+            Some(table) => table.get(self.handle.spot()),
         }
     }
 
@@ -254,8 +256,8 @@ impl<T: Internable> InternedRef<T> {
         ensures refused { IfErr result (λ why. due storage.old (ref_name self) (full storage.old.top) ≡ Some why) }
         ensures state { storage.new ≡ (if is_ok result then counted_up storage.old (ref_name self).birth else storage.old) }
     {
-        storage.store.count_up(self.name)?;
-        Ok(owned(self.name))
+        storage.store.count_up(self.handle)?;
+        Ok(owned(self.handle))
     }
 
     /// Takes one count back that a handle left behind. The entry stays, also at zero and in counted
@@ -265,7 +267,7 @@ impl<T: Internable> InternedRef<T> {
         ensures refused { IfErr result (λ why. due storage.old (ref_name self) zero_count ≡ Some why) }
         ensures state { storage.new ≡ (if is_ok result then counted_down storage.old (ref_name self).birth else storage.old) }
     {
-        storage.store.count_down(self.name)
+        storage.store.count_down(self.handle)
     }
 }
 
@@ -274,13 +276,13 @@ impl<T> InternedRef<T> {
     pub fn as_raw(self) -> u64
         ensures { result ≡ (ref_name self).birth }
     {
-        self.name.birth
+        self.handle.name.birth
     }
 
     /// The entry's name: the storage's number and the birth.
     pub fn name(self) -> Name
         ensures { result ≡ ref_name self }
     {
-        self.name
+        self.handle.name
     }
 }

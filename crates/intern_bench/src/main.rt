@@ -1,0 +1,36 @@
+//! Measures the library: the time of its calls, and the memory of its entries.
+#![tactic(auto)]
+
+mod arguments;
+mod measure;
+mod numbers;
+mod report;
+mod values;
+
+use anyhow::Result;
+use arguments::{Group, Job, Request, USAGE};
+use std::env;
+use std::process::ExitCode;
+use std::rt::{Clock, Files};
+
+// The exit status of a call with wrong arguments.
+const WRONG_ARGUMENTS: u8 = 2;
+
+fn run(rt: &(impl Files + Clock + Print + AllocGlobal), job: &Job<'_>) -> Result<()> {
+    match job.group {
+        Group::Values => values::measure(rt, job),
+    }
+}
+
+fn main(rt: HostRuntime) -> Result<ExitCode> {
+    let words = env::args(&rt)?.skip(1).collect::<Vec<String>>(rt.alloc())?;
+    match Request::parse(words.as_slice()) {
+        Ok(Request::Usage) => println!(rt; "{USAGE}")?,
+        Ok(Request::Measure(job)) => run(&rt, &job)?,
+        Err(error) => {
+            eprintln!(rt; "intern_bench: {error}; {USAGE}")?;
+            return Ok(ExitCode::from(WRONG_ARGUMENTS));
+        }
+    }
+    Ok(ExitCode::SUCCESS)
+}
