@@ -15,3 +15,5 @@ mod kinds;
 mod large;
 #[cfg(test)]
 mod ported;
+#[cfg(test)]
+mod readme;

@@ -208,6 +208,32 @@ fn fails_at_each_write_in_turn(rt: HostRuntime) -> Result<(), Fail> {
 }
 
 #[test]
+fn the_first_write_fails(rt: HostRuntime) -> Result<(), Fail> {
+    let text =
+        b"new abc\nnew abc\nnew def\nsame 0 1\nsame 0 2\nrelease 2\nrelease 0\nread 1\nlen\n";
+    let mut input = make_steady_source(text);
+    let mut output = make_sink(rt.alloc(), WRITE_STEP, Some(0), Some(ErrorKind::Other));
+    assert_eq!(rt;
+        serve(rt.alloc(), &mut input, &mut output),
+        Err(Fault::Output)
+    );
+    assert_eq!(rt; output.into_inner().taken.len(), 0);
+    Ok(())
+}
+
+#[test]
+fn each_fault_has_its_line(rt: HostRuntime) {
+    for (fault, line) in [
+        (Fault::Input, "intern_run: input failed"),
+        (Fault::NotText, "intern_run: input is not UTF-8"),
+        (Fault::OutOfMemory, "intern_run: out of memory"),
+        (Fault::Output, "intern_run: output failed"),
+    ] {
+        assert_eq!(rt; fault.line(), line);
+    }
+}
+
+#[test]
 fn a_byte_that_is_no_text(rt: HostRuntime) -> Result<(), Fail> {
     let mut input = make_steady_source(b"\xff");
     let mut output = make_steady_sink(rt.alloc());

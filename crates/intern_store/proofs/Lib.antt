@@ -1,3 +1,3 @@
-mod Compared
+pub mod Compared
 mod States
 mod Births

@@ -1,19 +1,16 @@
 -- What the map of the births has at each birth.
-use Rattle.std.proofs.Common.{◌≡◌, inl, inr, suc, add-one, ℕ, Bool, true, false, cond, List, [], ◌∷◌, Option, Some, None, IsSome, is_some, nat_eq, length, ◌+◌, refl, sym, ap, ◌∙◌, arith}
+use Rattle.std.proofs.Common.{◌≡◌, inl, inr, suc, add-one, ℕ, Bool, true, false, cond, List, [], ◌∷◌, Option, Some, None, IsSome, is_some, nat_eq, length, ◌+◌, refl, sym, ap, ◌∙◌}
 use Rattle.std.specs.Option.{option_map}
-use Rattle.std.specs.Ordering.{nat_cmp, eq_by_cmp}
+use Rattle.std.specs.Ordering.{nat_cmp}
 use Rattle.std.specs.Cmp.{nat_cmp_total}
 use Rattle.std.specs.FinMap.{FinMap, empty, get, get-empty, get-insert, get-remove, retain_keys, get-retain_keys, len, len-empty, len-insert, same_map, nat_cmp-IsAntisymmetric}
 use Rattle.std.proofs.lemmas.Bool.{eq-eqb, ne_eqb, cases_eq}
-use Rattle.std.proofs.lemmas.Grind.{common_steps}
 use Rattle.std.specs.List.{IsDistinct, AllByRecursion}
 use Rattle.std.specs.Map.{lookup, keys_of}
+use Rattle.intern_store.proofs.Compared.{tied}
 use Rattle.intern_table.specs.Row.{Row}
 use Rattle.intern_table.specs.Tied.{kept, put, held, place_in, found}
 use Rattle.intern_table.specs.declared.index.Entry.{Entry}
-
-pub tied : (q k : ℕ) → eq_by_cmp nat_cmp q k ≡ nat_eq q k
-tied q k = grind (arith, common_steps)
 
 -- a key that no entry has is not found
 pub missing : {X : Type 0} (k : ℕ) (es : List (ℕ × X)) → AllByRecursion (λ y. nat_eq k y ≡ false) (keys_of es) → lookup (nat_eq k) es ≡ None

@@ -5,7 +5,7 @@ ghost use Rattle.std.specs.FinMap as map;
 ghost use Rattle.std.specs.Ordering.{nat_cmp};
 ghost use Rattle.slab.specs.Slab.{get};
 ghost use Rattle.intern_table.specs.Buckets.{has_birth};
-ghost use Rattle.intern_table.specs.Tied.{hinted, place_in};
+ghost use Rattle.intern_table.specs.Tied.{hinted, kept, place_in};
 ghost use Rattle.intern_table.specs.Row.{Row, has_hash};
 
 use crate::buckets::{Buckets, enlist, unlist};
@@ -98,15 +98,21 @@ impl<T, N: Copy> Index<T, N> {
         }
     }
 
+    fn entry(&self, spot: Spot) -> Option<&Entry<T, N>>
+        ensures { option_map kept (option_copied result) ≡ map.get self.now spot.birth }
+    {
+        match place_of(&self.slots, &self.places, spot) {
+            Some(place) => self.slots.get(place),
+            None => None,
+        }
+    }
+
     /// The value of an entry.
     pub(crate) fn get(&self, spot: Spot) -> Option<&T>
         ensures { option_copied result ≡ option_map (λ r. r.value) (map.get self.now spot.birth) }
     {
-        match place_of(&self.slots, &self.places, spot) {
-            Some(place) => match self.slots.get(place) {
-                Some(entry) => Some(&entry.value),
-                None => None,
-            },
+        match self.entry(spot) {
+            Some(entry) => Some(&entry.value),
             None => None,
         }
     }
@@ -115,11 +121,8 @@ impl<T, N: Copy> Index<T, N> {
     pub(crate) fn note(&self, spot: Spot) -> Option<N>
         ensures { result ≡ option_map (λ r. r.note) (map.get self.now spot.birth) }
     {
-        match place_of(&self.slots, &self.places, spot) {
-            Some(place) => match self.slots.get(place) {
-                Some(entry) => Some(entry.note),
-                None => None,
-            },
+        match self.entry(spot) {
+            Some(entry) => Some(entry.note),
             None => None,
         }
     }

@@ -1,0 +1,46 @@
+//! The example of the README.
+ghost use Rattle.std.specs.Prelude.{false};
+
+use ra_ap_intern::{InternStorage, Internable, Interned};
+use std::alloc::{AllocError, Global};
+use std::test::Fail;
+
+/// A text that is stored once.
+#[derive(Debug, Drop, PartialEq, Eq, Hash)]
+struct Word(String);
+
+// Counted mode: an entry goes with its last owner.
+impl Internable for Word {
+    const USE_GC: bool = false;
+
+    ghost USE_GC = { false };
+}
+
+fn make_word(alloc: Global, text: &str) -> Result<Word, AllocError> {
+    Ok(Word(String::from_str(alloc, text)?))
+}
+
+#[test]
+fn one_copy_of_each_word(rt: HostRuntime) -> Result<(), Fail> {
+    let alloc = rt.alloc();
+    let mut words = InternStorage::new(alloc, 1);
+    let (hello, back) = Interned::new(&mut words, make_word(alloc, "hello")?)?;
+    assert_eq!(rt; back, None);
+
+    // An equal word is stored already: it comes back, and the handles are equal.
+    let (again, back) = Interned::new(&mut words, make_word(alloc, "hello")?)?;
+    assert_eq!(rt; back, Some(make_word(alloc, "hello")?));
+    assert!(rt; hello == again);
+    assert_eq!(rt; words.len(), 1);
+    assert_eq!(rt; words.count(hello.as_ref()), Some(2));
+
+    // The last release frees the word and gives it back. A reference to it reads nothing then.
+    let reference = hello.as_ref();
+    assert_eq!(rt; hello.release(&mut words).map_err(|r| r.why)?, None);
+    assert_eq!(rt;
+        again.release(&mut words).map_err(|r| r.why)?,
+        Some(make_word(alloc, "hello")?)
+    );
+    assert!(rt; reference.get(&words).is_none());
+    Ok(())
+}
