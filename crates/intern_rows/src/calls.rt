@@ -14,7 +14,7 @@ fn storages(rt: HostRuntime) -> Result<(), Fail> {
     assert_eq!(rt; storage.len(), 1);
     assert_eq!(rt; storage.count(x.as_ref()), Some(1));
 
-    let mut limited = InternStorage::with_limits(alloc, 8, Limits::NONE);
+    let mut limited = InternStorage::with_limits(alloc, 8, Limits { top: 1, numbers: 1 });
     assert_eq!(rt; (limited.number(), limited.len()), (8, 0));
     let (y, back) = Interned::new_gc(&mut limited, make_term(alloc, "y")?)?;
     assert_eq!(rt; back, None);
@@ -112,6 +112,8 @@ fn refusals(rt: HostRuntime) -> Result<(), Fail> {
 #[test]
 fn laws_are_callable() {
     laws::names_tell_values::<Word>();
+    laws::a_birth_is_given_once::<Word>();
+    laws::what_is_stored_is_found::<Word>();
     laws::owned_handles_are_names::<Word>();
     laws::references_are_names::<Word>();
 }

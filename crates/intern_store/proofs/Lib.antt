@@ -1,3 +1,4 @@
 pub mod Compared
+pub mod Later
 mod States
 mod Births

@@ -64,6 +64,11 @@ module _ {V : Type 0} where
   abbrev pub entry_at : State V → ℕ → Option (Kept V)
   entry_at s b = map.get s.map b
 
+  -- the birth was given, and has no entry
+  pub record IsGone (s : State V) (b : ℕ) : Type 0 where
+    pub given : b < s.next
+    pub none : entry_at s b ≡ None
+
   -- the value that a name reads
   abbrev pub reads : State V → Name → Option V
   reads s n = if n.storage == s.number then option_map (λ k. k.value) (entry_at s n.birth) else None

@@ -13,14 +13,6 @@ pub struct Limits {
     pub numbers: u64,
 }
 
-impl Limits {
-    /// The limits of a storage that is made without any: the largest numbers.
-    pub const NONE: Limits = Limits {
-        top: u64::MAX,
-        numbers: u64::MAX,
-    };
-}
-
 /// What a handle names: an entry, by the number of its storage and by its birth.
 ///
 /// The births of a storage begin at 0, rise by one, and are never given twice.

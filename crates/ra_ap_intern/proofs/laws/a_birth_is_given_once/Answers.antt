@@ -1,0 +1,14 @@
+use Rattle.intern_store.proofs.Later.{interned_gone, counted_up_gone, counted_down_gone, released_gone}
+use Rattle.ra_ap_intern.proofs.laws.a_birth_is_given_once.Goals as goal
+
+pub returns-clause-interned : goal.returns-clause-interned
+returns-clause-interned g c = interned_gone g.T.PartialEq.eq
+
+pub returns-clause-counted_up : goal.returns-clause-counted_up
+returns-clause-counted_up g c = counted_up_gone
+
+pub returns-clause-counted_down : goal.returns-clause-counted_down
+returns-clause-counted_down g c = counted_down_gone
+
+pub returns-clause-released : goal.returns-clause-released
+returns-clause-released g c = λ s stays. released_gone stays s
