@@ -1,0 +1,4 @@
+pub mod Rising
+pub mod Parsed
+pub mod Computed
+pub mod Standing

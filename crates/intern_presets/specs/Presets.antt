@@ -1,0 +1,20 @@
+-- The presets, and the places at which they stand.
+use Rattle.std.specs.Prelude.{ℕ, ◌-◌, List, ◌++◌, codes, decimal, Option, Some, slice_get, nat_lt, if◌then◌else◌}
+use Rattle.std.specs.Ordering.{nat_cmp}
+use Rattle.std.specs.Cmp.Lexicographic.{slice_cmp}
+use Rattle.std.specs.List.Sorted.{IsStrictlySortedBy}
+use Rattle.intern_presets.specs.Table.{table}
+
+-- each text stands before those after it, in the order of bytes
+abbrev pub Rises : List (List ℕ) → Type 0
+Rises = IsStrictlySortedBy (slice_cmp nat_cmp)
+
+-- the generated name of a number
+abbrev pub generated_text : ℕ → List ℕ
+generated_text n = codes "<ra@gennew>" ++ decimal n
+
+-- the text at a place: 256 integers, 256 generated names, and then the table
+unfoldable pub preset_text : ℕ → Option (List ℕ)
+preset_text place =
+    if nat_lt place 256 then Some (decimal place)
+    else (if nat_lt place 512 then Some (generated_text (place - 256)) else slice_get table (place - 512))

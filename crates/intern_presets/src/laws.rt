@@ -1,0 +1,27 @@
+//! What holds of all presets. These functions do nothing, and their contracts are the laws.
+ghost use Rattle.std.specs.Prelude.{◌≡◌, ◌<◌, ◌≤◌, ◌^◌, ℕ, List, ◌↔◌, Some, None, IsSome, decimal};
+ghost use Rattle.std.specs.Option.{ForSome};
+ghost use Rattle.intern_presets.specs.Numbers.{number_value};
+ghost use Rattle.intern_presets.specs.Table.{table};
+ghost use Rattle.intern_presets.specs.Presets.{Rises, preset_text};
+
+/// The texts of the constants rise in the order of their bytes.
+pub fn texts_rise()
+    ensures { Rises table }
+{}
+
+/// The places are those below 1047.
+pub fn places_end()
+    ensures { (p : ℕ) → IsSome (preset_text p) ↔ (p < 1047) }
+{}
+
+/// No text has two places.
+pub fn presets_differ()
+    ensures { (p q : ℕ) (t : List ℕ) → preset_text p ≡ Some t → preset_text q ≡ Some t → p ≡ q }
+{}
+
+/// An integer's digits write it, and no preset but the integers writes a number.
+pub fn only_integers_are_numbers()
+    ensures integers { (n : ℕ) → n < 2 ^ 64 → number_value (decimal n) ≡ Some n }
+    ensures others { (p : ℕ) → 256 ≤ p → ForSome (preset_text p) (λ t. number_value t ≡ None) }
+{}

@@ -1,0 +1,84 @@
+//! The text at a place, and the place of a text.
+ghost use Rattle.std.specs.Prelude.{◌≡◌, ◌<◌, ℕ, ◌↔◌, slice_get, map, Some, decimal};
+ghost use Rattle.std.specs.Option.{option_map};
+ghost use Rattle.intern_presets.specs.Presets.{Rises, preset_text};
+
+use crate::numbers::PREFIX;
+use crate::texts::{generated_texts, integer_texts, table_texts};
+use itoa::Buffer;
+
+/// The place of the first generated name.
+const FIRST_GENERATED: u16 = 256;
+
+/// The place of the first constant's text.
+const FIRST_CONSTANT: u16 = 512;
+
+/// The text at a place, and `None` past the last one, which is 1046.
+///
+/// Takes no memory.
+pub fn text(place: u16) -> Option<&'static str>
+    ensures { option_map (λ t. t.now) result ≡ preset_text place }
+{
+    if place < FIRST_GENERATED {
+        text_at(integer_texts(), place)
+    } else if place < FIRST_CONSTANT {
+        text_at(generated_texts(), place - FIRST_GENERATED)
+    } else {
+        text_at(table_texts(), place - FIRST_CONSTANT)
+    }
+}
+
+/// The place of a text, where it is a preset, and else `None`.
+///
+/// Takes no memory.
+pub fn place(text: &str) -> Option<u16>
+    ensures { (p : ℕ) → (result ≡ Some p) ↔ (preset_text p ≡ Some text.now) }
+{
+    if let Some(n) = small_number(text) {
+        return Some(n as u16);
+    }
+    if let Some(digits) = text.strip_prefix(PREFIX) {
+        return match small_number(digits) {
+            Some(n) => Some(n as u16 + FIRST_GENERATED),
+            None => None,
+        };
+    }
+    match index_of(table_texts(), text) {
+        Some(index) => Some(index as u16 + FIRST_CONSTANT),
+        None => None,
+    }
+}
+
+/// The text at an index, if there is one.
+fn text_at<'a>(texts: &[&'a str], index: u16) -> Option<&'a str>
+    ensures { option_map (λ t. t.now) result ≡ slice_get (map (λ t. t.now) texts.now) index }
+{
+    texts.get(index as usize).copied()
+}
+
+/// Where a text stands among texts that rise.
+fn index_of(texts: &[&str], text: &str) -> Option<usize>
+    requires { Rises (map (λ t. t.now) texts.now) }
+    ensures { (i : ℕ) → (result ≡ Some i) ↔ (slice_get (map (λ t. t.now) texts.now) i ≡ Some text.now) }
+{
+    match texts.binary_search(&text) {
+        Ok(index) => Some(index),
+        Err(_) => None,
+    }
+}
+
+/// The number below 256 whose digits the text is.
+fn small_number(text: &str) -> Option<u8>
+    ensures { (n : ℕ) → (result ≡ Some n) ↔ ((n < 256) × (text.now ≡ decimal n)) }
+{
+    match text.parse::<u8>() {
+        Ok(n) => {
+            if Buffer::new().format(n) == text {
+                Some(n)
+            } else {
+                None
+            }
+        }
+        Err(_) => None,
+    }
+}
