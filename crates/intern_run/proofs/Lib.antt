@@ -1,5 +1,4 @@
 mod Lines
-mod Numbers
 mod Reply
 mod Sent
 mod Slots

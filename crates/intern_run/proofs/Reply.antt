@@ -41,16 +41,13 @@ unless_due-none d o r none = ap (λ o. unless_due d o r) none
 pub unless_due-some : (d : DeskState) (o : Option Refusal) (why : Refusal) (r : DeskReply) → o ≡ Some why → unless_due d o r ≡ (d, refusal_text why)
 unless_due-some d o why r some = ap (λ o. unless_due d o r) some
 
-pub ok_then : {X E P Q : Type 0} (r : Result X E) → (P → Q) → OnOk r P → OnOk r Q
-ok_then (Ok x) f p = f p
-ok_then (Err e) f p = p
-
 -- a reply whose desk and answer were found, of the desk as it is seen
 pub replied : {X E : Type 0} (o : Result X E) (inside d new : DeskState) (before after : List ℕ) (r : DeskReply) (of : DeskState → DeskReply)
     → inside ≡ d → of inside ≡ r → new ≡ r.0 → OnOk o (Writes before after r.1) → OnOk o (Replies new before after (of d))
-replied o inside d new before after r of view is state written =
+replied (Ok x) inside d new before after r of view is state written =
     let e : r ≡ of d = sym is ∙ ap of view in
-    ok_then o (λ h. (state ∙ ap (λ r. r.0) e, h ∙ ap (λ r. before ++ (r.1 ++ (10 ∷ []))) e)) written
+    (state ∙ ap (λ r. r.0) e, written ∙ ap (λ r. before ++ (r.1 ++ (10 ∷ []))) e)
+replied (Err e) inside d new before after r of view is state written = tt
 
 none_on_err : {X E : Type 0} (P : Type 0) (o : Result X E) → IsErr o → OnOk o P
 none_on_err P (Ok x) err = absurd (cc)

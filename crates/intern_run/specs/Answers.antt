@@ -6,11 +6,12 @@ use Rattle.std.specs.FinMap as map
 use Rattle.std.specs.List.{before_first, after_first}
 use Rattle.std.specs.Str.{bytes_eq}
 use Rattle.std.specs.Fmt.{decimal}
+use Rattle.intern_presets.specs.Numbers.{number_value}
 use Rattle.ra_ap_intern.specs.State.{State, state_code, new_state, name_in, reads, counted_up, is_new, interned, due, due_interning, full, zero_count, freed, released}
 use Rattle.ra_ap_intern.specs.Name.{Name}
 use Rattle.ra_ap_intern.specs.Refusal.{Refusal}
 use Rattle.ra_ap_intern.specs.Refusal.TheVariants.{CountFull, NumbersUsedUp}
-use Rattle.intern_run.specs.Lines.{is_space, has_space, lines, number}
+use Rattle.intern_run.specs.Lines.{is_space, has_space, lines}
 
 -- when two texts are equal
 abbrev pub text_eq : List ℕ → List ℕ → Bool
@@ -133,16 +134,16 @@ same_at d (Some n) None = bad_command d
 same_at d (Some n) (Some m) = at_handle d (handle_in d n) (λ h. at_handle d (handle_in d m) (same_reply d h))
 
 abbrev pub same_words : DeskState → List ℕ → Reply
-same_words d rest = if has_space rest then same_at d (number (before_first is_space rest)) (number (after_first is_space rest)) else bad_command d
+same_words d rest = if has_space rest then same_at d (number_value (before_first is_space rest)) (number_value (after_first is_space rest)) else bad_command d
 
 -- the reply to a word and what follows its space
 abbrev pub word_reply : DeskState → List ℕ → List ℕ → Reply
 word_reply d word rest =
     if bytes_eq word (codes "new") then new_reply d rest
-    else if bytes_eq word (codes "clone") then at_slot d (number rest) (λ n. clone_reply d)
-    else if bytes_eq word (codes "read") then at_slot d (number rest) (λ n. read_reply d)
+    else if bytes_eq word (codes "clone") then at_slot d (number_value rest) (λ n. clone_reply d)
+    else if bytes_eq word (codes "read") then at_slot d (number_value rest) (λ n. read_reply d)
     else if bytes_eq word (codes "same") then same_words d rest
-    else if bytes_eq word (codes "release") then at_slot d (number rest) (release_reply d)
+    else if bytes_eq word (codes "release") then at_slot d (number_value rest) (release_reply d)
     else bad_command d
 
 -- the reply to a line

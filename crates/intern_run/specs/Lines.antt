@@ -1,9 +1,7 @@
 -- The lines and the words of a text.
-use Rattle.std.specs.Prelude.{◌≡◌, ℕ, ◌<◌, ◌^◌, List, [], ◌∷◌, length, Bool, not, ◌==◌, ◌&&◌, if◌then◌else◌, nat_lt, Option, None, Some, MatchOption}
+use Rattle.std.specs.Prelude.{◌≡◌, ℕ, ◌<◌, List, [], ◌∷◌, length, Bool, ◌==◌, if◌then◌else◌, nat_lt, Option, MatchOption}
 use Rattle.std.specs.Borrow.{Bor}
 use Rattle.std.specs.List.{slice_split, before_first, after_first, position_or_len}
-use Rattle.std.specs.Str.{all_ascii_digits}
-use Rattle.std.specs.Str.Parse.{without_leading_plus, digits_value}
 
 -- the byte c
 abbrev pub is_byte : ℕ → ℕ → Bool
@@ -28,11 +26,6 @@ without_empty_last (x ∷ y ∷ more) = x ∷ without_empty_last (y ∷ more)
 -- the lines of a text: what stands between its line feeds
 unfoldable pub lines : List ℕ → List (List ℕ)
 lines t = without_empty_last (slice_split is_line_feed t)
-
--- the number that std's parse as `usize` reads: digits of a value below 2 ^ 64, after an optional plus
-unfoldable pub number : List ℕ → Option ℕ
-number t = let ds = without_leading_plus t in
-    if not (length ds == 0) && (all_ascii_digits ds && nat_lt (digits_value 10 ds) (2 ^ 64)) then Some (digits_value 10 ds) else None
 
 -- r is the parts round the first byte c of t, or nothing where t has none
 abbrev pub SplitsAtFirst : ℕ → List ℕ → Option (Bor (List ℕ) × Bor (List ℕ)) → Type 0

@@ -1,9 +1,11 @@
 //! The texts, the slots with their handles, and the answer to one line.
 ghost use Rattle.std.specs.Prelude.{◌≡◌, ◌<◌, [], ◌∷◌, ◌++◌, length, OnOk, IfOk, IsErr, Some, None, is_none, option_copied, string_bytes, slice_set};
-ghost use Rattle.intern_run.specs.Lines.{number, SplitsAtFirst};
+ghost use Rattle.intern_presets.specs.Numbers.{number_value};
+ghost use Rattle.intern_run.specs.Lines.{SplitsAtFirst};
 ghost use Rattle.intern_run.specs.Answers.{new_desk, no_slot_text, reply, new_reply, clone_reply, read_reply, same_words, release_reply, len_reply, bad_command, slot_text, made_text, freed_text, refusal_text, handle_at, at_slot, Writes, Replies};
 
 use crate::text::Text;
+use intern_presets::number;
 use ra_ap_intern::{InternStorage, Interned, Refusal};
 use std::alloc::{AllocError, Global};
 use std::marker::Model;
@@ -114,9 +116,9 @@ impl Desk {
 
     // `clone N`
     fn duplicate(&mut self, text: &str, out: &mut String) -> Result<(), AllocError>
-        ensures { OnOk result (Replies self.new (string_bytes out.old) (string_bytes out.new) (at_slot self.old (number text.now) (λ n. clone_reply self.old))) }
+        ensures { OnOk result (Replies self.new (string_bytes out.old) (string_bytes out.new) (at_slot self.old (number_value text.now) (λ n. clone_reply self.old))) }
     {
-        let Some(n) = number_in(text) else {
+        let Some(n) = number(text) else {
             return self.refuse(out);
         };
         let Some(handle) = handle_in(&self.slots, n) else {
@@ -133,9 +135,9 @@ impl Desk {
 
     // `read N`
     fn read(&self, text: &str, out: &mut String) -> Result<(), AllocError>
-        ensures { OnOk result (Replies self.now (string_bytes out.old) (string_bytes out.new) (at_slot self.now (number text.now) (λ n. read_reply self.now))) }
+        ensures { OnOk result (Replies self.now (string_bytes out.old) (string_bytes out.new) (at_slot self.now (number_value text.now) (λ n. read_reply self.now))) }
     {
-        let Some(n) = number_in(text) else {
+        let Some(n) = number(text) else {
             return self.refuse(out);
         };
         let Some(handle) = handle_in(&self.slots, n) else {
@@ -157,10 +159,10 @@ impl Desk {
         let Some((first, second)) = split_at(text, ' ') else {
             return self.refuse(out);
         };
-        let Some(n) = number_in(first) else {
+        let Some(n) = number(first) else {
             return self.refuse(out);
         };
-        let Some(m) = number_in(second) else {
+        let Some(m) = number(second) else {
             return self.refuse(out);
         };
         let Some(one) = handle_in(&self.slots, n) else {
@@ -178,9 +180,9 @@ impl Desk {
 
     // `release N`
     fn release(&mut self, text: &str, out: &mut String) -> Result<(), AllocError>
-        ensures { OnOk result (Replies self.new (string_bytes out.old) (string_bytes out.new) (at_slot self.old (number text.now) (release_reply self.old))) }
+        ensures { OnOk result (Replies self.new (string_bytes out.old) (string_bytes out.new) (at_slot self.old (number_value text.now) (release_reply self.old))) }
     {
-        let Some(n) = number_in(text) else {
+        let Some(n) = number(text) else {
             return self.refuse(out);
         };
         let Some(handle) = take_handle(&mut self.slots, n) else {
@@ -289,13 +291,6 @@ fn tell(why: Refusal, out: &mut String) -> Result<(), AllocError>
         Refusal::OutOfMemory => Err(AllocError),
         Refusal::Foreign | Refusal::Gone | Refusal::CountZero => out.push_str("no slot\n"),
     }
-}
-
-// The number that the text writes.
-fn number_in(text: &str) -> Option<usize>
-    ensures { result ≡ number text.now }
-{
-    text.parse::<usize>().ok()
 }
 
 /// The parts of the text round its first such character.

@@ -1,19 +1,17 @@
 -- A birth that is gone stays gone.
 use Rattle.std.proofs.Common.{◌≡◌, ◌≢◌, inl, inr, ℕ, ◌+◌, ◌-◌, ◌<◌, Bool, true, false, cond, Option, Some, None, nat_eq, refl, sym, ap, ◌∙◌, arith}
 use Rattle.std.specs.Ordering.{nat_cmp}
-use Rattle.std.specs.Cmp.{nat_cmp_total}
 use Rattle.std.specs.FinMap as map
-use Rattle.std.specs.FinMap.{get-insert, get-remove}
 use Rattle.std.proofs.lemmas.Bool.{cases_eq, ne_eqb}
 use Rattle.intern_store.specs.Kept.{Kept}
 use Rattle.intern_store.specs.State.{State, IsGone, entry_at, with_count, counted_up, counted_down, added, birth_of, or_added, interned, taken, is_last, released}
-use Rattle.intern_store.proofs.Compared.{tied}
+use Rattle.intern_store.proofs.Compared.{get-inserted, get-removed}
 
 module _ {V : Type 0} where
   -- an entry that is written at another birth
   elsewhere : (s : State V) (c b : ℕ) (k : Kept V) → b ≢ c → entry_at s b ≡ None → map.get (map.insert s.map c k) b ≡ None
   elsewhere s c b k differs none =
-      get-insert nat_cmp_total s.map c k b ∙ ap (λ t. cond t (Some k) (map.get s.map b)) (tied b c ∙ ne_eqb b c differs) ∙ none
+      get-inserted s.map c k b ∙ ap (λ t. cond t (Some k) (map.get s.map b)) (ne_eqb b c differs) ∙ none
 
   recounted_gone : (f : ℕ → ℕ) (s : State V) (c b : ℕ) → IsGone s b → IsGone (with_count f s c (entry_at s c)) b
   recounted_gone f s c b gone = go (entry_at s c) refl
@@ -42,7 +40,7 @@ module _ {V : Type 0} where
       }
 
   taken_gone : (s : State V) (c b : ℕ) → IsGone s b → IsGone (taken s c) b
-  taken_gone s c b gone = record { given = gone.given; none = get-remove nat_cmp_total s.map c b ∙ either _ }
+  taken_gone s c b gone = record { given = gone.given; none = get-removed s.map c b ∙ either _ }
     where
       either : (t : Bool) → cond t None (map.get s.map b) ≡ None
       either true = refl

@@ -4,12 +4,12 @@ use Rattle.std.specs.Option.{option_map}
 use Rattle.std.specs.Ordering.{nat_cmp}
 use Rattle.std.specs.Cmp.{nat_cmp_total, IsEquivalence}
 use Rattle.std.specs.FinMap as map
-use Rattle.std.specs.FinMap.{FinMap, get-empty, get-insert, get-remove, same_map, nat_cmp-IsAntisymmetric}
+use Rattle.std.specs.FinMap.{FinMap, get-empty, same_map, nat_cmp-IsAntisymmetric}
 use Rattle.std.proofs.lemmas.Bool.{cases_eq, eq-eqb, ne_eqb}
 use Rattle.std.proofs.lemmas.Option.{same_Some}
 use Rattle.intern_store.specs.Kept.{Kept, is_at}
 use Rattle.intern_store.specs.State.{State, IsState, entry_at, with_count, added, added_with, counted_up, birth_of, or_added, interned}
-use Rattle.intern_store.proofs.Compared.{tied}
+use Rattle.intern_store.proofs.Compared.{get-inserted, get-removed}
 
 module _ {T : Type 0} (eq : T → T → Bool) where
   pub empty_state : (number top numbers : ℕ) (m : FinMap nat_cmp (Kept T)) → 0 < top → m ≡ map.empty → IsState eq (record { number = number; next = 0; top = top; numbers = numbers; map = m })
@@ -63,7 +63,7 @@ module _ {T : Type 0} (eq : T → T → Bool) where
       }
     where
       at_any : (q : ℕ) → map.get m q ≡ cond (nat_eq q s.next) (Some (record { value = v; count = n })) (map.get s.map q)
-      at_any q = ap (λ n. map.get n q) added ∙ get-insert nat_cmp_total s.map s.next (record { value = v; count = n }) q ∙ ap (λ t. cond t (Some (record { value = v; count = n })) (map.get s.map q)) (tied q s.next)
+      at_any q = ap (λ n. map.get n q) added ∙ get-inserted s.map s.next (record { value = v; count = n }) q
 
       old : (q : ℕ) → q ≢ s.next → map.get m q ≡ map.get s.map q
       old q differs = at_any q ∙ ap (λ t. cond t (Some (record { value = v; count = n })) (map.get s.map q)) (ne_eqb q s.next differs)
@@ -73,7 +73,7 @@ module _ {T : Type 0} (eq : T → T → Bool) where
 
   -- an entry that is left after a removal was there
   pub still : (m : FinMap nat_cmp (Kept T)) (b q : ℕ) (k : Kept T) → map.get (map.remove m b) q ≡ Some k → map.get m q ≡ Some k
-  still m b q k had = go (nat_eq q b) (sym (get-remove nat_cmp_total m b q ∙ ap (λ t. cond t None (map.get m q)) (tied q b)) ∙ had)
+  still m b q k had = go (nat_eq q b) (sym (get-removed m b q) ∙ had)
     where
       go : (t : Bool) → cond t None (map.get m q) ≡ Some k → map.get m q ≡ Some k
       go true e = absurd (cc)
@@ -107,7 +107,7 @@ module _ {T : Type 0} (eq : T → T → Bool) where
   }
     where
       at_any : (q : ℕ) → map.get m q ≡ cond (nat_eq q b) (Some (record k { count = n })) (map.get s.map q)
-      at_any q = ap (λ x. map.get x q) recounted ∙ get-insert nat_cmp_total s.map b (record k { count = n }) q ∙ ap (λ t. cond t (Some (record k { count = n })) (map.get s.map q)) (tied q b)
+      at_any q = ap (λ x. map.get x q) recounted ∙ get-inserted s.map b (record k { count = n }) q
 
       was : (q : ℕ) (l : Kept T) → map.get m q ≡ Some l → (j : Kept T) × (map.get s.map q ≡ Some j) × (j.value ≡ l.value) × (l.count ≤ s.top)
       was q l now =
@@ -147,21 +147,18 @@ module _ {T : Type 0} where
   pub counted_up-added : (s : State T) (v : T) → counted_up (added s v) s.next ≡ added_with 1 s v
   counted_up-added s v = ap (with_count (λ n. n + 1) (added s v) s.next) entry ∙ ap (λ m. record s { next = s.next + 1; map = m }) twice
     where
-      at_any : (m : FinMap nat_cmp (Kept T)) (k : Kept T) (q : ℕ) → map.get (map.insert m s.next k) q ≡ cond (nat_eq q s.next) (Some k) (map.get m q)
-      at_any m k q = get-insert nat_cmp_total m s.next k q ∙ ap (λ t. cond t (Some k) (map.get m q)) (tied q s.next)
-
       entry : entry_at (added s v) s.next ≡ Some (record { value = v; count = 0 })
-      entry = at_any s.map _ s.next ∙ ap (λ t. cond t (Some (record { value = v; count = 0 })) (map.get s.map s.next)) (eq-eqb s.next s.next refl)
+      entry = get-inserted s.map s.next _ s.next ∙ ap (λ t. cond t (Some (record { value = v; count = 0 })) (map.get s.map s.next)) (eq-eqb s.next s.next refl)
 
       one : Kept T
       one = record { value = v; count = 1 }
 
       twice : map.insert (map.insert s.map s.next (record { value = v; count = 0 })) s.next one ≡ map.insert s.map s.next one
       twice = same_map nat_cmp_total nat_cmp-IsAntisymmetric _ _ (λ q.
-          at_any (map.insert s.map s.next (record { value = v; count = 0 })) one q
-          ∙ ap (cond (nat_eq q s.next) (Some one)) (at_any s.map _ q)
+          get-inserted (map.insert s.map s.next (record { value = v; count = 0 })) s.next one q
+          ∙ ap (cond (nat_eq q s.next) (Some one)) (get-inserted s.map s.next _ q)
           ∙ shadowed (nat_eq q s.next) (Some one) _ (map.get s.map q)
-          ∙ sym (at_any s.map one q))
+          ∙ sym (get-inserted s.map s.next one q))
 
   -- interning a value that isn't stored, and counting it
   pub counted_up-interned : (eq : T → T → Bool) (s : State T) (v : T) → birth_of eq s v ≡ None → counted_up (interned eq s v).1 (interned eq s v).0 ≡ added_with 1 s v

@@ -3,11 +3,11 @@ use Rattle.std.proofs.Common.{◌≡◌, inl, inr, suc, add-one, ℕ, Bool, true
 use Rattle.std.specs.Option.{option_map}
 use Rattle.std.specs.Ordering.{nat_cmp}
 use Rattle.std.specs.Cmp.{nat_cmp_total}
-use Rattle.std.specs.FinMap.{FinMap, empty, get, get-empty, get-insert, get-remove, retain_keys, get-retain_keys, len, len-empty, len-insert, same_map, nat_cmp-IsAntisymmetric}
+use Rattle.std.specs.FinMap.{FinMap, empty, get, get-empty, retain_keys, get-retain_keys, len, len-empty, len-insert, same_map, nat_cmp-IsAntisymmetric}
 use Rattle.std.proofs.lemmas.Bool.{eq-eqb, ne_eqb, cases_eq}
 use Rattle.std.specs.List.{IsDistinct, AllByRecursion}
 use Rattle.std.specs.Map.{lookup, keys_of}
-use Rattle.intern_store.proofs.Compared.{tied}
+use Rattle.intern_store.proofs.Compared.{get-inserted, get-removed}
 use Rattle.intern_table.specs.Row.{Row}
 use Rattle.intern_table.specs.Tied.{kept, put, held, place_in, found}
 use Rattle.intern_table.specs.declared.index.Entry.{Entry}
@@ -19,8 +19,8 @@ missing k (e ∷ es) none = ap (λ t. cond t (Some e.1) (lookup (nat_eq k) es)) 
 
 module _ {T N : Type 0} where
   get-put : (m : FinMap nat_cmp (Row T N)) (b : ℕ) (o : Option (Entry T N)) (q : ℕ) → get (put m b o) q ≡ cond (nat_eq q b) (option_map kept o) (get m q)
-  get-put m b None q = get-remove nat_cmp_total m b q ∙ ap (λ t. cond t None (get m q)) (tied q b)
-  get-put m b (Some e) q = get-insert nat_cmp_total m b (kept e) q ∙ ap (λ t. cond t (Some (kept e)) (get m q)) (tied q b)
+  get-put m b None q = get-removed m b q
+  get-put m b (Some e) q = get-inserted m b (kept e) q
 
   split : (slot : ℕ → Option (Entry T N)) (t : Bool) (p : ℕ) (o : Option ℕ) → cond t (option_map kept (slot p)) (option_map kept (found slot o)) ≡ option_map kept (found slot (cond t (Some p) o))
   split slot true p o = refl

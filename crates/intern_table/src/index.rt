@@ -92,10 +92,7 @@ impl<T, N: Copy> Index<T, N> {
     pub(crate) fn place(&self, birth: u64) -> Option<usize>
         ensures { is_some result ≡ is_some (map.get self.now birth) }
     {
-        match self.places.get(&birth) {
-            Some(place) => Some(*place),
-            None => None,
-        }
+        self.places.get(&birth).copied()
     }
 
     fn entry(&self, spot: Spot) -> Option<&Entry<T, N>>
