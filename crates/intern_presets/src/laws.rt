@@ -3,7 +3,7 @@ ghost use Rattle.std.specs.Prelude.{◌≡◌, ◌<◌, ◌≤◌, ◌^◌, ℕ,
 ghost use Rattle.std.specs.Option.{ForSome};
 ghost use Rattle.intern_presets.specs.Numbers.{number_value};
 ghost use Rattle.intern_presets.specs.Table.{table};
-ghost use Rattle.intern_presets.specs.Presets.{Rises, preset_text};
+ghost use Rattle.intern_presets.specs.Presets.{Rises, preset_text, place_of};
 
 /// The texts of the constants rise in the order of their bytes.
 pub fn texts_rise()
@@ -13,6 +13,11 @@ pub fn texts_rise()
 /// The places are those below 1047.
 pub fn places_end()
     ensures { (p : ℕ) → IsSome (preset_text p) ↔ (p < 1047) }
+{}
+
+/// A text has a place exactly if it is that place's text.
+pub fn a_place_is_that_of_its_text()
+    ensures { (t : List ℕ) (p : ℕ) → (place_of t ≡ Some p) ↔ (preset_text p ≡ Some t) }
 {}
 
 /// No text has two places.

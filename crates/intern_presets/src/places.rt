@@ -1,7 +1,7 @@
 //! The text at a place, and the place of a text.
 ghost use Rattle.std.specs.Prelude.{◌≡◌, ◌<◌, ℕ, ◌↔◌, slice_get, map, Some, decimal};
 ghost use Rattle.std.specs.Option.{option_map};
-ghost use Rattle.intern_presets.specs.Presets.{Rises, preset_text};
+ghost use Rattle.intern_presets.specs.Presets.{Rises, preset_text, place_of};
 
 use crate::numbers::PREFIX;
 use crate::texts::{generated_texts, integer_texts, table_texts};
@@ -32,7 +32,7 @@ pub fn text(place: u16) -> Option<&'static str>
 ///
 /// Takes no memory.
 pub fn place(text: &str) -> Option<u16>
-    ensures { (p : ℕ) → (result ≡ Some p) ↔ (preset_text p ≡ Some text.now) }
+    ensures { result ≡ place_of text.now }
 {
     if let Some(n) = small_number(text) {
         return Some(n as u16);

@@ -1,4 +1,4 @@
 pub mod Compared
 pub mod Later
-mod States
+pub mod States
 mod Births

@@ -6,6 +6,8 @@ mod hashing;
 mod index;
 mod offer;
 mod table;
+mod text;
 
 pub use offer::Offer;
 pub use table::Table;
+pub use text::Text;

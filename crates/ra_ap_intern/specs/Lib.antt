@@ -1,4 +1,8 @@
+pub mod Constants
 pub mod Handle
+pub mod Symbols
+pub use Rattle.intern_presets.specs.Numbers
+pub use Rattle.intern_presets.specs.Presets
 pub use Rattle.intern_store.specs.Kept
 pub use Rattle.intern_store.specs.State
 pub use Rattle.intern_store.specs.declared.names.Limits

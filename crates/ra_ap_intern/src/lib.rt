@@ -3,6 +3,8 @@
 
 mod intern;
 pub mod laws;
+mod symbol;
 
 pub use intern::{InternStorage, Internable, Interned, InternedRef};
 pub use intern_store::{Limits, Name, Refusal, Refused};
+pub use symbol::{Symbol, SymbolTable, symbols as sym};

@@ -4,32 +4,34 @@ use Rattle.intern_presets.specs.Table.{table}
 use Rattle.intern_presets.specs.Presets.{Rises}
 use Rattle.intern_presets.proofs.Computed.{table_rises, length_of_table}
 use Rattle.intern_presets.proofs.Standing.{alone, is_preset, generated_injective, nowhere, middle_is_not_high}
+use Rattle.intern_presets.proofs.Finding.{determined}
 use Rattle.intern_presets.proofs.places.place.Goals as goal
 
 pub returns-in-Some : goal.returns-in-Some
-returns-in-Some c p =
+returns-in-Some c =
     let is = (c.in-Some.ensures c.in-Some.n).0 refl in
-    alone c.in-Some.n p c.args.text.now (is_preset c.in-Some.n c.args.text.now (inl is))
+    determined c.args.text.now _ (λ p. alone c.in-Some.n p c.args.text.now (is_preset c.in-Some.n c.args.text.now (inl is)))
 
 pub returns-in-Some-small_number : goal.returns-in-Some-small_number
-returns-in-Some-small_number c p =
+returns-in-Some-small_number c =
     let is = (c.in-Some-small_number.ensures c.in-Some-small_number.n).0 refl in
     let cut = c.in-Some-strip_prefix.ensures.cases in
     let text : c.args.text.now ≡ codes "<ra@gennew>" ++ decimal c.in-Some-small_number.n = cut.1.1 ∙ ap (λ ds. codes "<ra@gennew>" ++ ds) (sym cut.2 ∙ is.1) in
-    alone (c.in-Some-small_number.n + 256) p c.args.text.now (is_preset _ _ (inr (inl (c.in-Some-small_number.n, refl, is.0, text))))
+    determined c.args.text.now _ (λ p. alone (c.in-Some-small_number.n + 256) p c.args.text.now (is_preset _ _ (inr (inl (c.in-Some-small_number.n, refl, is.0, text)))))
 
 pub returns-in-None : goal.returns-in-None
-returns-in-None c p =
+returns-in-None c =
     let t = c.args.text.now in
     let cut = c.in-Some-strip_prefix.ensures.cases in
-    let text : t ≡ codes "<ra@gennew>" ++ c.in-Some-strip_prefix.digits.now = cut.1.1 ∙ ap (λ ds. codes "<ra@gennew>" ++ ds) (sym cut.2) in (
+    let text : t ≡ codes "<ra@gennew>" ++ c.in-Some-strip_prefix.digits.now = cut.1.1 ∙ ap (λ ds. codes "<ra@gennew>" ++ ds) (sym cut.2) in
+    determined t _ (λ p. (
       λ e. absurd (none-some p e),
       λ e. absurd (nowhere p t
           (λ n lt is. absurd (cc ((c.small_number.ensures n).1 (lt, is), c.in_default.is)))
           (λ m lt is. absurd (none-some m ((c.in-None.ensures m).1 (lt, generated_injective m _ (sym text ∙ is)))))
           (λ i at. middle_is_not_high _ i t text at)
           e),
-    )
+    ))
 
 pub index_of-requires : goal.index_of-requires
 index_of-requires c = subst Rises (sym c.table_texts.ensures) table_rises
@@ -47,17 +49,18 @@ pub overflow_add-result-in-Some-index_of : goal.overflow_add-result-in-Some-inde
 overflow_add-result-in-Some-index_of c = omega (arith, within c)
 
 pub returns-in-Some-index_of : goal.returns-in-Some-index_of
-returns-in-Some-index_of c p =
+returns-in-Some-index_of c =
     let is : slice_get table c.in-Some-index_of.index ≡ Some c.args.text.now = subst (λ ts. slice_get ts c.in-Some-index_of.index ≡ Some c.args.text.now) c.table_texts.ensures ((c.in-Some-index_of.ensures c.in-Some-index_of.index).0 refl) in
-    alone (c.in-Some-index_of.index + 512) p c.args.text.now (is_preset _ _ (inr (inr (c.in-Some-index_of.index, refl, is))))
+    determined c.args.text.now _ (λ p. alone (c.in-Some-index_of.index + 512) p c.args.text.now (is_preset _ _ (inr (inr (c.in-Some-index_of.index, refl, is)))))
 
 pub returns-in-None-index_of : goal.returns-in-None-index_of
-returns-in-None-index_of c p =
-    let t = c.args.text.now in (
+returns-in-None-index_of c =
+    let t = c.args.text.now in
+    determined t _ (λ p. (
       λ e. absurd (none-some p e),
       λ e. absurd (nowhere p t
           (λ n lt is. absurd (cc ((c.small_number.ensures n).1 (lt, is), c.in_default.is)))
           (λ m lt is. c.in_default-strip_prefix.ensures.cases (decimal m) is)
           (λ i at. none-some i ((c.in-None-index_of.ensures i).1 (subst (λ ts. slice_get ts i ≡ Some t) (sym c.table_texts.ensures) at)))
           e),
-    )
+    ))

@@ -1,0 +1,83 @@
+//! The texts that a table keeps.
+ghost use Rattle.std.specs.Prelude.{◌≡◌, nat_eq};
+ghost use Rattle.std.specs.Cmp.Lexicographic.{pointwise};
+ghost use Rattle.std.specs.Cmp.Rules.{comparing, hashing};
+ghost use Rattle.std.specs.Hash as fed;
+ghost use Rattle.std.proofs.Common.{rules};
+
+use crate::hashing::hash_value;
+use crate::offer::Offer;
+use std::alloc::Global;
+use std::cmp::Eq;
+use std::hash::{BuildHasherDefault, FoldHasher, Hash, Hasher};
+use std::marker::Model;
+
+/// A text that is kept. Contracts see its bytes, and not the room that they lie in.
+#[derive(Drop)]
+pub struct Text {
+    text: String,
+}
+
+impl Model for Text {
+    ghost use Rattle.std.specs.Prelude.{List, ℕ, string_bytes};
+    ghost use Rattle.std.specs.Coded.{coded_list, coded_ℕ};
+
+    ghost Value = { List ℕ };
+
+    ghost coded = { coded_list coded_ℕ };
+
+    ghost view = { λ a. string_bytes a.text };
+}
+
+impl PartialEq for Text {
+    ghost eq = { pointwise nat_eq };
+
+    ghost laws = { Prim.search (comparing, rules) };
+
+    fn eq(&self, other: &Text) -> bool {
+        self.text == other.text
+    }
+}
+
+impl Eq for Text {
+    ghost laws = { Prim.search (comparing, rules) };
+}
+
+impl Hash for Text {
+    ghost hash_input = { fed.str };
+
+    ghost respects_eq = { Prim.search (hashing, rules) };
+
+    fn hash<H: Hasher>(&self, state: &mut H) {
+        self.text.hash(state);
+    }
+}
+
+impl Text {
+    /// The text.
+    pub fn as_str(&self) -> &str
+        ensures { result.now ≡ self.now }
+    {
+        self.text.as_str()
+    }
+}
+
+// A text is sought as what is borrowed, and copied once it is stored.
+impl<'a> Offer<Text> for &'a str {
+    ghost value = { λ s. s.now };
+
+    fn equals(&self, stored: &Text) -> bool {
+        *self == stored.as_str()
+    }
+
+    fn hash_in(&self, hasher: &BuildHasherDefault<FoldHasher>) -> u64 {
+        hash_value(hasher, self)
+    }
+
+    fn into_value(self, alloc: Global) -> Result<Text, &'a str> {
+        match String::from_str(alloc, self) {
+            Ok(text) => Ok(Text { text }),
+            Err(_) => Err(self),
+        }
+    }
+}

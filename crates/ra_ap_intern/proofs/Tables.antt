@@ -1,0 +1,77 @@
+-- A table of texts after each change.
+use Rattle.std.proofs.Common.{◌≡◌, ◌≢◌, inl, inr, ℕ, ◌+◌, ◌-◌, ◌<◌, ◌==◌, Bool, true, false, cond, List, Option, Some, None, refl, sym, ap, subst, ◌∙◌, arith}
+use Rattle.std.specs.Option.{option_eq, option_map}
+use Rattle.std.specs.Str.{bytes_eq}
+use Rattle.std.proofs.lemmas.Bool.{cases_eq, eq-eqb, ne_eqb}
+use Rattle.std.proofs.lemmas.Option.{same_Some}
+use Rattle.intern_presets.specs.Presets.{place_of}
+use Rattle.intern_store.specs.Kept.{Kept}
+use Rattle.intern_store.specs.State.{State, entry_at, count_at, with_count, counted_up, counted_down, taken, added, birth_of, or_added, interned, released}
+use Rattle.intern_store.proofs.Compared.{get-inserted}
+use Rattle.intern_store.proofs.States.{still}
+use Rattle.ra_ap_intern.specs.Symbols.{IsTable}
+
+-- what holds of each entry of a table
+abbrev pub Counts : Kept (List ℕ) → Type 0
+Counts k = (0 < k.count) × (place_of k.value ≡ None)
+
+table_from : (s : State (List ℕ)) → ((b : ℕ) (k : Kept (List ℕ)) → entry_at s b ≡ Some k → Counts k) → IsTable s
+table_from s each = record { positive = λ b k had. (each b k had).0; others = λ b k had. (each b k had).1 }
+
+-- an entry that is written again counts, where the others do
+rewritten : (f : ℕ → ℕ) (s : State (List ℕ)) (b : ℕ) → ((c : ℕ) (k : Kept (List ℕ)) → c ≢ b → entry_at s c ≡ Some k → Counts k)
+    → ((k : Kept (List ℕ)) → entry_at s b ≡ Some k → Counts (record k { count = f k.count })) → IsTable (with_count f s b (entry_at s b))
+rewritten f s b others fits = go (entry_at s b) refl
+  where
+    go : (o : Option (Kept (List ℕ))) → entry_at s b ≡ o → IsTable (with_count f s b o)
+    go None none =
+        table_from s (λ c k had.
+        elim (cases_eq c b) [
+          | inl same ↦ let at_b : entry_at s b ≡ Some k = ap (entry_at s) (sym same) ∙ had in absurd (cc)
+          | inr differs ↦ others c k differs had
+        ])
+    go (Some j) at =
+        table_from _ (λ c k had.
+        elim (cases_eq c b) [
+          | inl same ↦
+              let new = same_Some _ _ (sym (get-inserted s.map b _ c ∙ ap (λ t. cond t (Some (record j { count = f j.count })) (entry_at s c)) (eq-eqb c b same)) ∙ had) in
+              subst Counts new (fits j at)
+          | inr differs ↦ others c k differs (sym (get-inserted s.map b _ c ∙ ap (λ t. cond t (Some (record j { count = f j.count })) (entry_at s c)) (ne_eqb c b differs)) ∙ had)
+        ])
+
+pub up_table : (s : State (List ℕ)) (b : ℕ) → IsTable s → IsTable (counted_up s b)
+up_table s b is = rewritten (λ n. n + 1) s b (λ c k differs had. (is.positive c k had, is.others c k had)) (λ k at. (omega arith, is.others b k at))
+
+added_table : (s : State (List ℕ)) (t : List ℕ) → place_of t ≡ None → IsTable s → IsTable (counted_up (added s t) s.next)
+added_table s t new is =
+    rewritten (λ n. n + 1) (added s t) s.next
+    (λ c k differs had.
+    let old = sym (get-inserted s.map s.next _ c ∙ ap (λ x. cond x (Some (record { value = t; count = 0 })) (entry_at s c)) (ne_eqb c s.next differs)) ∙ had in
+    (is.positive c k old, is.others c k old))
+    (λ k at.
+    let fresh : record { value = t; count = 0 } ≡ k = same_Some _ _ (sym (get-inserted s.map s.next _ s.next ∙ ap (λ x. cond x (Some (record { value = t; count = 0 })) (entry_at s s.next)) (eq-eqb s.next s.next refl)) ∙ at) in
+    (omega arith, ap (λ (x : Kept (List ℕ)). place_of x.value) (sym fresh) ∙ new))
+
+pub interned_table : (s : State (List ℕ)) (t : List ℕ) → place_of t ≡ None → IsTable s → IsTable (counted_up (interned bytes_eq s t).1 (interned bytes_eq s t).0)
+interned_table s t new is = go (birth_of bytes_eq s t)
+  where
+    go : (o : Option ℕ) → IsTable (counted_up (or_added o s t).1 (or_added o s t).0)
+    go None = added_table s t new is
+    go (Some b) = up_table s b is
+
+pub released_table : (s : State (List ℕ)) (b : ℕ) → IsTable s → IsTable (released false s b)
+released_table s b is = go (option_eq ◌==◌ (count_at s b) (Some 1)) refl
+  where
+    go : (t : Bool) → option_eq ◌==◌ (count_at s b) (Some 1) ≡ t → IsTable (cond t (taken s b) (counted_down s b))
+    go true last = table_from _ (λ c k had. let old = still (λ x y. true) s.map b c k had in (is.positive c k old, is.others c k old))
+    go false more =
+        rewritten (λ n. n - 1) s b (λ c k differs had. (is.positive c k had, is.others c k had)) (λ k at.
+        let some : 0 < k.count = is.positive b k at in
+        let one : (k.count == 1) ≡ false = sym (ap (λ o. option_eq ◌==◌ (option_map (λ (x : Kept (List ℕ)). x.count) o) (Some 1)) at) ∙ more in
+        let differs : k.count ≢ 1 = λ e. let yes = eq-eqb k.count 1 e in cc in
+        (omega arith, is.others b k at))
+
+-- a call that may be refused leaves one of two tables
+pub either_table : (t : Bool) (s u w : State (List ℕ)) → w ≡ cond t s u → IsTable s → IsTable u → IsTable w
+either_table true s u w e first second = subst IsTable (sym e) first
+either_table false s u w e first second = subst IsTable (sym e) second

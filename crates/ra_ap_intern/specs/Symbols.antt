@@ -1,0 +1,68 @@
+-- What symbols are, and what a table of texts holds.
+use Rattle.std.specs.Prelude.{◌≡◌, ℕ, ◌<◌, Bool, ◌&&◌, List, Option, Some, None, is_none}
+use Rattle.std.specs.Str.{bytes_eq}
+use Rattle.intern_presets.specs.Presets.{preset_text, place_of}
+use Rattle.intern_store.specs.Kept.{Kept}
+use Rattle.intern_store.specs.State.{State, entry_at, name_in, reads, counts, counted_up, is_new, interned, due, due_interning, full}
+use Rattle.intern_store.specs.declared.names.Name.{Name}
+use Rattle.intern_store.specs.declared.names.Refusal.{Refusal}
+use Rattle.ra_ap_intern.specs.declared.symbol.Symbol.{Symbol}
+use Rattle.ra_ap_intern.specs.declared.symbol.Kind.{Kind}
+use Rattle.ra_ap_intern.specs.declared.symbol.Kind.TheVariants.{Preset, Runtime}
+
+-- every text is counted, and none is a preset
+pub record IsTable (s : State (List ℕ)) : Type 0 where
+  pub positive : (b : ℕ) (k : Kept (List ℕ)) → entry_at s b ≡ Some k → 0 < k.count
+  pub others : (b : ℕ) (k : Kept (List ℕ)) → entry_at s b ≡ Some k → place_of k.value ≡ None
+
+-- what a symbol names: the preset of a place, or an entry of a table
+pub data Named : Type 0 where
+  preset : ℕ → Named
+  entry : Name → Named
+
+abbrev pub symbol_name : Symbol → Named
+symbol_name s = kind_name s.0
+  where
+    kind_name : Kind → Named
+    kind_name (Preset place) = preset place
+    kind_name (Runtime handle) = entry handle.name
+
+-- the text of a symbol, while it can be read
+abbrev pub text_of : State (List ℕ) → Named → Option (List ℕ)
+text_of s (preset place) = preset_text place
+text_of s (entry name) = reads s name
+
+-- the count of a symbol's text; presets have none
+abbrev pub count_of : State (List ℕ) → Named → Option ℕ
+count_of s (preset place) = None
+count_of s (entry name) = counts s name
+
+-- the refusal of a call on a symbol; presets are never refused
+abbrev pub due_of : State (List ℕ) → Named → (ℕ → Option Refusal) → Option Refusal
+due_of s (preset place) by_count = None
+due_of s (entry name) by_count = due s name by_count
+
+-- with this change at the entry of a symbol; presets change nothing
+abbrev pub at_entry : (State (List ℕ) → ℕ → State (List ℕ)) → State (List ℕ) → Named → State (List ℕ)
+at_entry change s (preset place) = s
+at_entry change s (entry name) = change s name.birth
+
+-- the symbol of a text, and the table in which it is counted
+abbrev pub symbol_at : Option ℕ → State (List ℕ) → List ℕ → Named × State (List ℕ)
+symbol_at (Some place) s t = (preset place, s)
+symbol_at None s t = let i = interned bytes_eq s t in (entry (name_in s i.0), counted_up i.1 i.0)
+
+abbrev pub symbol_in : State (List ℕ) → List ℕ → Named × State (List ℕ)
+symbol_in s t = symbol_at (place_of t) s t
+
+-- the refusal of a call that interns a text, before want of memory
+abbrev pub due_symbol_at : Option ℕ → State (List ℕ) → List ℕ → Option Refusal
+due_symbol_at (Some place) s t = None
+due_symbol_at None s t = due_interning bytes_eq s t (full s.top)
+
+abbrev pub due_symbol : State (List ℕ) → List ℕ → Option Refusal
+due_symbol s t = due_symbol_at (place_of t) s t
+
+-- whether a text is neither a preset nor stored
+abbrev pub is_new_text : State (List ℕ) → List ℕ → Bool
+is_new_text s t = is_none (place_of t) && is_new bytes_eq s t

@@ -1,0 +1,214 @@
+//! Interning of texts.
+//!
+//! A [`Symbol`] stands for a text. Those of the presets, as `sym::Clone`, are constants and take
+//! nothing of any table; every other text is stored in a [`SymbolTable`] while it is counted.
+//!
+//! A symbol that is let fall keeps its count: give it back by `release`.
+ghost use Rattle.std.specs.Prelude.{◌≡◌, ◌<◌, false, Some, None, IfOk, IfErr, OnOk, is_ok, if◌then◌else◌};
+ghost use Rattle.std.specs.FinMap as map;
+ghost use Rattle.std.specs.Option.{option_map};
+ghost use Rattle.std.specs.Str.{bytes_eq};
+ghost use Rattle.intern_store.specs.State.{IsState, new_state, counted_up, full, any_count, IsWhy, released};
+ghost use Rattle.ra_ap_intern.specs.Symbols.{IsTable, symbol_name, text_of, count_of, symbol_in, due_of, due_symbol, is_new_text, at_entry};
+ghost use Rattle.ra_ap_intern.specs.declared.symbol.symbols.TheConstants as sym;
+
+mod numbered;
+pub mod symbols;
+
+use intern_presets::{place, text};
+use intern_store::{Handle, Limits, Refusal, Refused, Store};
+use intern_table::{Table, Text};
+use std::alloc::Global;
+use std::marker::Model;
+
+/// A table of texts, each kept once, and only while it is counted. The presets are in no table.
+///
+/// Only interning a text that is neither stored nor a preset takes memory.
+#[derive(Drop)]
+pub struct SymbolTable {
+    store: Store<Table<Text>>,
+}
+
+impl Model for SymbolTable {
+    ghost use Rattle.std.specs.Prelude.{List, ℕ};
+    ghost use Rattle.std.specs.Coded.{coded_list, coded_ℕ};
+    ghost use Rattle.intern_store.specs.State.{State, state_code};
+    ghost use Rattle.ra_ap_intern.specs.Symbols.{IsTable};
+
+    ghost Value = { State (List ℕ) };
+
+    ghost coded = { state_code (coded_list coded_ℕ) };
+
+    ghost view = { λ a. a.store };
+
+    ghost invariant = { λ a. IsTable a.store };
+}
+
+/// A symbol: a preset, or a handle of a text in a table, which counts one.
+///
+/// Symbols are compared and hashed by what they name alone, so two of one table are equal exactly if
+/// their texts are.
+#[derive(PartialEq, Eq, Hash, Drop)]
+pub struct Symbol(Kind);
+
+#[derive(PartialEq, Eq, Hash, Drop)]
+enum Kind {
+    Preset(u16),
+    Runtime(Handle),
+}
+
+impl SymbolTable {
+    /// An empty table with the largest limits. It takes no memory.
+    ///
+    /// Symbols tell tables apart by their numbers alone: give each table one of its own.
+    pub fn new(alloc: Global, number: u64) -> Self
+        ensures { result ≡ new_state number u64.MAX u64.MAX }
+    {
+        SymbolTable {
+            store: Store::new(alloc, number),
+        }
+    }
+
+    /// An empty table with limits of its own. It takes no memory.
+    pub fn with_limits(alloc: Global, number: u64, limits: Limits) -> Self
+        requires { 0 < limits.top }
+        ensures { result ≡ new_state number limits.top limits.numbers }
+    {
+        SymbolTable {
+            store: Store::with_limits(alloc, number, limits),
+        }
+    }
+
+    /// The table's number.
+    pub fn number(&self) -> u64
+        ensures number { result ≡ self.now.number }
+        ensures state { IsState bytes_eq self.now }
+        ensures table { IsTable self.now }
+    {
+        self.store.number()
+    }
+
+    /// How many texts the table keeps. Presets don't count.
+    pub fn len(&self) -> usize
+        ensures { result ≡ map.len self.now.map }
+    {
+        self.store.len()
+    }
+
+    /// The count of a symbol's text. None for a preset, for a symbol of another table, and for one
+    /// whose text is gone.
+    pub fn count(&self, symbol: &Symbol) -> Option<u64>
+        ensures { result ≡ count_of self.now (symbol_name symbol.now) }
+    {
+        match symbol.0 {
+            Kind::Preset(_) => None,
+            Kind::Runtime(handle) => self.store.count(handle),
+        }
+    }
+}
+
+impl Symbol {
+    /// The symbol of a text. A preset's text gives its constant, and the table stays as it is; any
+    /// other is counted once more. Only a text that isn't stored is copied, which may take memory.
+    ///
+    /// Refused, never for a preset: `CountFull` where the text is stored and its count is at the
+    /// limit; `NumbersUsedUp` and `OutOfMemory` where it isn't stored.
+    pub fn intern(table: &mut SymbolTable, text: &str) -> Result<Symbol, Refusal>
+        ensures ok { IfOk result (λ s. symbol_name s ≡ (symbol_in table.old text.now).0) }
+        ensures allowed { OnOk result (due_symbol table.old text.now ≡ None) }
+        ensures refused { IfErr result (λ why. IsWhy (due_symbol table.old text.now) (is_new_text table.old text.now) why) }
+        ensures state { table.new ≡ (if is_ok result then (symbol_in table.old text.now).1 else table.old) }
+    {
+        if let Some(preset) = place(text) {
+            return Ok(Symbol(Kind::Preset(preset)));
+        }
+        match table.store.intern_counted(text) {
+            Ok((handle, _)) => Ok(Symbol(Kind::Runtime(handle))),
+            Err(refused) => Err(refused.why),
+        }
+    }
+
+    /// The symbol of the empty text, which is a preset.
+    pub fn empty() -> Symbol
+        ensures { result ≡ sym._empty_sym }
+    {
+        symbols::_empty_sym
+    }
+
+    /// The text: a preset's, whatever the table, or else the one that the table keeps.
+    /// None for a symbol of another table, and for one whose text is gone.
+    pub fn as_str<'a>(&self, table: &'a SymbolTable) -> Option<&'a str>
+        ensures { option_map (λ t. t.now) result ≡ text_of table.now (symbol_name self.now) }
+    {
+        match self.0 {
+            Kind::Preset(place) => text(place),
+            Kind::Runtime(handle) => match table.store.own(handle) {
+                None => None,
+                Some(texts) => match texts.get(handle.spot()) {
+                    None => None,
+                    Some(text) => Some(text.as_str()),
+                },
+            },
+        }
+    }
+
+    /// A second symbol of the same text, which counts one more unless it is a preset.
+    /// Refused, never for a preset: `Foreign`, `Gone`, `CountFull`.
+    pub fn clone(&self, table: &mut SymbolTable) -> Result<Symbol, Refusal>
+        ensures ok { IfOk result (λ s. symbol_name s ≡ symbol_name self.now) }
+        ensures allowed { OnOk result (due_of table.old (symbol_name self.now) (full table.old.top) ≡ None) }
+        ensures refused { IfErr result (λ why. due_of table.old (symbol_name self.now) (full table.old.top) ≡ Some why) }
+        ensures state { table.new ≡ (if is_ok result then at_entry counted_up table.old (symbol_name self.now) else table.old) }
+    {
+        match self.0 {
+            Kind::Preset(place) => Ok(Symbol(Kind::Preset(place))),
+            Kind::Runtime(handle) => {
+                table.store.count_up(handle)?;
+                Ok(Symbol(Kind::Runtime(handle)))
+            }
+        }
+    }
+
+    /// Gives the symbol up, with its count. With the last one the text goes. A preset stays.
+    /// Refused, with the symbol back and never for a preset: `Foreign`, `Gone`.
+    pub fn release(self, table: &mut SymbolTable) -> Result<(), Refused<Symbol>>
+        ensures allowed { OnOk result (due_of table.old (symbol_name self) any_count ≡ None) }
+        ensures refused { IfErr result (λ r. due_of table.old (symbol_name self) any_count ≡ Some r.why) }
+        ensures back { IfErr result (λ r. r.back ≡ self) }
+        ensures state { table.new ≡ (if is_ok result then at_entry (released false) table.old (symbol_name self) else table.old) }
+    {
+        match table.lower(&self) {
+            Ok(()) => Ok(()),
+            Err(why) => Err(Refused { why, back: self }),
+        }
+    }
+
+    /// Takes one count back that a symbol left behind. With the last one the text goes. The symbol
+    /// itself stays as it is, and so does a preset.
+    /// Refused, never for a preset: `Foreign`, `Gone`.
+    pub fn decrease_refcount(&mut self, table: &mut SymbolTable) -> Result<(), Refusal>
+        ensures allowed { OnOk result (due_of table.old (symbol_name self.old) any_count ≡ None) }
+        ensures refused { IfErr result (λ why. due_of table.old (symbol_name self.old) any_count ≡ Some why) }
+        ensures symbol { self.new ≡ self.old }
+        ensures state { table.new ≡ (if is_ok result then at_entry (released false) table.old (symbol_name self.old) else table.old) }
+    {
+        table.lower(self)
+    }
+}
+
+impl SymbolTable {
+    // Counts a symbol's text once less. With the last count it goes.
+    fn lower(&mut self, symbol: &Symbol) -> Result<(), Refusal>
+        ensures allowed { OnOk result (due_of self.old (symbol_name symbol.now) any_count ≡ None) }
+        ensures refused { IfErr result (λ why. due_of self.old (symbol_name symbol.now) any_count ≡ Some why) }
+        ensures state { self.new ≡ (if is_ok result then at_entry (released false) self.old (symbol_name symbol.now) else self.old) }
+    {
+        match symbol.0 {
+            Kind::Preset(_) => Ok(()),
+            Kind::Runtime(handle) => {
+                self.store.release(handle, false)?;
+                Ok(())
+            }
+        }
+    }
+}
