@@ -1,13 +1,16 @@
 -- The place that a text has is the one at which it stands.
-use Rattle.std.proofs.Common.{◌≡◌, ℕ, zero, suc, ◌+◌, ◌<◌, ◌≤◌, Bool, true, false, cond, List, [], ◌∷◌, Option, Some, None, IsSome, refl, sym, ap, subst, ◌∙◌, arith, inl, inr, ◌↔◌, true≢false}
+use Rattle.std.proofs.Common.{◌≡◌, ℕ, zero, suc, ◌+◌, ◌^◌, ◌<◌, ◌≤◌, Bool, true, false, cond, List, [], ◌∷◌, Option, Some, None, IsSome, refl, sym, ap, subst, ◌∙◌, arith, inl, inr, ⊎_elim, ◌↔◌, true≢false, nat_lt, decimal}
 use Rattle.std.specs.List.{find, range_with_len}
 use Rattle.std.specs.Option.{option_eq}
 use Rattle.std.specs.Str.{bytes_eq}
-use Rattle.std.proofs.lemmas.Bool.{cases_eq}
+use Rattle.std.proofs.lemmas.Bool.{cases_eq, cases_lt, lt-ltb, le-ltb}
 use Rattle.std.proofs.lemmas.Option.{none-some}
 use Rattle.std.proofs.lemmas.Slice.Eq.{bytes_eq-Decides}
-use Rattle.intern_presets.specs.Presets.{preset_text, place_of}
-use Rattle.intern_presets.proofs.Standing.{one_place, ends}
+use Rattle.std.proofs.lemmas.Fmt.{decimal_injective}
+use Rattle.intern_presets.specs.Numbers.{number_value}
+use Rattle.intern_presets.specs.Presets.{generated_text, preset_text, place_of}
+use Rattle.intern_presets.proofs.Parsed.{number_value-decimal}
+use Rattle.intern_presets.proofs.Standing.{Stands, stands, is_preset, at_low, no_number, generated_no_number, generated_injective, middle_is_not_high, one_place, ends}
 
 module _ (test : ℕ → Bool) where
   -- what is found passes
@@ -59,3 +62,47 @@ determined t None is = go (place_of t) refl
     go : (o : Option ℕ) → place_of t ≡ o → None ≡ o
     go None e = refl
     go (Some p) e = absurd (none-some p ((is p).1 ((place_is t p).0 e)))
+
+-- the place of an integer's digits, and of a generated name
+no_place : (t : List ℕ) → ((p : ℕ) → Stands p t → ⊥) → place_of t ≡ None
+no_place t nowhere = go (place_of t) refl
+  where
+    go : (o : Option ℕ) → place_of t ≡ o → o ≡ None
+    go None e = refl
+    go (Some p) e = absurd (nowhere p (stands p t ((place_is t p).0 e)))
+
+pub integer_place : (n : ℕ) → n < 2 ^ 64 → place_of (decimal n) ≡ cond (nat_lt n 256) (Some n) None
+integer_place n fits = ⊎_elim low high (cases_lt n 256)
+  where
+    low : n < 256 → place_of (decimal n) ≡ cond (nat_lt n 256) (Some n) None
+    low lt = (place_is (decimal n) n).1 (at_low n lt) ∙ ap (λ b. cond b (Some n) None) (sym (lt-ltb n 256 lt))
+
+    other : 256 ≤ n → (p : ℕ) → Stands p (decimal n) → ⊥
+    other le p (inl s) = let same = decimal_injective n p fits (omega (arith, s.0)) s.1 in absurd (omega (arith, same, le, s.0))
+    other le p (inr s) =
+        let above : 256 ≤ p = ⊎_elim (λ m. omega (arith, m.1)) (λ i. omega (arith, i.1)) s in
+        let number = number_value-decimal n fits in
+        let none = no_number p (decimal n) above (is_preset p (decimal n) (inr s)) in
+        absurd (cc)
+
+    high : 256 ≤ n → place_of (decimal n) ≡ cond (nat_lt n 256) (Some n) None
+    high le = no_place (decimal n) (other le) ∙ ap (λ b. cond b (Some n) None) (sym (le-ltb n 256 le))
+
+pub generated_place : (n : ℕ) → n < 2 ^ 64 → place_of (generated_text n) ≡ cond (nat_lt n 256) (Some (n + 256)) None
+generated_place n fits = ⊎_elim low high (cases_lt n 256)
+  where
+    low : n < 256 → place_of (generated_text n) ≡ cond (nat_lt n 256) (Some (n + 256)) None
+    low lt = (place_is (generated_text n) (n + 256)).1 (is_preset _ _ (inr (inl (n, refl, lt, refl)))) ∙ ap (λ b. cond b (Some (n + 256)) None) (sym (lt-ltb n 256 lt))
+
+    other : 256 ≤ n → (p : ℕ) → Stands p (generated_text n) → ⊥
+    other le p (inl s) =
+        let number = ap number_value s.1 ∙ number_value-decimal p (omega (arith, s.0)) in
+        let none = generated_no_number n in
+        absurd (cc)
+    other le p (inr (inl s)) =
+        let same = decimal_injective n s.0 fits (omega (arith, s.2)) (generated_injective s.0 (decimal n) s.3) in
+        absurd (omega (arith, same, le, s.2))
+    other le p (inr (inr s)) = middle_is_not_high (decimal n) s.0 (generated_text n) refl s.2
+
+    high : 256 ≤ n → place_of (generated_text n) ≡ cond (nat_lt n 256) (Some (n + 256)) None
+    high le = no_place (generated_text n) (other le) ∙ ap (λ b. cond b (Some (n + 256)) None) (sym (le-ltb n 256 le))

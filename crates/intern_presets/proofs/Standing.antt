@@ -46,7 +46,7 @@ none_from : (o : Option ℕ) → is_none o ≡ true → o ≡ None
 none_from None h = refl
 none_from (Some x) h = absurd (true≢false (sym h))
 
-generated_no_number : (n : ℕ) → number_value (generated_text n) ≡ None
+pub generated_no_number : (n : ℕ) → number_value (generated_text n) ≡ None
 unfolding number_value
 generated_no_number n = refl
 

@@ -1,9 +1,9 @@
 //! What holds of all presets. These functions do nothing, and their contracts are the laws.
-ghost use Rattle.std.specs.Prelude.{◌≡◌, ◌<◌, ◌≤◌, ◌^◌, ℕ, List, ◌↔◌, Some, None, IsSome, decimal};
+ghost use Rattle.std.specs.Prelude.{◌≡◌, ◌<◌, ◌≤◌, ◌+◌, ◌^◌, nat_lt, if◌then◌else◌, ℕ, List, ◌↔◌, Some, None, IsSome, decimal};
 ghost use Rattle.std.specs.Option.{ForSome};
 ghost use Rattle.intern_presets.specs.Numbers.{number_value};
 ghost use Rattle.intern_presets.specs.Table.{table};
-ghost use Rattle.intern_presets.specs.Presets.{Rises, preset_text, place_of};
+ghost use Rattle.intern_presets.specs.Presets.{Rises, generated_text, preset_text, place_of};
 
 /// The texts of the constants rise in the order of their bytes.
 pub fn texts_rise()
@@ -29,4 +29,10 @@ pub fn presets_differ()
 pub fn only_integers_are_numbers()
     ensures integers { (n : ℕ) → n < 2 ^ 64 → number_value (decimal n) ≡ Some n }
     ensures others { (p : ℕ) → 256 ≤ p → ForSome (preset_text p) (λ t. number_value t ≡ None) }
+{}
+
+/// The numbered lists hold the numbers below 256, and no others.
+pub fn numbered_lists_end()
+    ensures integers { (n : ℕ) → n < 2 ^ 64 → place_of (decimal n) ≡ (if nat_lt n 256 then Some n else None) }
+    ensures generated { (n : ℕ) → n < 2 ^ 64 → place_of (generated_text n) ≡ (if nat_lt n 256 then Some (n + 256) else None) }
 {}

@@ -1,10 +1,9 @@
 -- A birth that is gone stays gone.
-use Rattle.std.proofs.Common.{◌≡◌, ◌≢◌, inl, inr, ℕ, ◌+◌, ◌-◌, ◌<◌, Bool, true, false, cond, Option, Some, None, nat_eq, refl, sym, ap, ◌∙◌, arith}
-use Rattle.std.specs.Ordering.{nat_cmp}
+use Rattle.std.proofs.Common.{◌≡◌, ◌≢◌, ℕ, ◌+◌, ◌-◌, Bool, true, false, cond, Option, Some, None, refl, ap, ◌∙◌, arith}
 use Rattle.std.specs.FinMap as map
-use Rattle.std.proofs.lemmas.Bool.{cases_eq, ne_eqb}
+use Rattle.std.proofs.lemmas.Bool.{ne_eqb}
 use Rattle.intern_store.specs.Kept.{Kept}
-use Rattle.intern_store.specs.State.{State, IsGone, entry_at, with_count, counted_up, counted_down, added, birth_of, or_added, interned, taken, is_last, released}
+use Rattle.intern_store.specs.State.{State, IsGone, entry_at, with_count, counted_up, counted_down, birth_of, or_added, interned, taken, is_last, released}
 use Rattle.intern_store.proofs.Compared.{get-inserted, get-removed}
 
 module _ {V : Type 0} where

@@ -1,7 +1,21 @@
 -- Every constant of the presets, with its text.
-use Rattle.std.specs.Prelude.{ℕ, List, [], ◌∷◌, codes}
+use Rattle.std.specs.Prelude.{ℕ, Bool, List, [], ◌∷◌, Option, Some, None, codes}
+use Rattle.std.specs.Option.{option_eq}
+use Rattle.std.specs.Str.{bytes_eq}
+use Rattle.intern_presets.specs.Presets.{preset_text}
+use Rattle.ra_ap_intern.specs.Symbols.{Named, symbol_name}
+use Rattle.ra_ap_intern.specs.Symbols.Named.{preset, entry}
 use Rattle.ra_ap_intern.specs.declared.symbol.Symbol.{Symbol}
 use Rattle.ra_ap_intern.specs.declared.symbol.symbols.TheConstants as sym
+
+-- the text of a preset; an entry has one only in its table
+abbrev pub own_text : Named → Option (List ℕ)
+own_text (preset place) = preset_text place
+own_text (entry name) = None
+
+-- whether a symbol is the preset of a text
+abbrev pub has_its_text : Symbol × List ℕ → Bool
+has_its_text c = option_eq bytes_eq (own_text (symbol_name c.0)) (Some c.1)
 
 unfoldable pub constants : List (Symbol × List ℕ)
 constants =

@@ -1,12 +1,21 @@
 //! Laws of the definitions, each the contract of a function that does nothing.
-ghost use Rattle.std.specs.Prelude.{◌≡◌, ◌↔◌, ℕ, Bool, true, Some, None};
-ghost use Rattle.intern_store.specs.State.{State, IsState, IsGone, reads, count_at, birth_of, interned, counted_up, counted_down, released, due_interning, full, any_count};
+ghost use Rattle.std.specs.Prelude.{◌≡◌, ◌<◌, ◌^◌, ◌↔◌, ℕ, List, Bool, true, false, Some, None, decimal, option_and_then};
+ghost use Rattle.std.specs.List.{list_all};
+ghost use Rattle.std.specs.Str.{bytes_eq};
+ghost use Rattle.intern_presets.specs.Numbers.{number_value};
+ghost use Rattle.intern_presets.specs.Presets.{preset_text};
+ghost use Rattle.intern_store.specs.State.{State, IsState, IsGone, name_in, reads, count_at, birth_of, interned, counted_up, counted_down, released, due_interning, full, any_count};
 ghost use Rattle.intern_store.specs.declared.names.Name.{Name};
+ghost use Rattle.ra_ap_intern.specs.Constants.{constants, has_its_text};
 ghost use Rattle.ra_ap_intern.specs.Handle.{name_of, ref_name};
+ghost use Rattle.ra_ap_intern.specs.Symbols.{IsTable, Named, symbol_name, text_of, symbol_in, at_entry};
+ghost use Rattle.ra_ap_intern.specs.Symbols.Named.{preset};
 ghost use Rattle.ra_ap_intern.specs.declared.intern.Interned.{Interned as Owned};
 ghost use Rattle.ra_ap_intern.specs.declared.intern.InternedRef.{InternedRef as Reference};
+ghost use Rattle.ra_ap_intern.specs.declared.symbol.Symbol.{Symbol as Sym};
 
 use crate::intern::{Interned, InternedRef};
+use crate::symbol::Symbol;
 use std::cmp::Eq;
 use std::hash::Hash;
 
@@ -22,6 +31,11 @@ pub fn a_birth_is_given_once<T: Eq>()
     ensures counted_up { (s : State T) (c b : ℕ) → IsGone s b → IsGone (counted_up s c) b }
     ensures counted_down { (s : State T) (c b : ℕ) → IsGone s b → IsGone (counted_down s c) b }
     ensures released { (s : State T) (stays : Bool) (c b : ℕ) → IsGone s b → IsGone (released stays s c) b }
+{}
+
+/// The name that interning gives reads an equal value.
+pub fn what_is_interned_is_read<T: Eq>()
+    ensures { (s : State T) (v : T) → let i = interned T.eq s v in (w : T) × (reads i.1 (name_in s i.0) ≡ Some w) × (T.eq v w ≡ true) }
 {}
 
 /// Interning a value that is stored changes nothing but its count. In counted mode its count alone
@@ -42,4 +56,43 @@ pub fn owned_handles_are_names<T>()
 pub fn references_are_names<T>()
     ensures equal { (a b : Reference T) → (⟦<InternedRef<T> as PartialEq>⟧.eq a b ≡ true) ↔ (ref_name a ≡ ref_name b) }
     ensures hashed { (a b : Reference T) → ref_name a ≡ ref_name b → ⟦<InternedRef<T> as Hash>⟧.hash_input a ≡ ⟦<InternedRef<T> as Hash>⟧.hash_input b }
+{}
+
+/// Symbols of one table that can be read are equal exactly if their texts are.
+pub fn symbols_tell_texts()
+    ensures { (s : State (List ℕ)) → IsState bytes_eq s → IsTable s → (a b : Named) (t u : List ℕ) → text_of s a ≡ Some t → text_of s b ≡ Some u → (a ≡ b) ↔ (t ≡ u) }
+{}
+
+/// Symbols are equal exactly if they name the same preset or the same entry, and equal ones hash
+/// alike.
+pub fn symbols_are_what_they_name()
+    ensures equal { (a b : Sym) → (⟦<Symbol as PartialEq>⟧.eq a b ≡ true) ↔ (symbol_name a ≡ symbol_name b) }
+    ensures hashed { (a b : Sym) → symbol_name a ≡ symbol_name b → ⟦<Symbol as Hash>⟧.hash_input a ≡ ⟦<Symbol as Hash>⟧.hash_input b }
+{}
+
+/// The symbol of a text reads the text.
+pub fn a_symbol_reads_its_text()
+    ensures { (s : State (List ℕ)) (t : List ℕ) → let i = symbol_in s t in text_of i.1 i.0 ≡ Some t }
+{}
+
+/// A preset's text gives the preset, in every table, and leaves the table as it is.
+pub fn presets_are_in_no_table()
+    ensures { (s : State (List ℕ)) (p : ℕ) (t : List ℕ) → preset_text p ≡ Some t → symbol_in s t ≡ (preset p, s) }
+{}
+
+/// The symbol of a number's digits writes that number.
+pub fn integers_are_read_back()
+    ensures { (s : State (List ℕ)) (n : ℕ) → n < 2 ^ 64 → let i = symbol_in s (decimal n) in option_and_then number_value (text_of i.1 i.0) ≡ Some n }
+{}
+
+/// A text that is gone stays gone after any change of its table: its symbols read nothing ever again.
+pub fn a_gone_text_stays_gone()
+    ensures interned { (s : State (List ℕ)) (t : List ℕ) (b : ℕ) → IsGone s b → IsGone (symbol_in s t).1 b }
+    ensures cloned { (s : State (List ℕ)) (a : Named) (b : ℕ) → IsGone s b → IsGone (at_entry counted_up s a) b }
+    ensures released { (s : State (List ℕ)) (a : Named) (b : ℕ) → IsGone s b → IsGone (at_entry (released false) s a) b }
+{}
+
+/// Each constant has its text.
+pub fn constants_have_their_texts()
+    ensures { list_all has_its_text constants ≡ true }
 {}
