@@ -1,13 +1,13 @@
 -- The reply to a line, by the branches of the code.
-use Rattle.std.proofs.Common.{◌≡◌, ℕ, List, [], ◌∷◌, ◌++◌, ◌<◌, length, true, false, Option, Some, None, Result, Ok, Err, OnOk, IsErr, refl, sym, ap, ◌∙◌, arith, codes}
+use Rattle.std.proofs.Common.{◌≡◌, ℕ, List, [], ◌∷◌, ◌++◌, ◌<◌, length, Bool, true, false, Option, Some, None, Result, Ok, Err, OnOk, IsErr, refl, sym, ap, ◌∙◌, arith, codes}
 use Rattle.std.proofs.lemmas.Bool.Decides.{nat_tests}
 use Rattle.std.specs.List.{before_first, after_first, position_or_len}
 use Rattle.std.specs.Str.{bytes_eq}
 use Rattle.ra_ap_intern.specs.Name.{Name}
 use Rattle.ra_ap_intern.specs.Refusal.{Refusal}
 use Rattle.ra_ap_intern.specs.Refusal.TheVariants.{OutOfMemory}
-use Rattle.ra_ap_intern.specs.State.{IsWhy, due_interning, full, is_new}
-use Rattle.intern_run.specs.Answers.{DeskState, Reply as DeskReply, text_eq, reply, word_reply, new_reply, len_reply, bad_command, no_slot, refusal_text, unless_due, handle_in, at_handle, at_slot, Writes, Replies}
+use Rattle.ra_ap_intern.specs.State.{IsWhy}
+use Rattle.intern_run.specs.Answers.{DeskState, Reply as DeskReply, reply, word_reply, len_reply, bad_command, no_slot, refusal_text, unless_due, handle_in, at_handle, at_slot, Writes, Replies}
 use Rattle.intern_run.specs.Lines.{is_space}
 
 pub reply-len : (d : DeskState) (line : List ℕ) → position_or_len is_space line ≡ length line → bytes_eq line (codes "len") ≡ true
@@ -53,14 +53,14 @@ none_on_err : {X E : Type 0} (P : Type 0) (o : Result X E) → IsErr o → OnOk 
 none_on_err P (Ok x) err = absurd (cc)
 none_on_err P (Err e) err = tt
 
--- a refusal to keep a text is answered as due, and want of memory has no answer
-pub refused_new : {X E : Type 0} (o : Result X E) (inside d new : DeskState) (before after : List ℕ) (text : List ℕ) (why : Refusal) → inside ≡ d → new ≡ inside
-    → IsWhy (due_interning text_eq inside.texts text (full inside.texts.top)) (is_new text_eq inside.texts text) why
-    → OnOk o (Writes before after (refusal_text why)) → (why ≡ OutOfMemory → IsErr o) → OnOk o (Replies new before after (new_reply d text))
-refused_new o inside d new before after text why view state is_why written memory = go (due_interning text_eq inside.texts text (full inside.texts.top)) refl is_why
+-- a refusal that may be for want of memory is answered as due, and want of memory has no answer
+pub refused : {X E : Type 0} (o : Result X E) (inside d new : DeskState) (before after : List ℕ) (why : Refusal) (of : DeskState → DeskReply) (due : Option Refusal) (needs : Bool) (r : DeskReply)
+    → inside ≡ d → of inside ≡ unless_due inside due r → new ≡ inside
+    → IsWhy due needs why → OnOk o (Writes before after (refusal_text why)) → (why ≡ OutOfMemory → IsErr o) → OnOk o (Replies new before after (of d))
+refused o inside d new before after why of due needs r view is state is_why written memory = go due refl is_why
   where
-    go : (due : Option Refusal) → due_interning text_eq inside.texts text (full inside.texts.top) ≡ due → IsWhy due (is_new text_eq inside.texts text) why → OnOk o (Replies new before after (new_reply d text))
-    go None is w = none_on_err _ o (memory w.0)
-    go (Some r) is w =
-        replied o inside d new before after (inside, refusal_text why) (λ d. new_reply d text) view
-        (unless_due-some inside _ why _ (is ∙ ap Some (sym w))) state written
+    go : (x : Option Refusal) → due ≡ x → IsWhy x needs why → OnOk o (Replies new before after (of d))
+    go None nothing w = none_on_err _ o (memory w.0)
+    go (Some x) owed w =
+        replied o inside d new before after (inside, refusal_text why) of view
+        (is ∙ unless_due-some inside due why r (owed ∙ ap Some (sym w))) state written

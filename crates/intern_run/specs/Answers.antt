@@ -1,25 +1,22 @@
 -- The answers to the lines of a text.
-use Rattle.std.specs.Prelude.{◌≡◌, ℕ, ◌^◌, ◌-◌, List, [], ◌∷◌, ◌++◌, length, Bool, false, ◌==◌, ◌&&◌, if◌then◌else◌, nat_eq, Option, None, Some, codes, slice_get, slice_set, option_and_then, refl}
+use Rattle.std.specs.Prelude.{◌≡◌, ℕ, ◌^◌, ◌-◌, List, [], ◌∷◌, ◌++◌, length, Bool, false, ◌==◌, ◌&&◌, if◌then◌else◌, Option, None, Some, codes, slice_get, slice_set, option_and_then, refl}
 use Rattle.std.specs.Coded.{Coded, code_by, coded×, coded_list, coded_option, coded_ℕ}
-use Rattle.std.specs.Cmp.Lexicographic.{pointwise}
 use Rattle.std.specs.FinMap as map
 use Rattle.std.specs.List.{before_first, after_first}
 use Rattle.std.specs.Str.{bytes_eq}
 use Rattle.std.specs.Fmt.{decimal}
 use Rattle.intern_presets.specs.Numbers.{number_value}
 use Rattle.ra_ap_intern.specs.State.{State, state_code, new_state, name_in, reads, counted_up, is_new, interned, due, due_interning, full, zero_count, freed, released}
+use Rattle.ra_ap_intern.specs.Symbols.{count_of, symbol_in, due_symbol}
 use Rattle.ra_ap_intern.specs.Name.{Name}
 use Rattle.ra_ap_intern.specs.Refusal.{Refusal}
 use Rattle.ra_ap_intern.specs.Refusal.TheVariants.{CountFull, NumbersUsedUp}
 use Rattle.intern_run.specs.Lines.{is_space, has_space, lines}
 
--- when two texts are equal
-abbrev pub text_eq : List ℕ → List ℕ → Bool
-text_eq = pointwise nat_eq
-
--- the texts that are kept, and the slots, each with a handle's name or empty
+-- the texts that are kept, those that have symbols, and the slots, each with a handle's name or empty
 pub record DeskState : Type 0 where
   pub texts : State (List ℕ)
+  pub symbols : State (List ℕ)
   pub slots : List (Option Name)
 
 abbrev pub name_code : Coded Name
@@ -27,12 +24,13 @@ name_code = code_by (ℕ × ℕ) (coded× coded_ℕ coded_ℕ) (λ n. (n.storage
 
 abbrev pub desk_code : Coded DeskState
 desk_code =
-    code_by (State (List ℕ) × List (Option Name)) (coded× (state_code (coded_list coded_ℕ)) (coded_list (coded_option name_code)))
-    (λ d. (d.texts, d.slots)) (λ p. record { texts = p.0; slots = p.1 }) (λ _. refl)
+    code_by (State (List ℕ) × (State (List ℕ) × List (Option Name)))
+    (coded× (state_code (coded_list coded_ℕ)) (coded× (state_code (coded_list coded_ℕ)) (coded_list (coded_option name_code))))
+    (λ d. (d.texts, (d.symbols, d.slots))) (λ p. record { texts = p.0; symbols = p.1.0; slots = p.1.1 }) (λ _. refl)
 
--- no text is kept, and there is no slot
+-- no text is kept, there is no symbol and no slot
 abbrev pub new_desk : DeskState
-new_desk = record { texts = new_state 1 (2 ^ 64 - 1) (2 ^ 64 - 1); slots = [] }
+new_desk = record { texts = new_state 1 (2 ^ 64 - 1) (2 ^ 64 - 1); symbols = new_state 2 (2 ^ 64 - 1) (2 ^ 64 - 1); slots = [] }
 
 -- the desk afterwards, and the answer without its line feed
 abbrev pub Reply : Type 0
@@ -77,7 +75,7 @@ at_slot d (Some n) reply = at_handle d (handle_in d n) (reply n)
 
 -- with a handle of this name in a new slot
 abbrev pub with_slot : DeskState → State (List ℕ) → Name → DeskState
-with_slot d texts h = record { texts = texts; slots = d.slots ++ (Some h ∷ []) }
+with_slot d texts h = record d { texts = texts; slots = d.slots ++ (Some h ∷ []) }
 
 -- `new TEXT`
 abbrev pub slot_text : ℕ → List ℕ
@@ -87,11 +85,11 @@ abbrev pub made_text : ℕ → ℕ → Bool → List ℕ
 made_text slot birth is_new = slot_text slot ++ codes " birth " ++ decimal birth ++ (if is_new then codes " new" else codes " stored")
 
 abbrev pub made : DeskState → List ℕ → Reply
-made d text = let i = interned text_eq d.texts text in
-    (with_slot d (counted_up i.1 i.0) (name_in d.texts i.0), made_text (length d.slots) i.0 (is_new text_eq d.texts text))
+made d text = let i = interned bytes_eq d.texts text in
+    (with_slot d (counted_up i.1 i.0) (name_in d.texts i.0), made_text (length d.slots) i.0 (is_new bytes_eq d.texts text))
 
 abbrev pub new_reply : DeskState → List ℕ → Reply
-new_reply d text = unless_due d (due_interning text_eq d.texts text (full d.texts.top)) (made d text)
+new_reply d text = unless_due d (due_interning bytes_eq d.texts text (full d.texts.top)) (made d text)
 
 -- `clone N`
 abbrev pub clone_reply : DeskState → Name → Reply
@@ -119,13 +117,22 @@ freed_text (Some text) = codes "freed " ++ text
 
 abbrev pub release_reply : DeskState → ℕ → Name → Reply
 release_reply d n h = unless_due d (due d.texts h zero_count) (
-  record { texts = released false d.texts h.birth; slots = slice_set d.slots n None },
+  record d { texts = released false d.texts h.birth; slots = slice_set d.slots n None },
   freed_text (freed false d.texts h.birth),
 )
 
 -- `len`
 abbrev pub len_reply : DeskState → Reply
 len_reply d = (d, codes "len " ++ decimal (map.len d.texts.map))
+
+-- `sym TEXT`: the symbol is let fall, and keeps its count
+abbrev pub symbol_text : Option ℕ → ℕ → List ℕ
+symbol_text None len = codes "preset len " ++ decimal len
+symbol_text (Some count) len = codes "count " ++ decimal count ++ codes " len " ++ decimal len
+
+abbrev pub symbol_reply : DeskState → List ℕ → Reply
+symbol_reply d text = let i = symbol_in d.symbols text in
+    unless_due d (due_symbol d.symbols text) (record d { symbols = i.1 }, symbol_text (count_of i.1 i.0) (map.len i.1.map))
 
 -- the reply to `same` with these numbers
 abbrev pub same_at : DeskState → Option ℕ → Option ℕ → Reply
@@ -144,6 +151,7 @@ word_reply d word rest =
     else if bytes_eq word (codes "read") then at_slot d (number_value rest) (λ n. read_reply d)
     else if bytes_eq word (codes "same") then same_words d rest
     else if bytes_eq word (codes "release") then at_slot d (number_value rest) (release_reply d)
+    else if bytes_eq word (codes "sym") then symbol_reply d rest
     else bad_command d
 
 -- the reply to a line

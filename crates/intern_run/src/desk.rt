@@ -2,11 +2,11 @@
 ghost use Rattle.std.specs.Prelude.{◌≡◌, ◌<◌, [], ◌∷◌, ◌++◌, length, OnOk, IfOk, IsErr, Some, None, is_none, option_copied, string_bytes, slice_set};
 ghost use Rattle.intern_presets.specs.Numbers.{number_value};
 ghost use Rattle.intern_run.specs.Lines.{SplitsAtFirst};
-ghost use Rattle.intern_run.specs.Answers.{new_desk, no_slot_text, reply, new_reply, clone_reply, read_reply, same_words, release_reply, len_reply, bad_command, slot_text, made_text, freed_text, refusal_text, handle_at, at_slot, Writes, Replies};
+ghost use Rattle.intern_run.specs.Answers.{new_desk, no_slot_text, reply, new_reply, clone_reply, read_reply, same_words, release_reply, len_reply, symbol_reply, bad_command, slot_text, symbol_text, made_text, freed_text, refusal_text, handle_at, at_slot, Writes, Replies};
 
 use crate::text::Text;
 use intern_presets::number;
-use ra_ap_intern::{InternStorage, Interned, Refusal};
+use ra_ap_intern::{InternStorage, Interned, Refusal, Symbol, SymbolTable};
 use std::alloc::{AllocError, Global};
 use std::marker::Model;
 use std::mem;
@@ -14,13 +14,17 @@ use std::mem;
 /// The storage's number.
 const TEXTS: u64 = 1;
 
-/// One storage of texts, and the handles that were given out, each in a slot.
+/// The table's number.
+const SYMBOLS: u64 = 2;
+
+/// One storage of texts, one table of symbols, and the handles that were given out, each in a slot.
 ///
 /// An error of its calls is want of memory.
 #[derive(Drop)]
 pub struct Desk {
     alloc: Global,
     texts: InternStorage<Text>,
+    symbols: SymbolTable,
     slots: Vec<Option<Interned<Text>>>,
 }
 
@@ -34,17 +38,18 @@ impl Model for Desk {
 
     ghost coded = { desk_code };
 
-    ghost view = { λ d. record { texts = d.texts; slots = map (option_map name_of) d.slots.items } };
+    ghost view = { λ d. record { texts = d.texts; symbols = d.symbols; slots = map (option_map name_of) d.slots.items } };
 }
 
 impl Desk {
-    /// A desk with no text and no slot.
+    /// A desk with no text, no symbol and no slot.
     pub fn new(alloc: Global) -> Desk
         ensures { result ≡ new_desk }
     {
         Desk {
             alloc,
             texts: InternStorage::new(alloc, TEXTS),
+            symbols: SymbolTable::new(alloc, SYMBOLS),
             slots: Vec::new(alloc),
         }
     }
@@ -73,6 +78,9 @@ impl Desk {
         }
         if word == "release" {
             return self.release(rest, out);
+        }
+        if word == "sym" {
+            return self.symbol(rest, out);
         }
         self.refuse(out)
     }
@@ -196,6 +204,19 @@ impl Desk {
             }
         }
     }
+
+    // `sym TEXT`. The symbol is let fall, and keeps its count.
+    fn symbol(&mut self, text: &str, out: &mut String) -> Result<(), AllocError>
+        ensures { OnOk result (Replies self.new (string_bytes out.old) (string_bytes out.new) (symbol_reply self.old text.now)) }
+    {
+        match Symbol::intern(&mut self.symbols, text) {
+            Ok(symbol) => {
+                let count = self.symbols.count(&symbol);
+                write_symbol(count, self.symbols.len(), out)
+            }
+            Err(why) => tell(why, out),
+        }
+    }
 }
 
 // Puts a handle into a new slot at the end, and gives the slot's number.
@@ -277,6 +298,16 @@ fn write_freed(freed: Option<Text>, out: &mut String) -> Result<(), AllocError>
             write!(out, "freed {text}\n")
         }
         None => out.push_str("kept\n"),
+    }
+}
+
+// Presets have no count.
+fn write_symbol(count: Option<u64>, len: usize, out: &mut String) -> Result<(), AllocError>
+    ensures { OnOk result (Writes (string_bytes out.old) (string_bytes out.new) (symbol_text count len)) }
+{
+    match count {
+        None => write!(out, "preset len {len}\n"),
+        Some(count) => write!(out, "count {count} len {len}\n"),
     }
 }
 

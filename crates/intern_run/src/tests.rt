@@ -143,9 +143,7 @@ fn a_slot_is_for_one_handle(rt: HostRuntime) -> Result<(), Fail> {
 
 #[test]
 fn what_is_no_command_is_answered_as_such(rt: HostRuntime) -> Result<(), Fail> {
-    let mut input = make_steady_source(
-        b"sym hello\nnew\nlen \nread  0\nNEW a\n len\nread -0\nlen\r\n",
-    );
+    let mut input = make_steady_source(b"sym\nnew\nlen \nread  0\nNEW a\n len\nread -0\nlen\r\n");
     let mut output = make_steady_sink(rt.alloc());
     assert_eq!(rt; serve(rt.alloc(), &mut input, &mut output), Ok(()));
     let output = output.into_inner();
@@ -157,6 +155,19 @@ fn what_is_no_command_is_answered_as_such(rt: HostRuntime) -> Result<(), Fail> {
         }
     }
     assert_eq!(rt; lines, 8);
+    Ok(())
+}
+
+#[test]
+fn a_symbol_is_counted_or_a_preset(rt: HostRuntime) -> Result<(), Fail> {
+    let text =
+        b"sym hello\nsym hello\nsym isize\nsym preserve-none\nsym preserve_none\nsym \nlen\n";
+    let answers =
+        b"count 1 len 1\ncount 2 len 1\npreset len 1\npreset len 1\ncount 1 len 2\npreset len 2\nlen 0\n";
+    let mut input = make_steady_source(text);
+    let mut output = make_steady_sink(rt.alloc());
+    assert_eq!(rt; serve(rt.alloc(), &mut input, &mut output), Ok(()));
+    assert_eq!(rt; output.into_inner().taken.as_slice(), answers.as_slice());
     Ok(())
 }
 

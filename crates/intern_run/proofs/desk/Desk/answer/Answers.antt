@@ -40,7 +40,12 @@ returns-then-eq-6 c =
     rw (reply-word c.args.self.now _ c.in-Some.word.now c.in-Some.rest.now c.in-Some.ensures.2 c.in-Some.ensures.0 c.in-Some.ensures.1)
     (rw (sym c.eq-2.ensures ∙ c.if-eq-2.false, sym c.eq-3.ensures ∙ c.if-eq-3.false, sym c.eq-4.ensures ∙ c.if-eq-4.false, sym c.eq-5.ensures ∙ c.if-eq-5.false, sym c.eq-6.ensures ∙ c.if-eq-6.true) c.release.ensures)
 
+pub returns-then-eq-7 : goal.returns-then-eq-7
+returns-then-eq-7 c =
+    rw (reply-word c.args.self.now _ c.in-Some.word.now c.in-Some.rest.now c.in-Some.ensures.2 c.in-Some.ensures.0 c.in-Some.ensures.1)
+    (rw (sym c.eq-2.ensures ∙ c.if-eq-2.false, sym c.eq-3.ensures ∙ c.if-eq-3.false, sym c.eq-4.ensures ∙ c.if-eq-4.false, sym c.eq-5.ensures ∙ c.if-eq-5.false, sym c.eq-6.ensures ∙ c.if-eq-6.false, sym c.eq-7.ensures ∙ c.if-eq-7.true) c.symbol.ensures)
+
 pub returns : goal.returns
 returns c =
     rw (reply-word c.args.self.now _ c.in-Some.word.now c.in-Some.rest.now c.in-Some.ensures.2 c.in-Some.ensures.0 c.in-Some.ensures.1)
-    (rw (sym c.eq-2.ensures ∙ c.if-eq-2.false, sym c.eq-3.ensures ∙ c.if-eq-3.false, sym c.eq-4.ensures ∙ c.if-eq-4.false, sym c.eq-5.ensures ∙ c.if-eq-5.false, sym c.eq-6.ensures ∙ c.if-eq-6.false) c.refuse-2.ensures)
+    (rw (sym c.eq-2.ensures ∙ c.if-eq-2.false, sym c.eq-3.ensures ∙ c.if-eq-3.false, sym c.eq-4.ensures ∙ c.if-eq-4.false, sym c.eq-5.ensures ∙ c.if-eq-5.false, sym c.eq-6.ensures ∙ c.if-eq-6.false, sym c.eq-7.ensures ∙ c.if-eq-7.false) c.refuse-2.ensures)

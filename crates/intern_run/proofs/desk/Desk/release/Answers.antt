@@ -13,7 +13,7 @@ returns-in_default-take_handle c =
     let empty = sym c.in_default-take_handle.ensures.handle in
     replied c.write_no_slot.result _ c.args.self.now _ _ _ _ (λ d. at_slot d (number_value c.args.text.now) (release_reply d)) c.self.view_is
     (at_slot-none _ _ c.in-Some.n _ (sym c.in-Some.ensures) (handle_at-names _ c.in-Some.n ∙ ap (option_map name_of) empty))
-    (λ i. record { texts = c.self.inside.texts; slots = names ((c.take_handle.ensures.slots ∙ emptied_again _ c.in-Some.n empty) i) })
+    (λ i. record { texts = c.self.inside.texts; symbols = c.self.inside.symbols; slots = names ((c.take_handle.ensures.slots ∙ emptied_again _ c.in-Some.n empty) i) })
     c.write_no_slot.ensures
 
 pub returns-in-Ok : goal.returns-in-Ok
@@ -21,7 +21,7 @@ returns-in-Ok c =
     let h = c.in-Some-take_handle.handle in
     replied c.write_freed.result _ c.args.self.now _ _ _ _ (λ d. at_slot d (number_value c.args.text.now) (release_reply d)) c.self.view_is
     (at_slot-some _ _ c.in-Some.n (name_of h) _ (sym c.in-Some.ensures) (handle_at-names _ c.in-Some.n ∙ ap (option_map name_of) (sym c.in-Some-take_handle.ensures.handle)) ∙ unless_due-none _ _ _ c.in-Ok.ensures.allowed)
-    (λ i. record { texts = c.in-Ok.ensures.state i; slots = names-taken _ _ c.in-Some.n c.take_handle.ensures.slots i })
+    (λ i. record { texts = c.in-Ok.ensures.state i; symbols = c.self.inside.symbols; slots = names-taken _ _ c.in-Some.n c.take_handle.ensures.slots i })
     (subst (λ (v : Option (List ℕ)). OnOk c.write_freed.result (Writes (string_bytes c.args.out.now) (string_bytes c.write_freed.new.out) (freed_text v)))
     c.in-Ok.ensures.value c.write_freed.ensures)
 
@@ -33,5 +33,5 @@ returns-in-Err c =
     ∙ ap (λ xs. slice_set xs c.in-Some.n (Some h)) c.take_handle.ensures.slots ∙ put_again _ c.in-Some.n h (sym c.in-Some-take_handle.ensures.handle) in
     replied c.tell.result _ c.args.self.now _ _ _ _ (λ d. at_slot d (number_value c.args.text.now) (release_reply d)) c.self.view_is
     (at_slot-some _ _ c.in-Some.n (name_of h) _ (sym c.in-Some.ensures) (handle_at-names _ c.in-Some.n ∙ ap (option_map name_of) (sym c.in-Some-take_handle.ensures.handle)) ∙ unless_due-some _ _ c.in-Err.refused.why _ c.in-Err.ensures.refused)
-    (λ i. record { texts = c.in-Err.ensures.state i; slots = names (slots i) })
+    (λ i. record { texts = c.in-Err.ensures.state i; symbols = c.self.inside.symbols; slots = names (slots i) })
     c.tell.ensures.answer
