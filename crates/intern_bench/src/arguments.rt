@@ -4,11 +4,13 @@ use thiserror::Error;
 
 /// How the program is called.
 pub(crate) const USAGE: &str =
-    "usage: intern_bench NAME GROUP N, where GROUP is val and N is a number of entries";
+    "usage: intern_bench NAME GROUP N, where GROUP is sym or val and N is a number of entries";
 
 /// What is stored.
 #[derive(Clone, Copy, Debug, PartialEq, Eq)]
 pub(crate) enum Group {
+    /// Symbols of texts.
+    Symbols,
     /// Counted values of 64 bits.
     Values,
 }
@@ -16,6 +18,7 @@ pub(crate) enum Group {
 impl Group {
     fn parse(name: &str) -> Option<Group> {
         match name {
+            "sym" => Some(Group::Symbols),
             "val" => Some(Group::Values),
             _ => None,
         }
@@ -24,6 +27,7 @@ impl Group {
     /// The group's name on the command line and in the report.
     pub(crate) fn name(self) -> &'static str {
         match self {
+            Group::Symbols => "sym",
             Group::Values => "val",
         }
     }

@@ -2,23 +2,29 @@
 #![tactic(auto)]
 
 mod arguments;
+mod counted;
+mod failure;
 mod measure;
 mod numbers;
 mod report;
+mod symbols;
 mod values;
 
 use anyhow::Result;
 use arguments::{Group, Job, Request, USAGE};
+use ra_ap_intern::{InternStorage, SymbolTable};
 use std::env;
 use std::process::ExitCode;
 use std::rt::{Clock, Files};
+use values::Number;
 
 // The exit status of a call with wrong arguments.
 const WRONG_ARGUMENTS: u8 = 2;
 
 fn run(rt: &(impl Files + Clock + Print + AllocGlobal), job: &Job<'_>) -> Result<()> {
     match job.group {
-        Group::Values => values::measure(rt, job),
+        Group::Symbols => counted::measure::<SymbolTable>(rt, job),
+        Group::Values => counted::measure::<InternStorage<Number>>(rt, job),
     }
 }
 

@@ -1,7 +1,7 @@
 //! The example of the README.
 ghost use Rattle.std.specs.Prelude.{false};
 
-use ra_ap_intern::{InternStorage, Internable, Interned};
+use ra_ap_intern::{InternStorage, Internable, Interned, Symbol, SymbolTable, sym};
 use std::alloc::{AllocError, Global};
 use std::test::Fail;
 
@@ -42,5 +42,27 @@ fn one_copy_of_each_word(rt: HostRuntime) -> Result<(), Fail> {
         Some(make_word(alloc, "hello")?)
     );
     assert!(rt; reference.get(&words).is_none());
+    Ok(())
+}
+
+#[test]
+fn one_symbol_for_each_text(rt: HostRuntime) -> Result<(), Fail> {
+    let mut table = SymbolTable::new(rt.alloc(), 2);
+
+    // A preset's text gives its constant, and is in no table.
+    assert!(rt; Symbol::intern(&mut table, "Clone")? == sym::Clone);
+    assert_eq!(rt; table.len(), 0);
+
+    // Any other text is kept while it is counted.
+    let hello = Symbol::intern(&mut table, "hello")?;
+    let again = Symbol::intern(&mut table, "hello")?;
+    assert!(rt; hello == again);
+    assert_eq!(rt; table.count(&hello), Some(2));
+    assert_eq!(rt; hello.as_str(&table), Some("hello"));
+
+    // A number's digits are a symbol too, and are read back.
+    let number = sym::Integer::get(&mut table, 1000)?;
+    assert_eq!(rt; sym::Integer::as_uint(&number, &table), Some(1000));
+    assert_eq!(rt; table.len(), 2);
     Ok(())
 }

@@ -183,6 +183,16 @@ fn nothing_in_nothing_out(rt: HostRuntime) -> Result<(), Fail> {
 }
 
 #[test]
+fn errors_are_passed_through(rt: HostRuntime) {
+    for kind in [ErrorKind::Interrupted, ErrorKind::Other] {
+        let mut input = make_source(TEXT, READ_STEP, Some(0), kind);
+        assert_eq!(rt; input.read(&mut [0; 1]).map_err(|e| e.kind()), Err(kind));
+        let mut output = make_sink(rt.alloc(), WRITE_STEP, Some(0), Some(kind));
+        assert_eq!(rt; output.write(b"a").map_err(|e| e.kind()), Err(kind));
+    }
+}
+
+#[test]
 fn fails_at_each_read_in_turn(rt: HostRuntime) -> Result<(), Fail> {
     for kind in [ErrorKind::Interrupted, ErrorKind::Other] {
         for at in 0..READS {

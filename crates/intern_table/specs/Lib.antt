@@ -1,4 +1,5 @@
 pub mod Buckets
+pub mod Forms
 pub mod Hashes
 pub mod Row
 pub mod Rows

@@ -7,26 +7,39 @@ ghost use Rattle.std.proofs.Common.{rules};
 
 use crate::hashing::hash_value;
 use crate::offer::Offer;
+use arrayvec::ArrayString;
 use std::alloc::Global;
 use std::cmp::Eq;
 use std::hash::{BuildHasherDefault, FoldHasher, Hash, Hasher};
 use std::marker::Model;
 
-/// A text that is kept. Contracts see its bytes, and not the room that they lie in.
+/// How many bytes a short text has at most.
+const SHORT: usize = 24;
+
+/// A text that is kept. A short one lies in the entry itself. Contracts see its bytes, and not the
+/// room that they lie in.
 #[derive(Drop)]
 pub struct Text {
-    text: String,
+    form: Form,
+}
+
+#[derive(Drop)]
+enum Form {
+    Short(ArrayString<SHORT>),
+    Long(String),
 }
 
 impl Model for Text {
-    ghost use Rattle.std.specs.Prelude.{List, ℕ, string_bytes};
+    ghost use Rattle.std.specs.Prelude.{List, ℕ};
     ghost use Rattle.std.specs.Coded.{coded_list, coded_ℕ};
 
     ghost Value = { List ℕ };
 
     ghost coded = { coded_list coded_ℕ };
 
-    ghost view = { λ a. string_bytes a.text };
+    ghost use Rattle.intern_table.specs.Forms.{form_bytes};
+
+    ghost view = { λ a. form_bytes a.form };
 }
 
 impl PartialEq for Text {
@@ -35,7 +48,7 @@ impl PartialEq for Text {
     ghost laws = { Prim.search (comparing, rules) };
 
     fn eq(&self, other: &Text) -> bool {
-        self.text == other.text
+        self.as_str() == other.as_str()
     }
 }
 
@@ -49,7 +62,7 @@ impl Hash for Text {
     ghost respects_eq = { Prim.search (hashing, rules) };
 
     fn hash<H: Hasher>(&self, state: &mut H) {
-        self.text.hash(state);
+        self.as_str().hash(state);
     }
 }
 
@@ -58,7 +71,10 @@ impl Text {
     pub fn as_str(&self) -> &str
         ensures { result.now ≡ self.now }
     {
-        self.text.as_str()
+        match &self.form {
+            Form::Short(text) => text.as_str(),
+            Form::Long(text) => text.as_str(),
+        }
     }
 }
 
@@ -75,8 +91,15 @@ impl<'a> Offer<Text> for &'a str {
     }
 
     fn into_value(self, alloc: Global) -> Result<Text, &'a str> {
+        if let Ok(text) = ArrayString::from(self) {
+            return Ok(Text {
+                form: Form::Short(text),
+            });
+        }
         match String::from_str(alloc, self) {
-            Ok(text) => Ok(Text { text }),
+            Ok(text) => Ok(Text {
+                form: Form::Long(text),
+            }),
             Err(_) => Err(self),
         }
     }

@@ -48,7 +48,8 @@ impl Model for SymbolTable {
 ///
 /// Symbols are compared and hashed by what they name alone, so two of one table are equal exactly if
 /// their texts are.
-#[derive(PartialEq, Eq, Hash, Drop)]
+#[derive(Drop)]
+#[derive(PartialEq, Eq, Hash)]
 pub struct Symbol(Kind);
 
 #[derive(PartialEq, Eq, Hash, Drop)]

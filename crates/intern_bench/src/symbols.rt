@@ -1,0 +1,43 @@
+//! The workload `sym`: symbols of texts that are no presets.
+use crate::counted::Counted;
+use crate::failure::Failure;
+use ra_ap_intern::{Refusal, Symbol, SymbolTable};
+use std::alloc::{AllocError, Global};
+
+impl Counted for SymbolTable {
+    type Input = String;
+
+    type Handle = Symbol;
+
+    fn make(alloc: Global) -> SymbolTable {
+        SymbolTable::new(alloc, 0)
+    }
+
+    fn input(alloc: Global, number: u64) -> Result<String, AllocError> {
+        format!(in alloc; "x{number}")
+    }
+
+    fn entries(&self) -> usize {
+        self.len()
+    }
+
+    fn intern(&mut self, input: &String) -> Result<Symbol, Failure> {
+        Ok(Symbol::intern(self, input.as_str())?)
+    }
+
+    fn filler(&self, _handle: &Symbol) -> Result<Symbol, Failure> {
+        Ok(Symbol::empty())
+    }
+
+    // The text's length and its last byte.
+    fn read(&self, handle: &Symbol) -> Result<u64, Failure> {
+        let text = handle.as_str(self).ok_or(Refusal::Gone)?;
+        let last = text.as_bytes().last().copied().unwrap_or(0);
+        Ok((text.len() as u64).wrapping_add(u64::from(last)))
+    }
+
+    fn release(&mut self, handle: Symbol) -> Result<(), Failure> {
+        handle.release(self)?;
+        Ok(())
+    }
+}
