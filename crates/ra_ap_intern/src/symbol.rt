@@ -15,7 +15,6 @@ ghost use Rattle.ra_ap_intern.specs.declared.symbol.symbols.TheConstants as sym;
 mod numbered;
 pub mod symbols;
 
-use intern_presets::{place, text};
 use intern_store::{Handle, Limits, Refusal, Refused, Store};
 use intern_table::{Table, Text};
 use std::alloc::Global;
@@ -120,7 +119,7 @@ impl Symbol {
         ensures refused { IfErr result (λ why. IsWhy (due_symbol table.old text.now) (is_new_text table.old text.now) why) }
         ensures state { table.new ≡ (if is_ok result then (symbol_in table.old text.now).1 else table.old) }
     {
-        if let Some(preset) = place(text) {
+        if let Some(preset) = intern_presets::place(text) {
             return Ok(Symbol(Kind::Preset(preset)));
         }
         match table.store.intern_counted(text) {
@@ -142,7 +141,7 @@ impl Symbol {
         ensures { option_map (λ t. t.now) result ≡ text_of table.now (symbol_name self.now) }
     {
         match self.0 {
-            Kind::Preset(place) => text(place),
+            Kind::Preset(place) => intern_presets::text(place),
             Kind::Runtime(handle) => match table.store.own(handle) {
                 None => None,
                 Some(texts) => match texts.get(handle.spot()) {
