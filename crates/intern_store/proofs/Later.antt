@@ -3,8 +3,8 @@ use Rattle.std.proofs.Common.{◌≡◌, ◌≢◌, ℕ, ◌+◌, ◌-◌, Bool,
 use Rattle.std.specs.FinMap as map
 use Rattle.std.proofs.lemmas.Bool.{ne_eqb}
 use Rattle.intern_store.specs.Kept.{Kept}
-use Rattle.intern_store.specs.State.{State, IsGone, entry_at, with_count, counted_up, counted_down, birth_of, or_added, interned, taken, is_last, released}
-use Rattle.intern_store.proofs.Compared.{get-inserted, get-removed}
+use Rattle.intern_store.specs.State.{State, IsGone, entry_at, with_count, counted_up, counted_down, birth_of, or_added, interned, taken, is_last, released, kept}
+use Rattle.intern_store.proofs.Compared.{get-inserted, get-removed, get-retained}
 
 module _ {V : Type 0} where
   -- an entry that is written at another birth
@@ -44,6 +44,13 @@ module _ {V : Type 0} where
       either : (t : Bool) → cond t None (map.get s.map b) ≡ None
       either true = refl
       either false = gone.none
+
+  pub kept_gone : (s : State V) (marked : ℕ → Bool) (b : ℕ) → IsGone s b → IsGone (kept s marked) b
+  kept_gone s marked b gone = record { given = gone.given; none = get-retained s.map marked b ∙ either _ }
+    where
+      either : (t : Bool) → cond t (map.get s.map b) None ≡ None
+      either true = gone.none
+      either false = refl
 
   pub released_gone : (stays : Bool) (s : State V) (c b : ℕ) → IsGone s b → IsGone (released stays s c) b
   released_gone stays s c b gone = go (is_last stays s c)

@@ -9,7 +9,7 @@ use Rattle.std.proofs.lemmas.Bool.{cases_eq, eq-eqb, ne_eqb}
 use Rattle.std.proofs.lemmas.Option.{same_Some}
 use Rattle.intern_store.specs.Kept.{Kept, is_at}
 use Rattle.intern_store.specs.State.{State, IsState, entry_at, with_count, added, added_with, counted_up, birth_of, or_added, interned}
-use Rattle.intern_store.proofs.Compared.{get-inserted, get-removed}
+use Rattle.intern_store.proofs.Compared.{get-inserted, get-removed, get-retained}
 
 module _ {T : Type 0} (eq : T → T → Bool) where
   pub empty_state : (number top numbers : ℕ) (m : FinMap nat_cmp (Kept T)) → 0 < top → m ≡ map.empty → IsState eq (record { number = number; next = 0; top = top; numbers = numbers; map = m })
@@ -71,6 +71,20 @@ module _ {T : Type 0} (eq : T → T → Bool) where
       now : (q : ℕ) → q ≡ s.next → map.get m q ≡ Some (record { value = v; count = n })
       now q same = at_any q ∙ ap (λ t. cond t (Some (record { value = v; count = n })) (map.get s.map q)) (eq-eqb q s.next same)
 
+  -- a part of the entries is left
+  left_state : (s : State T) (m : FinMap nat_cmp (Kept T)) → IsState eq s → ((q : ℕ) (k : Kept T) → map.get m q ≡ Some k → map.get s.map q ≡ Some k) → IsState eq (record s { map = m })
+  left_state s m is was = record {
+    below = λ q some. is.below q (some_was q (map.get m q) refl some);
+    within = is.within;
+    counts = λ q k had. is.counts q k (was q k had);
+    apart = λ q c k l had other e. is.apart q c k l (was q k had) (was c l other) e;
+    counted = is.counted;
+  }
+    where
+      some_was : (q : ℕ) (o : Option (Kept T)) → map.get m q ≡ o → IsSome o → IsSome (map.get s.map q)
+      some_was q None e some = absurd (cc)
+      some_was q (Some k) e some = ap is_some (was q k e)
+
   -- an entry that is left after a removal was there
   pub still : (m : FinMap nat_cmp (Kept T)) (b q : ℕ) (k : Kept T) → map.get (map.remove m b) q ≡ Some k → map.get m q ≡ Some k
   still m b q k had = go (nat_eq q b) (sym (get-removed m b q) ∙ had)
@@ -79,18 +93,15 @@ module _ {T : Type 0} (eq : T → T → Bool) where
       go true e = absurd (cc)
       go false e = e
 
-  some_still : (m : FinMap nat_cmp (Kept T)) (b q : ℕ) (o : Option (Kept T)) → map.get (map.remove m b) q ≡ o → IsSome o → IsSome (map.get m q)
-  some_still m b q None e some = absurd (cc)
-  some_still m b q (Some k) e some = ap is_some (still m b q k e)
-
   pub taken_state : (s : State T) (b : ℕ) (m : FinMap nat_cmp (Kept T)) → IsState eq s → m ≡ map.remove s.map b → IsState eq (record s { map = m })
-  taken_state s b m is removed = record {
-    below = λ q some. is.below q (some_still s.map b q _ refl (ap (λ n. is_some (map.get n q)) (sym removed) ∙ some));
-    within = is.within;
-    counts = λ q k had. is.counts q k (still s.map b q k (ap (λ n. map.get n q) (sym removed) ∙ had));
-    apart = λ q c k l had other e. is.apart q c k l (still s.map b q k (ap (λ n. map.get n q) (sym removed) ∙ had)) (still s.map b c l (ap (λ n. map.get n c) (sym removed) ∙ other)) e;
-    counted = is.counted;
-  }
+  taken_state s b m is removed = left_state s m is (λ q k had. still s.map b q k (sym (ap (λ n. map.get n q) removed) ∙ had))
+
+  pub kept_state : (s : State T) (marked : ℕ → Bool) (m : FinMap nat_cmp (Kept T)) → IsState eq s → m ≡ map.retain_keys s.map marked → IsState eq (record s { map = m })
+  kept_state s marked m is kept = left_state s m is (λ q k had. go (marked q) q k (sym (ap (λ n. map.get n q) kept ∙ get-retained s.map marked q) ∙ had))
+    where
+      go : (t : Bool) (q : ℕ) (k : Kept T) → cond t (map.get s.map q) None ≡ Some k → map.get s.map q ≡ Some k
+      go true q k e = e
+      go false q k e = absurd (cc)
 
   -- one entry has another count
   pub recounted_state : (s : State T) (b n : ℕ) (k : Kept T) (m : FinMap nat_cmp (Kept T)) → IsState eq s → map.get s.map b ≡ Some k → n ≤ s.top

@@ -97,6 +97,10 @@ module _ {V : Type 0} where
   abbrev pub taken : State V → ℕ → State V
   taken s b = record s { map = map.remove s.map b }
 
+  -- with the entries of marked births alone
+  abbrev pub kept : State V → (ℕ → Bool) → State V
+  kept s marked = record s { map = map.retain_keys s.map marked }
+
   -- with a new entry of this count
   abbrev pub added_with : ℕ → State V → V → State V
   added_with n s v = record s { next = s.next + 1; map = map.insert s.map s.next (record { value = v; count = n }) }

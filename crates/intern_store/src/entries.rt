@@ -1,13 +1,15 @@
 //! What a store asks of the table that keeps its entries.
-ghost use Rattle.std.specs.Prelude.{◌≡◌, ℕ, IsSome, is_some, Some, None, OnOk, OnErr, IfErr, IfSome, IfNone, true, false};
+ghost use Rattle.std.specs.Prelude.{◌≡◌, ℕ, Bool, nat_eq, IsSome, is_some, Some, None, OnOk, OnErr, IfErr, IfSome, IfNone, true, false};
 ghost use Rattle.std.specs.Option.{option_map};
 ghost use Rattle.std.specs.FinMap as map;
 ghost use Rattle.std.specs.Ordering.{nat_cmp};
+ghost use Rattle.std.specs.HashSet.{contains};
 ghost use Rattle.intern_store.specs.Kept.{Kept, is_at};
 
 use crate::names::Spot;
 use std::alloc::Global;
 use std::cmp::Eq;
+use std::collections::HashSet;
 
 /// Values with counts, each under a birth. Only an insertion takes memory.
 pub trait Entries: Sized {
@@ -64,4 +66,30 @@ pub trait Takes<O>: Entries {
         ensures ok { OnOk result (Self.entries self.new ≡ map.insert (Self.entries self.old) birth (record { value = value offer; count = count })) }
         ensures err { OnErr result (Self.entries self.new ≡ Self.entries self.old) }
         ensures back { IfErr result (λ back. back ≡ offer) };
+}
+
+/// Which births a sweep keeps.
+pub trait Marks {
+    // The births that are kept.
+    ghost marked: { Self → ℕ → Bool };
+
+    /// Whether the entry of a birth is kept.
+    fn is_marked(&self, birth: u64) -> bool
+        ensures { result ≡ marked self.now birth };
+}
+
+// A set of births keeps those that it has.
+impl Marks for HashSet<u64> {
+    ghost marked = { λ s. contains nat_eq s };
+
+    fn is_marked(&self, birth: u64) -> bool {
+        self.contains(&birth)
+    }
+}
+
+/// A table that can be cut to the entries that are marked.
+pub trait Sweeps<M: Marks>: Entries {
+    /// Drops every entry that isn't marked. It takes no memory.
+    fn keep(&mut self, marks: &M)
+        ensures { Self.entries self.new ≡ map.retain_keys (Self.entries self.old) (M.marked marks.now) };
 }

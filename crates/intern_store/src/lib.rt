@@ -5,6 +5,6 @@ mod entries;
 mod names;
 mod store;
 
-pub use entries::{Entries, Removes, Takes};
+pub use entries::{Entries, Marks, Removes, Sweeps, Takes};
 pub use names::{Handle, Limits, Name, Refusal, Refused, Spot};
 pub use store::Store;

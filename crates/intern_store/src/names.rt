@@ -27,7 +27,7 @@ pub struct Name {
 /// Where an entry is: its birth, and the place where it lay when it was found.
 ///
 /// The birth alone decides. The place is a hint, which saves a look-up where it is right.
-#[derive(Clone, Copy, Default)]
+#[derive(Clone, Copy)]
 pub struct Spot {
     /// The entry's birth.
     pub birth: u64,

@@ -2,9 +2,9 @@
 ghost use Rattle.std.specs.Prelude.{◌≡◌, ◌<◌, ◌≤◌, true, Some, None, IsSome, IfSome, IfNone, ◌≢◌, IfOk, IfErr, OnOk, is_ok, if◌then◌else◌};
 ghost use Rattle.std.specs.FinMap as map;
 ghost use Rattle.std.specs.Option.{option_map};
-ghost use Rattle.intern_store.specs.State.{IsState, new_state, name_in, entry_at, count_at, counts, counted_up, counted_down, taken, added_with, birth_of, is_new, interned, offered_back, due, due_at, due_adding, due_interning, full, zero_count, any_count, IsWhy, freed, released};
+ghost use Rattle.intern_store.specs.State.{IsState, new_state, name_in, entry_at, count_at, counts, counted_up, counted_down, taken, added_with, birth_of, is_new, interned, offered_back, due, due_at, due_adding, due_interning, full, zero_count, any_count, IsWhy, freed, released, kept};
 
-use crate::entries::{Entries, Removes, Takes};
+use crate::entries::{Entries, Marks, Removes, Sweeps, Takes};
 use crate::names::{Handle, Limits, Name, Refusal, Refused, Spot};
 use std::alloc::Global;
 use std::marker::Model;
@@ -299,5 +299,17 @@ impl<E: Removes> Store<E> {
         }
         self.lower(handle.spot(), count);
         Ok(None)
+    }
+}
+
+impl<E: Entries> Store<E> {
+    /// Drops every entry that isn't marked. It takes no memory, and the births stay given.
+    pub fn keep<M: Marks>(&mut self, marks: &M)
+    where
+        E: Sweeps<M>,
+        ensures { self.new ≡ kept self.old (M.marked marks.now) }
+    {
+        let _next = self.next;
+        self.table.keep(marks);
     }
 }

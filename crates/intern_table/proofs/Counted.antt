@@ -1,14 +1,16 @@
--- The rows of a table of values, and the entries that they are seen as.
-use Rattle.std.proofs.Common.{◌≡◌, ℕ, Bool, true, false, cond, Option, Some, None, IsSome, IfNone, is_some, Result, Ok, Err, OnOk, OnErr, refl, sym, ap, subst, ◌∙◌}
+-- The rows of a table, and the entries that they are seen as.
+use Rattle.std.proofs.Common.{◌≡◌, ℕ, Bool, true, false, cond, Option, Some, None, IsSome, IfNone, is_some, ◌||◌, List, inl, inr, nat_eq, Result, Ok, Err, OnOk, OnErr, refl, sym, ap, subst, ◌∙◌}
 use Rattle.std.specs.Option.{option_map}
-use Rattle.std.specs.Ordering.{nat_cmp, eq_by_cmp}
-use Rattle.std.specs.Cmp.{nat_cmp_total}
-use Rattle.std.specs.FinMap.{FinMap, empty, get, insert, remove, get-empty, get-insert, get-remove}
-use Rattle.std.proofs.lemmas.Bool.{eq-eqb}
+use Rattle.std.specs.Ordering.{nat_cmp}
+use Rattle.std.specs.FinMap.{FinMap, empty, get, insert, remove, retain_keys, get-empty}
+use Rattle.std.proofs.lemmas.Bool.{eq-eqb, eqb-true, or_cases}
 use Rattle.std.proofs.lemmas.Option.{same_Some}
 use Rattle.intern_store.specs.Kept.{Kept, is_at}
+use Rattle.intern_store.proofs.Compared.{get-inserted, get-removed, get-retained}
+use Rattle.intern_store.specs.declared.names.Spot.{Spot}
+use Rattle.intern_table.specs.Buckets.{has_birth, is_spot}
 use Rattle.intern_table.specs.Row.{Row, has_hash}
-use Rattle.intern_table.specs.Rows.{kept_row, kept_rows, IsHashed}
+use Rattle.intern_table.specs.Rows.{map_values, IsHashed}
 use Rattle.intern_table.proofs.MapValues.{get-map_values, map_values-insert}
 
 -- a test is false, if from its truth it follows that it is false
@@ -24,101 +26,119 @@ pub ok_then : {X E P Q : Type 0} (r : Result X E) → (P → Q) → OnOk r P →
 ok_then (Ok x) f p = f p
 ok_then (Err e) f p = p
 
-module _ {T : Type 0} where
-  -- the entry of a birth is its row
-  pub seen : (m : FinMap nat_cmp (Row T ℕ)) (k : FinMap nat_cmp (Kept T)) → kept_rows m ≡ k → (b : ℕ) → get k b ≡ option_map kept_row (get m b)
-  seen m k view b = ap (λ n. get n b) (sym view) ∙ get-map_values kept_row m b
+-- a test that fails at a spot, fails at its birth
+pub fails_at : (test : ℕ → Bool) (o : Option Spot) (s : Spot) → o ≡ Some s → test s.birth ≡ false → (b : ℕ) → is_spot o b ≡ true → test b ≡ false
+fails_at test o s is fails b its = let same = eqb-true s.birth b (sym (ap (λ o. is_spot o b) is) ∙ its) in ap test (sym same) ∙ fails
 
-  -- what is read of an entry is what is read of its row
-  pub value_seen : (m : FinMap nat_cmp (Row T ℕ)) (k : FinMap nat_cmp (Kept T)) → kept_rows m ≡ k → (b : ℕ) → option_map (λ r. r.value) (get m b) ≡ option_map (λ e. e.value) (get k b)
-  value_seen m k view b = go (get m b) ∙ sym (ap (option_map (λ e. e.value)) (seen m k view b))
-    where
-      go : (o : Option (Row T ℕ)) → option_map (λ r. r.value) o ≡ option_map (λ e. e.value) (option_map kept_row o)
-      go None = refl
-      go (Some r) = refl
+-- a test fails at no spot
+pub fails_nowhere : (test : ℕ → Bool) (o : Option Spot) → ((s : Spot) → o ≡ Some s → ⊥) → (b : ℕ) → is_spot o b ≡ true → test b ≡ false
+fails_nowhere test None none b its = absurd (cc)
+fails_nowhere test (Some s) none b its = absurd (none s refl)
 
-  pub count_seen : (m : FinMap nat_cmp (Row T ℕ)) (k : FinMap nat_cmp (Kept T)) → kept_rows m ≡ k → (b : ℕ) → option_map (λ r. r.note) (get m b) ≡ option_map (λ e. e.count) (get k b)
-  count_seen m k view b = go (get m b) ∙ sym (ap (option_map (λ e. e.count)) (seen m k view b))
-    where
-      go : (o : Option (Row T ℕ)) → option_map (λ r. r.note) o ≡ option_map (λ e. e.count) (option_map kept_row o)
-      go None = refl
-      go (Some r) = refl
+-- a test that fails at one spot and at others, fails at all of them
+pub fails_at_all : (test : ℕ → Bool) (o : Option Spot) (spots : List Spot) → ((b : ℕ) → is_spot o b ≡ true → test b ≡ false) → ((b : ℕ) → has_birth spots b ≡ true → test b ≡ false)
+    → (b : ℕ) → (is_spot o b || has_birth spots b) ≡ true → test b ≡ false
+fails_at_all test o spots first rest b its =
+    elim (or_cases _ _ its) [
+      | inl is ↦ first b is
+      | inr is ↦ rest b is
+    ]
 
-  pub is_some_seen : (m : FinMap nat_cmp (Row T ℕ)) (k : FinMap nat_cmp (Kept T)) → kept_rows m ≡ k → (b : ℕ) → is_some (get m b) ≡ is_some (get k b)
-  is_some_seen m k view b = go (get m b) ∙ sym (ap is_some (seen m k view b))
-    where
-      go : (o : Option (Row T ℕ)) → is_some o ≡ is_some (option_map kept_row o)
-      go None = refl
-      go (Some r) = refl
+module _ {T N V : Type 0} (entry : Row T N → Kept V) where
+  module _ (m : FinMap nat_cmp (Row T N)) (k : FinMap nat_cmp (Kept V)) (view : map_values entry m ≡ k) where
+    -- the entry of a birth is that of its row
+    pub seen : (b : ℕ) → get k b ≡ option_map entry (get m b)
+    seen b = ap (λ n. get n b) (sym view) ∙ get-map_values entry m b
 
-  -- an entry has a row, and where there is none there is no row
-  pub row_of : (m : FinMap nat_cmp (Row T ℕ)) (k : FinMap nat_cmp (Kept T)) → kept_rows m ≡ k → (b : ℕ) (e : Kept T) → get k b ≡ Some e → (r : Row T ℕ) × (get m b ≡ Some r) × (kept_row r ≡ e)
-  row_of m k view b e had = go (get m b) refl (sym (seen m k view b) ∙ had)
-    where
-      go : (o : Option (Row T ℕ)) → get m b ≡ o → option_map kept_row o ≡ Some e → (r : Row T ℕ) × (get m b ≡ Some r) × (kept_row r ≡ e)
-      go None at is = absurd (cc)
-      go (Some r) at is = (r, at, same_Some _ _ is)
+    -- what is read of an entry is what is read of its row
+    pub read_seen : {X : Type 0} (f : Kept V → X) (b : ℕ) → option_map (λ r. f (entry r)) (get m b) ≡ option_map f (get k b)
+    read_seen {X} f b = go (get m b) ∙ sym (ap (option_map f) (seen b))
+      where
+        go : (o : Option (Row T N)) → option_map (λ r. f (entry r)) o ≡ option_map f (option_map entry o)
+        go None = refl
+        go (Some r) = refl
 
-  pub has_row : (m : FinMap nat_cmp (Row T ℕ)) (k : FinMap nat_cmp (Kept T)) → kept_rows m ≡ k → (b : ℕ) → IsSome (get k b) → IsSome (get m b)
-  has_row m k view b some = go (get m b) (ap is_some (sym (seen m k view b)) ∙ some)
-    where
-      go : (o : Option (Row T ℕ)) → IsSome (option_map kept_row o) → IsSome o
-      go None some = some
-      go (Some r) some = refl
+    pub is_some_seen : (b : ℕ) → is_some (get m b) ≡ is_some (get k b)
+    is_some_seen b = go (get m b) ∙ sym (ap is_some (seen b))
+      where
+        go : (o : Option (Row T N)) → is_some o ≡ is_some (option_map entry o)
+        go None = refl
+        go (Some r) = refl
 
-  pub no_row : (m : FinMap nat_cmp (Row T ℕ)) (k : FinMap nat_cmp (Kept T)) → kept_rows m ≡ k → (b : ℕ) → get k b ≡ None → get m b ≡ None
-  no_row m k view b none = go (get m b) (sym (seen m k view b) ∙ none)
-    where
-      go : (o : Option (Row T ℕ)) → option_map kept_row o ≡ None → o ≡ None
-      go None e = refl
-      go (Some r) e = absurd (cc)
+    -- an entry has a row, and where there is none there is no row
+    pub row_of : (b : ℕ) (e : Kept V) → get k b ≡ Some e → (r : Row T N) × (get m b ≡ Some r) × (entry r ≡ e)
+    row_of b e had = go (get m b) refl (sym (seen b) ∙ had)
+      where
+        go : (o : Option (Row T N)) → get m b ≡ o → option_map entry o ≡ Some e → (r : Row T N) × (get m b ≡ Some r) × (entry r ≡ e)
+        go None at is = absurd (cc)
+        go (Some r) at is = (r, at, same_Some _ _ is)
 
-  module _ (hash : T → ℕ) where
-    pub empty_hashed : (m : FinMap nat_cmp (Row T ℕ)) → m ≡ empty → IsHashed hash m
+    pub has_row : (b : ℕ) → IsSome (get k b) → IsSome (get m b)
+    has_row b some = is_some_seen b ∙ some
+
+    pub no_row : (b : ℕ) → get k b ≡ None → get m b ≡ None
+    no_row b none = go (get m b) (sym (seen b) ∙ none)
+      where
+        go : (o : Option (Row T N)) → option_map entry o ≡ None → o ≡ None
+        go None e = refl
+        go (Some r) e = absurd (cc)
+
+  module _ (hash : V → ℕ) where
+    pub empty_hashed : (m : FinMap nat_cmp (Row T N)) → m ≡ empty → IsHashed entry hash m
     empty_hashed m none = record { hashed = λ b r had. let gone = ap (λ n. get n b) none ∙ get-empty nat_cmp b in absurd (cc) }
 
-    pub removed_hashed : (m n : FinMap nat_cmp (Row T ℕ)) (b : ℕ) → IsHashed hash m → n ≡ remove m b → IsHashed hash n
-    removed_hashed m n b is removed = record { hashed = λ q r had. is.hashed q r (go (eq_by_cmp nat_cmp q b) q r (sym (ap (λ x. get x q) removed ∙ get-remove nat_cmp_total m b q) ∙ had)) }
+    pub removed_hashed : (m n : FinMap nat_cmp (Row T N)) (b : ℕ) → IsHashed entry hash m → n ≡ remove m b → IsHashed entry hash n
+    removed_hashed m n b is removed = record { hashed = λ q r had. is.hashed q r (go (nat_eq q b) q r (sym (ap (λ x. get x q) removed ∙ get-removed m b q) ∙ had)) }
       where
-        go : (t : Bool) (q : ℕ) (r : Row T ℕ) → cond t None (get m q) ≡ Some r → get m q ≡ Some r
+        go : (t : Bool) (q : ℕ) (r : Row T N) → cond t None (get m q) ≡ Some r → get m q ≡ Some r
         go true q r e = absurd (cc)
         go false q r e = e
 
-    pub added_hashed : (m n : FinMap nat_cmp (Row T ℕ)) (b : ℕ) (r : Row T ℕ) → IsHashed hash m → r.hash ≡ hash r.value → n ≡ insert m b r → IsHashed hash n
-    added_hashed m n b r is hashes added = record { hashed = λ q x had. go (eq_by_cmp nat_cmp q b) q x (sym (ap (λ x. get x q) added ∙ get-insert nat_cmp_total m b r q) ∙ had) }
+    pub retained_hashed : (m n : FinMap nat_cmp (Row T N)) (marked : ℕ → Bool) → IsHashed entry hash m → n ≡ retain_keys m marked → IsHashed entry hash n
+    retained_hashed m n marked is retained = record { hashed = λ q r had. is.hashed q r (go (marked q) q r (sym (ap (λ x. get x q) retained ∙ get-retained m marked q) ∙ had)) }
       where
-        go : (t : Bool) (q : ℕ) (x : Row T ℕ) → cond t (Some r) (get m q) ≡ Some x → x.hash ≡ hash x.value
-        go true q x e = let same : r ≡ x = same_Some _ _ e in ap (λ y. y.hash) (sym same) ∙ hashes ∙ ap (λ y. hash y.value) same
+        go : (t : Bool) (q : ℕ) (r : Row T N) → cond t (get m q) None ≡ Some r → get m q ≡ Some r
+        go true q r e = e
+        go false q r e = absurd (cc)
+
+    pub added_hashed : (m n : FinMap nat_cmp (Row T N)) (b : ℕ) (r : Row T N) → IsHashed entry hash m → r.hash ≡ hash (entry r).value → n ≡ insert m b r → IsHashed entry hash n
+    added_hashed m n b r is hashes added = record { hashed = λ q x had. go (nat_eq q b) q x (sym (ap (λ x. get x q) added ∙ get-inserted m b r q) ∙ had) }
+      where
+        go : (t : Bool) (q : ℕ) (x : Row T N) → cond t (Some r) (get m q) ≡ Some x → x.hash ≡ hash (entry x).value
+        go true q x e = let same : r ≡ x = same_Some _ _ e in ap (λ y. y.hash) (sym same) ∙ hashes ∙ ap (λ y. hash (entry y).value) same
         go false q x e = is.hashed q x e
 
     -- the same, where the addition may be refused
-    pub offered_hashed : {X E : Type 0} (m n : FinMap nat_cmp (Row T ℕ)) (b : ℕ) (r : Row T ℕ) → IsHashed hash m → r.hash ≡ hash r.value
-        → (o : Result X E) → OnOk o (n ≡ insert m b r) → OnErr o (n ≡ m) → IsHashed hash n
+    pub offered_hashed : {X E : Type 0} (m n : FinMap nat_cmp (Row T N)) (b : ℕ) (r : Row T N) → IsHashed entry hash m → r.hash ≡ hash (entry r).value
+        → (o : Result X E) → OnOk o (n ≡ insert m b r) → OnErr o (n ≡ m) → IsHashed entry hash n
     offered_hashed m n b r is hashes (Ok x) added kept = added_hashed m n b r is hashes added
-    offered_hashed m n b r is hashes (Err e) added kept = subst (IsHashed hash) (sym kept) is
+    offered_hashed m n b r is hashes (Err e) added kept = subst (IsHashed entry hash) (sym kept) is
 
-    module _ (m n : FinMap nat_cmp (Row T ℕ)) (k : FinMap nat_cmp (Kept T)) (b c : ℕ) (is : IsHashed hash m) (view : kept_rows m ≡ k)
-        (set : (r : Row T ℕ) → get m b ≡ Some r → n ≡ insert m b (record r { note = c }))
+    -- the count of an entry is set, by a change of the note of its row
+    module _ (m n : FinMap nat_cmp (Row T N)) (k : FinMap nat_cmp (Kept V)) (b c : ℕ) (is : IsHashed entry hash m) (view : map_values entry m ≡ k)
+        (renoted : Row T N → Row T N) (set : (r : Row T N) → get m b ≡ Some r → n ≡ insert m b (renoted r))
+        (same_hash : (r : Row T N) → (renoted r).hash ≡ r.hash) (recounted : (r : Row T N) → entry (renoted r) ≡ record (entry r) { count = c })
       where
-        pub counted_hashed : IsSome (get k b) → IsHashed hash n
+        pub counted_hashed : IsSome (get k b) → IsHashed entry hash n
         counted_hashed some = go (get m b) refl (has_row m k view b some)
           where
-            go : (o : Option (Row T ℕ)) → get m b ≡ o → IsSome o → IsHashed hash n
+            go : (o : Option (Row T N)) → get m b ≡ o → IsSome o → IsHashed entry hash n
             go None at some = absurd (cc)
-            go (Some r) at some = added_hashed m n b (record r { note = c }) is (is.hashed b r at) (set r at)
+            go (Some r) at some = added_hashed m n b (renoted r) is (same_hash r ∙ is.hashed b r at ∙ ap (λ e. hash e.value) (sym (recounted r))) (set r at)
 
-        pub counted_seen : (e : Kept T) → get k b ≡ Some e → kept_rows n ≡ insert k b (record e { count = c })
+        pub counted_seen : (e : Kept V) → get k b ≡ Some e → map_values entry n ≡ insert k b (record e { count = c })
         counted_seen e had =
             let r = row_of m k view b e had in
-            map_values-insert kept_row m n b (record r.0 { note = c }) (set r.0 r.1)
-            ∙ ap (λ x. insert x b (record { value = r.0.value; count = c })) view
+            map_values-insert entry m n b (renoted r.0) (set r.0 r.1)
+            ∙ ap (λ x. insert x b (entry (renoted r.0))) view
+            ∙ ap (insert k b) (recounted r.0)
             ∙ ap (λ x. insert k b (record { value = x.value; count = c })) r.2
 
     -- an entry whose value equals v is listed under the hash of v
-    pub candidate : (eq : T → T → Bool) (v : T) → ((x : T) → eq v x ≡ true → hash v ≡ hash x) → (m : FinMap nat_cmp (Row T ℕ)) (k : FinMap nat_cmp (Kept T)) → IsHashed hash m → kept_rows m ≡ k
+    pub candidate : (eq : V → V → Bool) (v : V) → ((x : V) → eq v x ≡ true → hash v ≡ hash x) → (m : FinMap nat_cmp (Row T N)) (k : FinMap nat_cmp (Kept V)) → IsHashed entry hash m → map_values entry m ≡ k
         → (b : ℕ) → is_at eq v (get k b) ≡ true → has_hash (hash v) (get m b) ≡ true
     candidate eq v alike m k is view b equal = go (get m b) refl (ap (is_at eq v) (sym (seen m k view b)) ∙ equal)
       where
-        go : (o : Option (Row T ℕ)) → get m b ≡ o → is_at eq v (option_map kept_row o) ≡ true → has_hash (hash v) o ≡ true
+        go : (o : Option (Row T N)) → get m b ≡ o → is_at eq v (option_map entry o) ≡ true → has_hash (hash v) o ≡ true
         go None at e = absurd (cc)
-        go (Some r) at e = eq-eqb (hash v) r.hash (alike r.value e ∙ sym (is.hashed b r at))
+        go (Some r) at e = eq-eqb (hash v) r.hash (alike (entry r).value e ∙ sym (is.hashed b r at))

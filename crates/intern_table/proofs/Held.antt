@@ -3,11 +3,11 @@ use Rattle.std.proofs.Common.{◌≡◌, inl, inr, suc, add-one, ℕ, Bool, true
 use Rattle.std.specs.Option.{option_map}
 use Rattle.std.specs.Ordering.{nat_cmp}
 use Rattle.std.specs.Cmp.{nat_cmp_total}
-use Rattle.std.specs.FinMap.{FinMap, empty, get, get-empty, retain_keys, get-retain_keys, len, len-empty, len-insert, same_map, nat_cmp-IsAntisymmetric}
+use Rattle.std.specs.FinMap.{FinMap, empty, get, get-empty, retain_keys, len, len-empty, len-insert, same_map, nat_cmp-IsAntisymmetric}
 use Rattle.std.proofs.lemmas.Bool.{eq-eqb, ne_eqb, cases_eq}
 use Rattle.std.specs.List.{IsDistinct, AllByRecursion}
 use Rattle.std.specs.Map.{lookup, keys_of}
-use Rattle.intern_store.proofs.Compared.{get-inserted, get-removed}
+use Rattle.intern_store.proofs.Compared.{get-inserted, get-removed, get-retained}
 use Rattle.intern_table.specs.Row.{Row}
 use Rattle.intern_table.specs.Tied.{kept, put, held, place_in, found}
 use Rattle.intern_table.specs.declared.index.Entry.{Entry}
@@ -98,7 +98,7 @@ module _ {T N : Type 0} where
       → ((q : ℕ) → found slot' (place_in es' q) ≡ cond (marked q) (found slot (place_in es q)) None) → held slot' es' ≡ retain_keys m marked
   retains marked slot slot' es es' m is change = same _ _ (λ q.
       get-held slot' es' q ∙ ap (option_map kept) (change q) ∙ through (marked q) (found slot (place_in es q))
-      ∙ sym (get-retain_keys m marked q (λ x e. ap marked (sym (nat_cmp-IsAntisymmetric q x e))) ∙ ap (λ o. cond (marked q) o None) (seen slot es m is q)))
+      ∙ sym (get-retained m marked q ∙ ap (λ o. cond (marked q) o None) (seen slot es m is q)))
     where
       through : (t : Bool) (x : Option (Entry T N)) → option_map kept (cond t x None) ≡ cond t (option_map kept x) None
       through true x = refl

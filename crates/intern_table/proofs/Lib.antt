@@ -1,5 +1,12 @@
 mod Counted
+mod Cuts
 mod Held
+mod Joins
+mod Kept
 mod Listed
 mod MapValues
+mod Moves
+mod Pieces
+mod Restarts
 mod Steps
+mod Sweeps

@@ -5,8 +5,9 @@ use Rattle.std.proofs.lemmas.List.{length-map}
 use Rattle.std.specs.Option.{option_map}
 use Rattle.std.specs.Ordering.{nat_cmp, eq_by_cmp, is_lt}
 use Rattle.std.specs.Cmp.{nat_cmp_total}
-use Rattle.std.specs.FinMap.{FinMap, empty, get, insert, remove, len, entries, entries_sorted, entries-from_sorted, find, is_sorted, get-entries, get-empty, get-insert, get-remove, len-entries, same_map, nat_cmp-IsAntisymmetric}
+use Rattle.std.specs.FinMap.{FinMap, empty, get, insert, remove, retain_keys, len, entries, entries_sorted, entries-from_sorted, find, is_sorted, get-entries, get-empty, get-insert, get-remove, len-entries, same_map, nat_cmp-IsAntisymmetric}
 use Rattle.std.specs.FinMap.Entries.{below_all}
+use Rattle.intern_store.proofs.Compared.{get-retained}
 use Rattle.intern_table.specs.Rows.{map_values}
 
 module _ {X Y : Type 0} (f : X → Y) where
@@ -63,3 +64,21 @@ module _ {X Y : Type 0} (f : X → Y) where
       through : (t : Bool) (o : Option X) → option_map f (cond t None o) ≡ cond t None (option_map f o)
       through true o = refl
       through false o = refl
+
+  pub map_values-retain : (m n : FinMap nat_cmp X) (marked : ℕ → Bool) → n ≡ retain_keys m marked → map_values f n ≡ retain_keys (map_values f m) marked
+  map_values-retain m n marked is = same_map nat_cmp_total nat_cmp-IsAntisymmetric _ _ (λ q.
+      get-map_values n q ∙ ap (λ n. option_map f (get n q)) is ∙ ap (option_map f) (get-retained m marked q)
+      ∙ through (marked q) (get m q)
+      ∙ sym (get-retained (map_values f m) marked q ∙ ap (λ o. cond (marked q) o None) (get-map_values m q)))
+    where
+      through : (t : Bool) (o : Option X) → option_map f (cond t o None) ≡ cond t (option_map f o) None
+      through true o = refl
+      through false o = refl
+
+-- two turns that agree on the values of a map
+pub map_values-same : {X Y : Type 0} (f g : X → Y) (m : FinMap nat_cmp X) → ((q : ℕ) (x : X) → get m q ≡ Some x → f x ≡ g x) → map_values f m ≡ map_values g m
+map_values-same {X} f g m agree = same_map nat_cmp_total nat_cmp-IsAntisymmetric _ _ (λ q. get-map_values f m q ∙ through q (get m q) refl ∙ sym (get-map_values g m q))
+  where
+    through : (q : ℕ) (o : Option X) → get m q ≡ o → option_map f o ≡ option_map g o
+    through q None at = refl
+    through q (Some x) at = ap Some (agree q x at)

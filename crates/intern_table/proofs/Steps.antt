@@ -1,7 +1,8 @@
 -- What ties the three parts, after each change of them.
-use Rattle.std.proofs.Common.{◌≡◌, ◌≢◌, inl, inr, ℕ, Bool, true, false, cond, not, ◌&&◌, ◌||◌, List, Option, Some, None, IsSome, is_some, nat_eq, refl, sym, ap, ◌∙◌, rules}
+use Rattle.std.proofs.Common.{◌≡◌, ◌≢◌, ◌⊎◌, inl, inr, ℕ, Bool, true, false, cond, not, ◌&&◌, ◌||◌, List, Option, Some, None, IsSome, is_some, unwrap_or, nat_eq, refl, sym, ap, ◌∙◌, rules}
 use Rattle.std.specs.Option.{option_map}
 use Rattle.std.proofs.lemmas.Bool.{cases_eq, eqb-true, eq-eqb, ne_eqb, and_parts, and_from, or_cases, or_left, or_right}
+use Rattle.intern_table.specs.Buckets.{is_place}
 use Rattle.intern_table.specs.Tied.{place_in, held, found, kept, is_entry, hinted, IsTied}
 use Rattle.std.specs.Ordering.{nat_cmp}
 use Rattle.std.specs.FinMap.{FinMap, get}
@@ -9,10 +10,10 @@ use Rattle.intern_table.specs.Row.{Row, has_hash}
 use Rattle.intern_table.proofs.Held.{at_birth}
 use Rattle.intern_table.specs.declared.index.Entry.{Entry}
 
-here : {X : Type 0} (q b : ℕ) (x y : X) → q ≡ b → cond (nat_eq q b) x y ≡ x
+pub here : {X : Type 0} (q b : ℕ) (x y : X) → q ≡ b → cond (nat_eq q b) x y ≡ x
 here q b x y e = ap (λ t. cond t x y) (eq-eqb q b e)
 
-away : {X : Type 0} (q b : ℕ) (x y : X) → q ≢ b → cond (nat_eq q b) x y ≡ y
+pub away : {X : Type 0} (q b : ℕ) (x y : X) → q ≢ b → cond (nat_eq q b) x y ≡ y
 away q b x y e = ap (λ t. cond t x y) (ne_eqb q b e)
 
 -- a test of two parts that fails at the second
@@ -60,13 +61,68 @@ found_alike {T} {N} place place' slot slot' p s q = ap (found slot') (p q) ∙ g
     go None = refl
     go (Some r) = s r
 
-undone : (x l : Bool) → (x ≡ true → l ≡ false) → ((x || l) && not x) ≡ l
-undone true true h = sym (h refl)
-undone true false h = refl
-undone false true h = refl
-undone false false h = refl
+undone : (s x l : Bool) → (x ≡ true → l ≡ false) → (((s && x) || l) && not x) ≡ l
+undone true true true h = sym (h refl)
+undone true true false h = refl
+undone false true true h = sym (h refl)
+undone false true false h = refl
+undone true false true h = refl
+undone true false false h = refl
+undone false false true h = refl
+undone false false false h = refl
 
-module _ {T N : Type 0} (place : ℕ → Option ℕ) (slot : ℕ → Option (Entry T N)) (is_listed : ℕ → ℕ → Bool) (tied : IsTied place slot is_listed) where
+-- a place that is found is the one that was looked for
+pub its_place : (o : Option ℕ) (p : ℕ) → is_place o p ≡ true → o ≡ Some p
+its_place None p t = absurd (cc)
+its_place (Some q) p t = ap Some (eqb-true q p t)
+
+pub is_its : (o : Option ℕ) (p : ℕ) → o ≡ Some p → is_place o p ≡ true
+is_its o p e = ap (λ o. is_place o p) e ∙ eq-eqb p p refl
+
+-- a place that has an entry is none that is empty
+filled_apart : {T N X : Type 0} (slot : ℕ → Option (Entry T N)) (f : Entry T N → X) (x : X) (p q : ℕ) → slot p ≡ None → option_map f (slot q) ≡ Some x → q ≢ p
+filled_apart slot f x p q empty has = λ same. let none = ap (λ r. option_map f (slot r)) same ∙ ap (option_map f) empty in cc
+
+-- the first of a hash, once another is entered there
+first_new : (h x p : ℕ) (first first' : ℕ → Option ℕ) → ((k : ℕ) → first' k ≡ cond (nat_eq k x) (Some (unwrap_or (first x) p)) (first k)) → first x ≡ None → h ≡ x → first' h ≡ Some p
+first_new h x p first first' entered none same = entered h ∙ here h x _ _ same ∙ ap (λ o. Some (unwrap_or o p)) none
+
+first_old : (h x p r : ℕ) (first first' : ℕ → Option ℕ) → ((k : ℕ) → first' k ≡ cond (nat_eq k x) (Some (unwrap_or (first x) p)) (first k)) → first h ≡ Some r → first' h ≡ Some r
+first_old h x p r first first' entered had =
+    elim (cases_eq h x) [
+      | inl same ↦ entered h ∙ here h x _ _ same ∙ ap (λ o. Some (unwrap_or o p)) (ap first (sym same) ∙ had)
+      | inr differs ↦ entered h ∙ away h x _ _ differs ∙ had
+    ]
+
+-- and it was that before, or is the new one
+first_was : (h x p q : ℕ) (first first' : ℕ → Option ℕ) → ((k : ℕ) → first' k ≡ cond (nat_eq k x) (Some (unwrap_or (first x) p)) (first k)) → first' h ≡ Some q → ((h ≡ x) × (q ≡ p)) ⊎ (first h ≡ Some q)
+first_was h x p q first first' entered is =
+    elim (cases_eq h x) [
+      | inl same ↦ go same (first x) refl (sym (entered h ∙ here h x _ _ same) ∙ is)
+      | inr differs ↦ inr (sym (entered h ∙ away h x _ _ differs) ∙ is)
+    ]
+  where
+    go : h ≡ x → (o : Option ℕ) → first x ≡ o → Some (unwrap_or o p) ≡ Some q → ((h ≡ x) × (q ≡ p)) ⊎ (first h ≡ Some q)
+    go same None at e = let now : q ≡ p = cc in inl (same, now)
+    go same (Some r) at e = inr (ap first same ∙ at ∙ e)
+
+-- the first of a hash, once the entry at a place is forgotten
+first_left : (h x p q : ℕ) (first first' : ℕ → Option ℕ) → ((k : ℕ) → first' k ≡ cond (nat_eq k x && is_place (first k) p) None (first k)) → first h ≡ Some q → q ≢ p → first' h ≡ Some q
+first_left h x p q first first' forgot had differs =
+    forgot h ∙ ap (λ t. cond (nat_eq h x && t) None (first h)) (ap (λ o. is_place o p) had ∙ ne_eqb q p differs) ∙ go (nat_eq h x) ∙ had
+  where
+    go : (s : Bool) → cond (s && false) None (first h) ≡ first h
+    go true = refl
+    go false = refl
+
+first_stood : (h x p q : ℕ) (first first' : ℕ → Option ℕ) → ((k : ℕ) → first' k ≡ cond (nat_eq k x && is_place (first k) p) None (first k)) → first' h ≡ Some q → (first h ≡ Some q) × ((h ≡ x) → (q ≡ p) → ⊥)
+first_stood h x p q first first' forgot is = go (nat_eq h x && is_place (first h) p) refl (sym (forgot h) ∙ is)
+  where
+    go : (t : Bool) → (nat_eq h x && is_place (first h) p) ≡ t → cond t None (first h) ≡ Some q → (first h ≡ Some q) × ((h ≡ x) → (q ≡ p) → ⊥)
+    go true t e = absurd (cc)
+    go false t e = (e, λ same at. let both = and_from _ _ (eq-eqb h x same) (is_its (first h) p (e ∙ ap Some at)) in cc)
+
+module _ {T N : Type 0} (place : ℕ → Option ℕ) (slot : ℕ → Option (Entry T N)) (first : ℕ → Option ℕ) (is_other : ℕ → ℕ → Bool) (tied : IsTied place slot first is_other) where
   -- two births have two places
   apart : (b q p : ℕ) → place b ≡ Some p → place q ≡ Some p → q ≡ b
   apart b q p one other =
@@ -114,26 +170,51 @@ module _ {T N : Type 0} (place : ℕ → Option ℕ) (slot : ℕ → Option (Ent
       go None e = refl
       go (Some p) e = absurd (empty_not (slot p) (ap (λ r. option_map kept (found slot r)) (sym e) ∙ none) (present q p e))
 
-  -- a birth with no place is not listed
-  unheard : (b : ℕ) → place b ≡ None → (h : ℕ) → is_listed h b ≡ false
-  unheard b fresh h = go (is_listed h b) refl
+  -- a birth with no place is not among the others
+  unheard : (b : ℕ) → place b ≡ None → (h : ℕ) → is_other h b ≡ false
+  unheard b fresh h = go (is_other h b) refl
     where
-      go : (t : Bool) → is_listed h b ≡ t → t ≡ false
+      go : (t : Bool) → is_other h b ≡ t → t ≡ false
       go true e = let was = tied.live h b e in let none = ap (λ o. option_map (λ e. e.hash) (found slot o)) fresh in absurd (cc)
       go false e = refl
 
   -- and stays so where it is listed and struck again
-  pub struck_again : (b x : ℕ) → place b ≡ None → (is_listed' is_listed'' : ℕ → ℕ → Bool)
-      → ((h c : ℕ) → is_listed' h c ≡ (nat_eq h x && nat_eq c b) || is_listed h c)
-      → ((h c : ℕ) → is_listed'' h c ≡ is_listed' h c && not (nat_eq h x && nat_eq c b))
-      → (h c : ℕ) → is_listed'' h c ≡ is_listed h c
-  struck_again b x fresh is_listed' is_listed'' in' out h c =
+  pub struck_again : (b x : ℕ) → place b ≡ None → (s : Bool) (is_other' is_other'' : ℕ → ℕ → Bool)
+      → ((h c : ℕ) → is_other' h c ≡ (s && (nat_eq h x && nat_eq c b)) || is_other h c)
+      → ((h c : ℕ) → is_other'' h c ≡ is_other' h c && not (nat_eq h x && nat_eq c b))
+      → (h c : ℕ) → is_other'' h c ≡ is_other h c
+  struck_again b x fresh s is_other' is_other'' in' out h c =
       out h c ∙ ap (λ t. t && not (nat_eq h x && nat_eq c b)) (in' h c)
-      ∙ undone (nat_eq h x && nat_eq c b) (is_listed h c) (λ t. ap (is_listed h) (eqb-true c b (and_parts _ _ t).1) ∙ unheard b fresh h)
+      ∙ undone s (nat_eq h x && nat_eq c b) (is_other h c) (λ t. ap (is_other h) (eqb-true c b (and_parts _ _ t).1) ∙ unheard b fresh h)
+
+  -- the first of a hash has an entry, so it is no empty place
+  occupied : (h q p : ℕ) → slot p ≡ None → first h ≡ Some q → q ≢ p
+  occupied h q p empty is = filled_apart slot (λ e. e.hash) h p q empty (tied.begun h q is)
+
+  -- the first of a hash stays where an empty place is entered there and taken back
+  pub first_again : (x p : ℕ) → slot p ≡ None → (first' first'' : ℕ → Option ℕ)
+      → ((h : ℕ) → first' h ≡ cond (nat_eq h x) (Some (unwrap_or (first x) p)) (first h))
+      → ((h : ℕ) → first'' h ≡ cond (nat_eq h x && is_place (first' h) p) None (first' h))
+      → (h : ℕ) → first'' h ≡ first h
+  first_again x p empty first' first'' in' out h = go (first h) refl
+    where
+      left : (o : Option ℕ) → first' h ≡ o → (h ≡ x → o ≡ Some p) → (h ≢ x → o ≡ None) → first'' h ≡ None
+      left o is new old =
+          elim (cases_eq h x) [
+            | inl same ↦ out h ∙ ap (λ t. cond t None (first' h)) (and_from _ _ (eq-eqb h x same) (is_its (first' h) p (is ∙ new same)))
+            | inr differs ↦ out h ∙ ap (λ t. cond (t && is_place (first' h) p) None (first' h)) (ne_eqb h x differs) ∙ is ∙ old differs
+          ]
+
+      go : (o : Option ℕ) → first h ≡ o → first'' h ≡ o
+      go None at = left (first' h) refl (λ same. first_new h x p first first' in' (ap first (sym same) ∙ at) same) (λ differs. in' h ∙ away h x _ _ differs ∙ at)
+      go (Some r) at = first_left h x p r first' first'' out (first_old h x p r first first' in' at) (occupied h r p empty at)
 
   -- the births that are listed under a hash are those of values of that hash
-  pub listed_is : (h b : ℕ) → is_listed h b ≡ has_hash h (option_map kept (found slot (place b)))
-  listed_is h b = both _ _ (λ t. live_has (found slot (place b)) (tied.live h b t)) (at_place (place b) refl)
+  pub listed_is : (h b : ℕ) → (is_entry (found slot (first h)) b || is_other h b) ≡ has_hash h (option_map kept (found slot (place b)))
+  listed_is h b = both _ _ (λ t. elim (or_cases _ _ t) [
+    | inl its ↦ first_has (first h) refl its
+    | inr other ↦ live_has (found slot (place b)) (tied.live h b other)
+  ]) (at_place (place b) refl)
     where
       both : (s t : Bool) → (s ≡ true → t ≡ true) → (t ≡ true → s ≡ true) → s ≡ t
       both true t up down = sym (up refl)
@@ -144,20 +225,38 @@ module _ {T N : Type 0} (place : ℕ → Option ℕ) (slot : ℕ → Option (Ent
       live_has None e = absurd (cc)
       live_has (Some x) e = let same : x.hash ≡ h = cc in eq-eqb h x.hash (sym same)
 
-      at_slot : (p : ℕ) → place b ≡ Some p → (o : Option (Entry T N)) → slot p ≡ o → has_hash h (option_map kept o) ≡ true → is_listed h b ≡ true
-      at_slot p at None has e = absurd (cc)
-      at_slot p at (Some x) has e = ap (λ k. is_listed k b) (eqb-true h x.hash e) ∙ ap (is_listed x.hash) (sym (own b p x at has)) ∙ tied.listed p x has
+      entry_has : (p : ℕ) → first h ≡ Some p → (o : Option (Entry T N)) → slot p ≡ o → is_entry o b ≡ true → has_hash h (option_map kept (found slot (place b))) ≡ true
+      entry_has p at None has e = absurd (cc)
+      entry_has p at (Some x) has e =
+          let here = sym (ap place (sym (eqb-true x.birth b e)) ∙ tied.slotted p x has) in
+          live_has (found slot (place b)) (ap (λ o. option_map (λ e. e.hash) (found slot o)) (sym here) ∙ tied.begun h p at)
 
-      at_place : (o : Option ℕ) → place b ≡ o → has_hash h (option_map kept (found slot o)) ≡ true → is_listed h b ≡ true
+      first_has : (o : Option ℕ) → first h ≡ o → is_entry (found slot o) b ≡ true → has_hash h (option_map kept (found slot (place b))) ≡ true
+      first_has None at e = absurd (cc)
+      first_has (Some p) at e = entry_has p at (slot p) refl e
+
+      at_slot : (p : ℕ) → place b ≡ Some p → (o : Option (Entry T N)) → slot p ≡ o → has_hash h (option_map kept o) ≡ true → (is_entry (found slot (first h)) b || is_other h b) ≡ true
+      at_slot p at None has e = absurd (cc)
+      at_slot p at (Some x) has e =
+          let its = eqb-true h x.hash e in
+          let birth = own b p x at has in
+          elim (or_cases _ _ (tied.listed p x has)) [
+            | inl is ↦ or_left _ _ (ap (λ o. is_entry (found slot o) b) (ap first its ∙ its_place (first x.hash) p is) ∙ ap (λ o. is_entry o b) has ∙ eq-eqb x.birth b birth)
+            | inr other ↦ or_right _ _ (ap (λ k. is_other k b) its ∙ ap (is_other x.hash) (sym birth) ∙ other)
+          ]
+
+      at_place : (o : Option ℕ) → place b ≡ o → has_hash h (option_map kept (found slot o)) ≡ true → (is_entry (found slot (first h)) b || is_other h b) ≡ true
       at_place None at e = absurd (cc)
       at_place (Some p) at e = at_slot p at (slot p) refl e
 
   -- the same parts, seen alike
-  pub alike : (place' : ℕ → Option ℕ) (slot' : ℕ → Option (Entry T N)) (is_listed' : ℕ → ℕ → Bool) → ((b : ℕ) → place' b ≡ place b) → ((p : ℕ) → slot' p ≡ slot p) → ((h b : ℕ) → is_listed' h b ≡ is_listed h b) → IsTied place' slot' is_listed'
-  alike place' slot' is_listed' p s l = record {
+  pub alike : (place' : ℕ → Option ℕ) (slot' : ℕ → Option (Entry T N)) (first' : ℕ → Option ℕ) (is_other' : ℕ → ℕ → Bool)
+      → ((b : ℕ) → place' b ≡ place b) → ((p : ℕ) → slot' p ≡ slot p) → ((h : ℕ) → first' h ≡ first h) → ((h b : ℕ) → is_other' h b ≡ is_other h b) → IsTied place' slot' first' is_other'
+  alike place' slot' first' is_other' p s f l = record {
     placed = λ b q e. ap (option_map (λ e. e.birth)) (s q) ∙ tied.placed b q (sym (p b) ∙ e);
     slotted = λ q e h. p e.birth ∙ tied.slotted q e (sym (s q) ∙ h);
-    listed = λ q e h. l _ _ ∙ tied.listed q e (sym (s q) ∙ h);
+    begun = λ h q e. ap (option_map (λ e. e.hash)) (s q) ∙ tied.begun h q (sym (f h) ∙ e);
+    listed = λ q e h. ap (λ o. is_place o q || is_other' e.hash e.birth) (f e.hash) ∙ ap (λ t. is_place (first e.hash) q || t) (l _ _) ∙ tied.listed q e (sym (s q) ∙ h);
     live = λ h b t. ap (option_map (λ e. e.hash)) (found_alike place place' slot slot' p s b) ∙ tied.live h b (sym (l h b) ∙ t);
   }
 
@@ -178,11 +277,12 @@ module _ {T N : Type 0} (place : ℕ → Option ℕ) (slot : ℕ → Option (Ent
         differs (cc)
 
     -- the place of b is emptied, and b forgotten
-    module _ (place' : ℕ → Option ℕ) (slot' : ℕ → Option (Entry T N)) (is_listed' : ℕ → ℕ → Bool)
+    module _ (place' : ℕ → Option ℕ) (slot' : ℕ → Option (Entry T N)) (first' : ℕ → Option ℕ) (is_other' : ℕ → ℕ → Bool)
         (placed' : (q : ℕ) → place' q ≡ cond (nat_eq b q) None (place q))
         (emptied : slot' p ≡ None)
         (others : (q : ℕ) → q ≢ p → slot' q ≡ slot q)
-        (listed' : (h c : ℕ) → is_listed' h c ≡ is_listed h c && not (nat_eq h e.hash && nat_eq c b))
+        (forgot : (h : ℕ) → first' h ≡ cond (nat_eq h e.hash && is_place (first h) p) None (first h))
+        (struck_out : (h c : ℕ) → is_other' h c ≡ is_other h c && not (nat_eq h e.hash && nat_eq c b))
       where
         place_gone : (q : ℕ) → q ≡ b → place' q ≡ None
         place_gone q same = placed' q ∙ here b q _ _ (sym same)
@@ -205,9 +305,9 @@ module _ {T N : Type 0} (place : ℕ → Option ℕ) (slot : ℕ → Option (Ent
               | inr differs ↦ let was = sym (others q differs) ∙ there in (was, elsewhere q d differs was)
             ]
 
-        still_listed : (h c : ℕ) → is_listed' h c ≡ true → (is_listed h c ≡ true) × (c ≢ b)
-        still_listed h c t =
-            let parts = struck (is_listed h c) (nat_eq h e.hash) (nat_eq c b) (sym (listed' h c) ∙ t) in (
+        still_other : (h c : ℕ) → is_other' h c ≡ true → (is_other h c ≡ true) × (c ≢ b)
+        still_other h c t =
+            let parts = struck (is_other h c) (nat_eq h e.hash) (nat_eq c b) (sym (struck_out h c) ∙ t) in (
               parts.0,
               λ same.
                   let was = tied.live h c parts.0 in
@@ -217,7 +317,19 @@ module _ {T N : Type 0} (place : ℕ → Option ℕ) (slot : ℕ → Option (Ent
                   parts.1 (eq-eqb h e.hash equal) (eq-eqb c b same),
             )
 
-        pub taken : IsTied place' slot' is_listed'
+        -- the first of a hash that is left is another entry
+        still_first : (h q : ℕ) → first' h ≡ Some q → (first h ≡ Some q) × (q ≢ p)
+        still_first h q is =
+            let stood = first_stood h e.hash p q first first' forgot is in (
+              stood.0,
+              λ same.
+                  let was = tied.begun h q stood.0 in
+                  let its : option_map (λ e. e.hash) (slot q) ≡ Some e.hash = ap (λ r. option_map (λ e. e.hash) (slot r)) same ∙ ap (option_map (λ e. e.hash)) has in
+                  let equal : h ≡ e.hash = cc in
+                  stood.1 equal same,
+            )
+
+        pub taken : IsTied place' slot' first' is_other'
         taken = record {
           placed = λ c q is.
               elim (cases_eq c b) [
@@ -228,9 +340,15 @@ module _ {T N : Type 0} (place : ℕ → Option ℕ) (slot : ℕ → Option (Ent
                     ap (option_map (λ e. e.birth)) (others q other) ∙ tied.placed c q was
               ];
           slotted = λ q d there. let l = left q d there in place_kept d.birth l.1 ∙ tied.slotted q d l.0;
-          listed = λ q d there. let l = left q d there in listed' _ _ ∙ stays _ _ _ (tied.listed q d l.0) (ne_eqb d.birth b l.1);
+          begun = λ h q is. let l = still_first h q is in ap (option_map (λ e. e.hash)) (others q l.1) ∙ tied.begun h q l.0;
+          listed = λ q d there.
+              let l = left q d there in
+              elim (or_cases _ _ (tied.listed q d l.0)) [
+                | inl is ↦ or_left _ _ (is_its (first' d.hash) q (first_left d.hash e.hash p q first first' forgot (its_place (first d.hash) q is) (λ same. let none = ap slot' same ∙ emptied in cc)))
+                | inr other ↦ or_right _ _ (struck_out _ _ ∙ stays _ _ _ other (ne_eqb d.birth b l.1))
+              ];
           live = λ h c t.
-              let l = still_listed h c t in
+              let l = still_other h c t in
               ap (option_map (λ e. e.hash)) (found-taken c ∙ away c b _ _ l.1) ∙ tied.live h c l.0;
         }
 
@@ -270,21 +388,23 @@ module _ {T N : Type 0} (place : ℕ → Option ℕ) (slot : ℕ → Option (Ent
               | inr differs ↦ (d, sym (others q differs) ∙ there, refl, refl)
             ]
 
-        pub rewritten : IsTied place slot' is_listed
+        pub rewritten : IsTied place slot' first is_other
         rewritten = record {
           placed = λ c q is. seen (λ e. e.birth) birth q ∙ tied.placed c q is;
           slotted = λ q d there. let w = before q d there in ap place w.2 ∙ tied.slotted q w.0 w.1;
-          listed = λ q d there. let w = before q d there in ap (λ v. is_listed v d.birth) w.3 ∙ ap (is_listed w.0.hash) w.2 ∙ tied.listed q w.0 w.1;
+          begun = λ h q is. seen (λ e. e.hash) same_hash q ∙ tied.begun h q is;
+          listed = λ q d there. let w = before q d there in ap (λ v. is_place (first v) q || is_other v d.birth) w.3 ∙ ap (λ c. is_place (first w.0.hash) q || is_other w.0.hash c) w.2 ∙ tied.listed q w.0 w.1;
           live = λ h c t. seen_found (λ e. e.hash) (same_hash) (place c) ∙ tied.live h c t;
         }
 
   -- an entry is added under a new birth, in an empty place
   module _ (b p : ℕ) (e : Entry T N) (fresh : place b ≡ None) (empty : slot p ≡ None) (birth : e.birth ≡ b)
-      (place' : ℕ → Option ℕ) (slot' : ℕ → Option (Entry T N)) (is_listed' : ℕ → ℕ → Bool)
+      (place' : ℕ → Option ℕ) (slot' : ℕ → Option (Entry T N)) (first' : ℕ → Option ℕ) (is_other' : ℕ → ℕ → Bool)
       (placed' : (q : ℕ) → place' q ≡ cond (nat_eq b q) (Some p) (place q))
       (filled : slot' p ≡ Some e)
       (others : (q : ℕ) → q ≢ p → slot' q ≡ slot q)
-      (listed' : (h c : ℕ) → is_listed' h c ≡ (nat_eq h e.hash && nat_eq c b) || is_listed h c)
+      (entered : (h : ℕ) → first' h ≡ cond (nat_eq h e.hash) (Some (unwrap_or (first e.hash) p)) (first h))
+      (joined : (h c : ℕ) → is_other' h c ≡ (is_some (first e.hash) && (nat_eq h e.hash && nat_eq c b)) || is_other h c)
     where
       place_new : (q : ℕ) → q ≡ b → place' q ≡ Some p
       place_new q same = placed' q ∙ here b q _ _ (sym same)
@@ -311,7 +431,12 @@ module _ {T N : Type 0} (place : ℕ → Option ℕ) (slot : ℕ → Option (Ent
           let was = sym (others q differs) ∙ there in
           (was, λ same. let is = sym (ap place same) ∙ tied.slotted q d was in cc)
 
-      pub added : IsTied place' slot' is_listed'
+      -- the new entry is the first of its hash, or among the others
+      enters : (o : Option ℕ) → first e.hash ≡ o → is_place (first' e.hash) p || is_other' e.hash b ≡ true
+      enters None at = or_left _ _ (is_its (first' e.hash) p (first_new e.hash e.hash p first first' entered at refl))
+      enters (Some r) at = or_right _ _ (joined e.hash b ∙ or_left _ _ (and_from _ _ (ap is_some at) (and_from _ _ (eq-eqb e.hash e.hash refl) (eq-eqb b b refl))))
+
+      pub added : IsTied place' slot' first' is_other'
       added = record {
         placed = λ c q is.
             elim (cases_eq c b) [
@@ -332,18 +457,31 @@ module _ {T N : Type 0} (place : ℕ → Option ℕ) (slot : ℕ → Option (Ent
                   place_new d.birth (ap (λ x. x.birth) is ∙ birth) ∙ ap Some (sym same)
               | inr differs ↦ let l = old q d differs there in place_old d.birth l.1 ∙ tied.slotted q d l.0
             ];
+        begun = λ h q is.
+            elim (first_was h e.hash p q first first' entered is) [
+              | inl new ↦ ap (λ r. option_map (λ e. e.hash) (slot' r)) new.1 ∙ ap (option_map (λ e. e.hash)) filled ∙ ap Some (sym new.0)
+              | inr was ↦ ap (option_map (λ e. e.hash)) (others q (occupied h q p empty was)) ∙ tied.begun h q was
+            ];
         listed = λ q d there.
             elim (cases_eq q p) [
               | inl same ↦
                   let now : slot' q ≡ Some e = ap slot' same ∙ filled in
                   let is : d ≡ e = cc in
-                  listed' _ _ ∙ or_left _ _ (and_from _ _ (eq-eqb _ _ (ap (λ x. x.hash) is)) (eq-eqb _ _ (ap (λ x. x.birth) is ∙ birth)))
-              | inr differs ↦ let l = old q d differs there in listed' _ _ ∙ or_right _ _ (tied.listed q d l.0)
+                  ap (λ r. is_place (first' d.hash) r || is_other' d.hash d.birth) same
+                  ∙ ap (λ x. is_place (first' x.hash) p || is_other' x.hash x.birth) is
+                  ∙ ap (λ c. is_place (first' e.hash) p || is_other' e.hash c) birth
+                  ∙ enters (first e.hash) refl
+              | inr differs ↦
+                  let l = old q d differs there in
+                  elim (or_cases _ _ (tied.listed q d l.0)) [
+                    | inl is ↦ or_left _ _ (is_its (first' d.hash) q (first_old d.hash e.hash p q first first' entered (its_place (first d.hash) q is)))
+                    | inr other ↦ or_right _ _ (joined _ _ ∙ or_right _ _ other)
+                  ]
             ];
         live = λ h c t.
-            elim (or_cases _ _ (sym (listed' h c) ∙ t)) [
+            elim (or_cases _ _ (sym (joined h c) ∙ t)) [
               | inl both ↦
-                  let parts = and_parts _ _ both in
+                  let parts = and_parts _ _ (and_parts _ _ both).1 in
                   ap (option_map (λ e. e.hash)) (found-added c ∙ here c b _ _ (eqb-true c b parts.1)) ∙ ap Some (sym (eqb-true h e.hash parts.0))
               | inr was ↦
                   let had = tied.live h c was in

@@ -1,6 +1,12 @@
 pub mod Buckets
+pub mod Cut
 pub mod Forms
 pub mod Hashes
+pub mod Joined
+pub mod Pieces
+pub mod Read
 pub mod Row
 pub mod Rows
+pub mod Sliced
+pub mod Starts
 pub mod Tied

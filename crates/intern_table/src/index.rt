@@ -1,16 +1,17 @@
 //! Values with notes, each under a birth and a hash.
-ghost use Rattle.std.specs.Prelude.{◌≡◌, ℕ, option_copied, IsSome, is_some, Some, None, OnOk, OnErr, IfErr};
+ghost use Rattle.std.specs.Prelude.{◌≡◌, ℕ, ◌||◌, option_copied, IsSome, is_some, Some, None, OnOk, OnErr, IfErr};
 ghost use Rattle.std.specs.Option.{option_map};
 ghost use Rattle.std.specs.FinMap as map;
 ghost use Rattle.std.specs.Ordering.{nat_cmp};
 ghost use Rattle.slab.specs.Slab.{get};
-ghost use Rattle.intern_table.specs.Buckets.{has_birth};
-ghost use Rattle.intern_table.specs.Tied.{hinted, kept, place_in};
+ghost use Rattle.intern_table.specs.Buckets.{has_birth, is_spot};
+ghost use Rattle.intern_table.specs.Tied.{found, hinted, is_entry, kept, place_in};
 ghost use Rattle.intern_table.specs.Row.{Row, has_hash};
 
-use crate::buckets::{Buckets, enlist, unlist};
+use crate::buckets::Buckets;
 use crate::offer::Offer;
-use intern_store::Spot;
+use crate::sweep::{keep_firsts, keep_others, keep_places, keep_slots};
+use intern_store::{Marks, Spot};
 use slab::Slab;
 use std::alloc::Global;
 use std::collections::HashMap;
@@ -19,7 +20,7 @@ use std::marker::Model;
 
 #[derive(Drop)]
 pub(crate) struct Entry<T, N: Copy> {
-    birth: u64,
+    pub(crate) birth: u64,
     hash: u64,
     value: T,
     note: N,
@@ -33,7 +34,7 @@ pub(crate) struct Entry<T, N: Copy> {
 pub(crate) struct Index<T, N: Copy> {
     alloc: Global,
     slots: Slab<Entry<T, N>>,
-    births: Buckets,
+    buckets: Buckets,
     places: HashMap<u64, usize>,
 }
 
@@ -48,12 +49,12 @@ impl<T, N: Copy> Model for Index<T, N> {
     ghost coded = { map.code coded_ℕ (row_code T.code N.code) };
 
     ghost use Rattle.intern_table.specs.Tied.{held, IsTied, place_in};
-    ghost use Rattle.intern_table.specs.Buckets.{is_listed};
+    ghost use Rattle.intern_table.specs.Buckets.{first_in, is_other};
     ghost use Rattle.slab.specs.Slab.{get};
 
     ghost view = { λ a. held (get a.slots) a.places.entries };
 
-    ghost invariant = { λ a. IsTied (place_in a.places.entries) (get a.slots) (is_listed a.births) };
+    ghost invariant = { λ a. IsTied (place_in a.places.entries) (get a.slots) (first_in a.buckets) (is_other a.buckets) };
 }
 
 /// The place of an entry: the hint where it is right, and else what the map says.
@@ -70,6 +71,15 @@ fn place_of<T, N: Copy>(
     }
 }
 
+// The spot of the entry at a place.
+fn spot_at<T, N: Copy>(slots: &Slab<Entry<T, N>>, place: Option<usize>) -> Option<Spot>
+    ensures { (b : ℕ) → is_spot result b ≡ is_entry (found (get slots.now) place) b }
+{
+    let place = place?;
+    let birth = slots.get(place)?.birth;
+    Some(Spot { birth, place })
+}
+
 impl<T, N: Copy> Index<T, N> {
     pub(crate) fn new(alloc: Global) -> Index<T, N>
         ensures { result ≡ map.empty }
@@ -77,7 +87,7 @@ impl<T, N: Copy> Index<T, N> {
         Index {
             alloc,
             slots: Slab::new(alloc),
-            births: HashMap::new(alloc),
+            buckets: Buckets::new(alloc),
             places: HashMap::new(alloc),
         }
     }
@@ -93,6 +103,14 @@ impl<T, N: Copy> Index<T, N> {
         ensures { is_some result ≡ is_some (map.get self.now birth) }
     {
         self.places.get(&birth).copied()
+    }
+
+    /// The spot of a birth, with its place where it has an entry.
+    pub(crate) fn spot(&self, birth: u64) -> Spot
+        ensures { result.birth ≡ birth }
+    {
+        let place = self.place(birth).unwrap_or(0);
+        Spot { birth, place }
     }
 
     fn entry(&self, spot: Spot) -> Option<&Entry<T, N>>
@@ -124,6 +142,17 @@ impl<T, N: Copy> Index<T, N> {
         }
     }
 
+    /// The value and the note of an entry.
+    pub(crate) fn read(&self, spot: Spot) -> Option<(&T, N)>
+        ensures value { option_map (λ r. r.0.now) result ≡ option_map (λ r. r.value) (map.get self.now spot.birth) }
+        ensures note { option_map (λ r. r.1) result ≡ option_map (λ r. r.note) (map.get self.now spot.birth) }
+    {
+        match self.entry(spot) {
+            Some(entry) => Some((&entry.value, entry.note)),
+            None => None,
+        }
+    }
+
     /// Sets the note of an entry that is there.
     pub(crate) fn set_note(&mut self, spot: Spot, note: N)
         requires { IsSome (map.get self.old spot.birth) }
@@ -134,14 +163,12 @@ impl<T, N: Copy> Index<T, N> {
         entry.note = note;
     }
 
-    /// The births whose values have a hash.
-    pub(crate) fn listed(&self, hash: u64) -> &[Spot]
-        ensures { (b : ℕ) → has_birth result.now b ≡ has_hash hash (map.get self.now b) }
+    /// The spots of the values that have a hash: of one, and of the others.
+    pub(crate) fn listed(&self, hash: u64) -> (Option<Spot>, &[Spot])
+        ensures { (b : ℕ) → is_spot result.0 b || has_birth result.1.now b ≡ has_hash hash (map.get self.now b) }
     {
-        match self.births.get(&hash) {
-            Some(births) => births.as_slice(),
-            None => &[],
-        }
+        let first = spot_at(&self.slots, self.buckets.first(hash));
+        (first, self.buckets.others(hash))
     }
 
     /// Takes the entry of a birth out, and gives its value.
@@ -157,11 +184,23 @@ impl<T, N: Copy> Index<T, N> {
                     value,
                     note: _,
                 } = self.slots.remove(place);
-                unlist(&mut self.births, hash, birth);
+                self.buckets.unlist(hash, Spot { birth, place });
                 Some(value)
             }
             None => None,
         }
+    }
+
+    /// Drops every entry that isn't marked. It takes no memory.
+    pub(crate) fn keep<M: Marks>(&mut self, marks: &M)
+    where
+        T: Drop,
+        ensures { self.new ≡ map.retain_keys self.old (M.marked marks.now) }
+    {
+        keep_slots(&mut self.slots, marks);
+        keep_places(&mut self.places, marks);
+        keep_firsts(&mut self.buckets.firsts, &self.slots);
+        keep_others(&mut self.buckets.others, marks);
     }
 }
 
@@ -190,7 +229,8 @@ impl<T: Hash, N: Copy> Index<T, N> {
         let Ok(_) = self.places.insert(birth, place) else {
             return Err(offer);
         };
-        let Ok(()) = enlist(self.alloc, &mut self.births, hash, Spot { birth, place }) else {
+        let spot = Spot { birth, place };
+        let Ok(()) = self.buckets.enlist(self.alloc, hash, spot) else {
             self.places.remove(&birth);
             return Err(offer);
         };
@@ -205,7 +245,7 @@ impl<T: Hash, N: Copy> Index<T, N> {
                 Ok(place)
             }
             Err(back) => {
-                unlist(&mut self.births, hash, birth);
+                self.buckets.unlist(hash, spot);
                 self.places.remove(&birth);
                 Err(back)
             }

@@ -7,7 +7,7 @@ ghost use Rattle.intern_store.specs.Kept.{Kept, is_at};
 
 use crate::index::Index;
 use crate::offer::Offer;
-use intern_store::{Entries, Removes, Spot, Takes};
+use intern_store::{Entries, Marks, Removes, Spot, Sweeps, Takes};
 use std::alloc::Global;
 use std::cmp::Eq;
 use std::hash::{BuildHasherDefault, FoldHasher, Hash};
@@ -32,12 +32,12 @@ impl<T: Hash + Eq> Model for Table<T> {
 
     ghost coded = { map.code coded_ℕ (kept_code T.code) };
 
-    ghost use Rattle.intern_table.specs.Rows.{kept_rows, IsHashed};
+    ghost use Rattle.intern_table.specs.Rows.{map_values, kept_row, IsHashed};
     ghost use Rattle.intern_table.specs.Hashes.{hash_by};
 
-    ghost view = { λ a. kept_rows a.index };
+    ghost view = { λ a. map_values kept_row a.index };
 
-    ghost invariant = { λ a. IsHashed (λ v. hash_by a.hasher (T.hash_input v)) a.index };
+    ghost invariant = { λ a. IsHashed kept_row (λ v. hash_by a.hasher (T.hash_input v)) a.index };
 }
 
 impl<T: Hash + Eq> Table<T> {
@@ -48,16 +48,24 @@ impl<T: Hash + Eq> Table<T> {
         self.index.get(spot)
     }
 
+    // Whether the value of an entry equals the one offered.
+    fn equals<O: Offer<T>>(&self, spot: Spot, offer: &O) -> bool
+        ensures { result ≡ is_at T.eq (O.value offer.now) (map.get self.now spot.birth) }
+    {
+        match self.get(spot) {
+            Some(stored) => offer.equals(stored),
+            None => false,
+        }
+    }
+
     // The first of these spots whose value equals the one offered.
     fn first_equal<O: Offer<T>>(&self, spots: &[Spot], offer: &O) -> Option<Spot>
         ensures found { IfSome result (λ s. is_at T.eq (O.value offer.now) (map.get self.now s.birth) ≡ true) }
         ensures none { IfNone result ((b : ℕ) → has_birth spots.now b ≡ true → is_at T.eq (O.value offer.now) (map.get self.now b) ≡ false) }
     {
         for spot in spots {
-            if let Some(stored) = self.get(*spot) {
-                if offer.equals(stored) {
-                    return Some(*spot);
-                }
+            if self.equals(*spot, offer) {
+                return Some(*spot);
             }
         }
         None
@@ -104,11 +112,21 @@ impl<T: Hash + Eq, O: Offer<T>> Takes<O> for Table<T> {
 
     fn find(&self, offer: &O) -> Option<Spot> {
         let hash = offer.hash_in(&self.hasher);
-        self.first_equal(self.index.listed(hash), offer)
+        let (first, others) = self.index.listed(hash);
+        match first {
+            Some(spot) if self.equals(spot, offer) => first,
+            _ => self.first_equal(others, offer),
+        }
     }
 
     fn insert(&mut self, birth: u64, offer: O, count: u64) -> Result<usize, O> {
         let hash = offer.hash_in(&self.hasher);
         self.index.insert(birth, hash, offer, count)
+    }
+}
+
+impl<T: Hash + Eq + Drop, M: Marks> Sweeps<M> for Table<T> {
+    fn keep(&mut self, marks: &M) {
+        self.index.keep(marks)
     }
 }

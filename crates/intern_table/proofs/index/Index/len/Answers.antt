@@ -5,4 +5,4 @@ use Rattle.intern_table.proofs.Steps.{present}
 use Rattle.intern_table.proofs.index.Index.len.Goals as goal
 
 pub returns : goal.returns
-returns g c = c.len.ensures.len ∙ sym (len-held _ _ c.len.ensures.unique (present _ _ _ c.self.invariant)) ∙ ap map.len c.self.view_is
+returns g c = c.len.ensures.len ∙ sym (len-held _ _ c.len.ensures.unique (present _ _ _ _ c.self.invariant)) ∙ ap map.len c.self.view_is

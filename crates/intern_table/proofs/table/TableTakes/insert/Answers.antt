@@ -7,11 +7,11 @@ use Rattle.intern_table.proofs.MapValues.{map_values-insert}
 use Rattle.intern_table.proofs.table.TableTakes.insert.Goals as goal
 
 pub insert-requires : goal.insert-requires
-insert-requires g c = no_row _ _ c.self.view_is c.args.birth c.requires
+insert-requires g c = no_row kept_row _ _ c.self.view_is c.args.birth c.requires
 
 pub invariant_of-self : goal.invariant_of-self
 invariant_of-self g c =
-    offered_hashed (λ v. hash_by c.self.inside.hasher (g.T.Hash.hash_input v)) _ _ c.args.birth _ c.self.invariant c.hash_in-hash.ensures
+    offered_hashed kept_row (λ v. hash_by c.self.inside.hasher (g.T.Hash.hash_input v)) _ _ c.args.birth _ c.self.invariant c.hash_in-hash.ensures
     c.insert.result c.insert.ensures.ok c.insert.ensures.err
 
 pub returns-clause-ok : goal.returns-clause-ok
