@@ -1,2 +1,3 @@
+mod Slices
 mod Tables
 mod Texts

@@ -1,5 +1,6 @@
 pub mod Constants
 pub mod Handle
+pub mod Slices
 pub mod Symbols
 pub use Rattle.intern_presets.specs.Numbers
 pub use Rattle.intern_presets.specs.Presets
@@ -9,3 +10,7 @@ pub use Rattle.intern_store.specs.declared.names.Limits
 pub use Rattle.intern_store.specs.declared.names.Name
 pub use Rattle.intern_store.specs.declared.names.Refusal
 pub use Rattle.intern_store.specs.declared.names.Refused
+pub use Rattle.intern_table.specs.Read
+pub use Rattle.intern_table.specs.Sliced
+pub use Rattle.intern_table.specs.declared.parts.HeaderSlice
+pub use Rattle.intern_table.specs.declared.parts.HeaderWithLength

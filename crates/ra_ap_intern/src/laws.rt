@@ -1,20 +1,25 @@
 //! Laws of the definitions, each the contract of a function that does nothing.
-ghost use Rattle.std.specs.Prelude.{◌≡◌, ◌<◌, ◌^◌, ◌↔◌, ℕ, List, Bool, true, false, Some, None, decimal, option_and_then};
+ghost use Rattle.std.specs.Prelude.{◌≡◌, ◌<◌, ◌^◌, ◌↔◌, ℕ, List, Bool, true, false, if◌then◌else◌, Some, None, decimal, option_and_then};
 ghost use Rattle.std.specs.List.{list_all};
 ghost use Rattle.std.specs.Str.{bytes_eq};
 ghost use Rattle.intern_presets.specs.Numbers.{number_value};
 ghost use Rattle.intern_presets.specs.Presets.{preset_text};
-ghost use Rattle.intern_store.specs.State.{State, IsState, IsGone, name_in, reads, count_at, birth_of, interned, counted_up, counted_down, released, due_interning, full, any_count};
+ghost use Rattle.intern_store.specs.State.{State, IsState, IsGone, name_in, reads, entry_at, count_at, birth_of, interned, counted_up, counted_down, released, kept, due_interning, full, any_count};
 ghost use Rattle.intern_store.specs.declared.names.Name.{Name};
+ghost use Rattle.intern_table.specs.Sliced.{Sliced, sliced_eq};
 ghost use Rattle.ra_ap_intern.specs.Constants.{constants, has_its_text};
 ghost use Rattle.ra_ap_intern.specs.Handle.{name_of, ref_name};
+ghost use Rattle.ra_ap_intern.specs.Slices.{slice_name, slice_ref_name};
 ghost use Rattle.ra_ap_intern.specs.Symbols.{IsTable, Named, symbol_name, text_of, symbol_in, at_entry};
 ghost use Rattle.ra_ap_intern.specs.Symbols.Named.{preset};
 ghost use Rattle.ra_ap_intern.specs.declared.intern.Interned.{Interned as Owned};
 ghost use Rattle.ra_ap_intern.specs.declared.intern.InternedRef.{InternedRef as Reference};
+ghost use Rattle.ra_ap_intern.specs.declared.intern_slice.InternedSlice.{InternedSlice as OwnedSlice};
+ghost use Rattle.ra_ap_intern.specs.declared.intern_slice.InternedSliceRef.{InternedSliceRef as SliceReference};
 ghost use Rattle.ra_ap_intern.specs.declared.symbol.Symbol.{Symbol as Sym};
 
 use crate::intern::{Interned, InternedRef};
+use crate::intern_slice::{InternedSlice, InternedSliceRef, SliceInternable};
 use crate::symbol::Symbol;
 use std::cmp::Eq;
 use std::hash::Hash;
@@ -31,6 +36,12 @@ pub fn a_birth_is_given_once<T: Eq>()
     ensures counted_up { (s : State T) (c b : ℕ) → IsGone s b → IsGone (counted_up s c) b }
     ensures counted_down { (s : State T) (c b : ℕ) → IsGone s b → IsGone (counted_down s c) b }
     ensures released { (s : State T) (stays : Bool) (c b : ℕ) → IsGone s b → IsGone (released stays s c) b }
+    ensures swept { (s : State T) (marked : ℕ → Bool) (b : ℕ) → IsGone s b → IsGone (kept s marked) b }
+{}
+
+/// A sweep leaves each marked entry as it was, and no other.
+pub fn a_sweep_leaves_what_is_marked<T>()
+    ensures { (s : State T) (marked : ℕ → Bool) (b : ℕ) → entry_at (kept s marked) b ≡ (if marked b then entry_at s b else None) }
 {}
 
 /// The name that interning gives reads an equal value.
@@ -56,6 +67,29 @@ pub fn owned_handles_are_names<T>()
 pub fn references_are_names<T>()
     ensures equal { (a b : Reference T) → (⟦<InternedRef<T> as PartialEq>⟧.eq a b ≡ true) ↔ (ref_name a ≡ ref_name b) }
     ensures hashed { (a b : Reference T) → ref_name a ≡ ref_name b → ⟦<InternedRef<T> as Hash>⟧.hash_input a ≡ ⟦<InternedRef<T> as Hash>⟧.hash_input b }
+{}
+
+/// Names of entries of one storage of slices are equal exactly if the headers that they read are
+/// equal, and the items one by one.
+pub fn names_tell_slices<T: SliceInternable>()
+    ensures { let eq = sliced_eq T.Header.eq T.SliceType.eq in (s : State (Sliced T.Header T.SliceType)) → IsState eq s → (n m : Name) (v w : Sliced T.Header T.SliceType) → reads s n ≡ Some v → reads s m ≡ Some w → (n ≡ m) ↔ (eq v w ≡ true) }
+{}
+
+/// The name that interning a header with items gives reads an equal one.
+pub fn a_slice_that_is_interned_is_read<T: SliceInternable>()
+    ensures { let eq = sliced_eq T.Header.eq T.SliceType.eq in (s : State (Sliced T.Header T.SliceType)) (v : Sliced T.Header T.SliceType) → let i = interned eq s v in (w : Sliced T.Header T.SliceType) × (reads i.1 (name_in s i.0) ≡ Some w) × (eq v w ≡ true) }
+{}
+
+/// Owned handles of slices are equal exactly if their names are, and equal ones hash alike.
+pub fn owned_slices_are_names<T>()
+    ensures equal { (a b : OwnedSlice T) → (⟦<InternedSlice<T> as PartialEq>⟧.eq a b ≡ true) ↔ (slice_name a ≡ slice_name b) }
+    ensures hashed { (a b : OwnedSlice T) → slice_name a ≡ slice_name b → ⟦<InternedSlice<T> as Hash>⟧.hash_input a ≡ ⟦<InternedSlice<T> as Hash>⟧.hash_input b }
+{}
+
+/// References to slices are equal exactly if their names are, and equal ones hash alike.
+pub fn slice_references_are_names<T>()
+    ensures equal { (a b : SliceReference T) → (⟦<InternedSliceRef<T> as PartialEq>⟧.eq a b ≡ true) ↔ (slice_ref_name a ≡ slice_ref_name b) }
+    ensures hashed { (a b : SliceReference T) → slice_ref_name a ≡ slice_ref_name b → ⟦<InternedSliceRef<T> as Hash>⟧.hash_input a ≡ ⟦<InternedSliceRef<T> as Hash>⟧.hash_input b }
 {}
 
 /// Symbols of one table that can be read are equal exactly if their texts are.

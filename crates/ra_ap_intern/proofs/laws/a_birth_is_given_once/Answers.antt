@@ -1,4 +1,4 @@
-use Rattle.intern_store.proofs.Later.{interned_gone, counted_up_gone, counted_down_gone, released_gone}
+use Rattle.intern_store.proofs.Later.{interned_gone, counted_up_gone, counted_down_gone, released_gone, kept_gone}
 use Rattle.ra_ap_intern.proofs.laws.a_birth_is_given_once.Goals as goal
 
 pub returns-clause-interned : goal.returns-clause-interned
@@ -12,3 +12,6 @@ returns-clause-counted_down g c = counted_down_gone
 
 pub returns-clause-released : goal.returns-clause-released
 returns-clause-released g c = λ s stays. released_gone stays s
+
+pub returns-clause-swept : goal.returns-clause-swept
+returns-clause-swept g c = kept_gone
