@@ -4,7 +4,7 @@ use thiserror::Error;
 
 /// How the program is called.
 pub(crate) const USAGE: &str =
-    "usage: intern_bench NAME GROUP N, where GROUP is sym or val and N is a number of entries";
+    "usage: intern_bench NAME GROUP N, where GROUP is sym, val or slice and N is a number of entries";
 
 /// What is stored.
 #[derive(Clone, Copy, Debug, PartialEq, Eq)]
@@ -13,6 +13,8 @@ pub(crate) enum Group {
     Symbols,
     /// Counted values of 64 bits.
     Values,
+    /// Collected slices of four items.
+    Slices,
 }
 
 impl Group {
@@ -20,6 +22,7 @@ impl Group {
         match name {
             "sym" => Some(Group::Symbols),
             "val" => Some(Group::Values),
+            "slice" => Some(Group::Slices),
             _ => None,
         }
     }
@@ -29,6 +32,7 @@ impl Group {
         match self {
             Group::Symbols => "sym",
             Group::Values => "val",
+            Group::Slices => "slice",
         }
     }
 }

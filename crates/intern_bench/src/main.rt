@@ -7,8 +7,11 @@ mod failure;
 mod measure;
 mod numbers;
 mod report;
+mod slices;
+mod storage;
 mod symbols;
 mod values;
+mod workload;
 
 use anyhow::Result;
 use arguments::{Group, Job, Request, USAGE};
@@ -25,6 +28,7 @@ fn run(rt: &(impl Files + Clock + Print + AllocGlobal), job: &Job<'_>) -> Result
     match job.group {
         Group::Symbols => counted::measure::<SymbolTable>(rt, job),
         Group::Values => counted::measure::<InternStorage<Number>>(rt, job),
+        Group::Slices => slices::measure(rt, job),
     }
 }
 

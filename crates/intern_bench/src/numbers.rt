@@ -30,6 +30,11 @@ impl Generator {
             .wrapping_add(Self::STEP);
         self.state
     }
+
+    /// The upper 32 bits of the next number.
+    pub(crate) fn draw_upper_half(&mut self) -> u32 {
+        (self.draw() >> 32) as u32
+    }
 }
 
 /// The places from 0 to `entries` - 1 in an order that leaps about.

@@ -15,6 +15,12 @@ pub(crate) enum Metric {
     Releases,
     /// Releases that remove the entry.
     Removals,
+    /// Interning of slices that aren't stored.
+    FreshSlices,
+    /// Interning of slices that are stored.
+    SliceHits,
+    /// Reading of slices through references.
+    SliceReads,
 }
 
 impl Metric {
@@ -26,6 +32,9 @@ impl Metric {
             Metric::Reads => "c",
             Metric::Releases => "d0",
             Metric::Removals => "d",
+            Metric::FreshSlices => "e1",
+            Metric::SliceHits => "e2",
+            Metric::SliceReads => "e3",
         }
     }
 }

@@ -1,10 +1,12 @@
 //! The workload `sym`: symbols of texts that are no presets.
 use crate::counted::Counted;
 use crate::failure::Failure;
+use crate::numbers::Generator;
+use crate::storage::Storage;
 use ra_ap_intern::{Refusal, Symbol, SymbolTable};
 use std::alloc::{AllocError, Global};
 
-impl Counted for SymbolTable {
+impl Storage for SymbolTable {
     type Input = String;
 
     type Handle = Symbol;
@@ -13,7 +15,12 @@ impl Counted for SymbolTable {
         SymbolTable::new(alloc, 0)
     }
 
-    fn input(alloc: Global, number: u64) -> Result<String, AllocError> {
+    fn input(
+        alloc: Global,
+        _place: usize,
+        generator: &mut Generator,
+    ) -> Result<String, AllocError> {
+        let number = generator.draw();
         format!(in alloc; "x{number}")
     }
 
@@ -35,7 +42,9 @@ impl Counted for SymbolTable {
         let last = text.as_bytes().last().copied().unwrap_or(0);
         Ok((text.len() as u64).wrapping_add(u64::from(last)))
     }
+}
 
+impl Counted for SymbolTable {
     fn release(&mut self, handle: Symbol) -> Result<(), Failure> {
         handle.release(self)?;
         Ok(())

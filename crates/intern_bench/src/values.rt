@@ -3,6 +3,8 @@ ghost use Rattle.std.specs.Prelude.{false};
 
 use crate::counted::Counted;
 use crate::failure::Failure;
+use crate::numbers::Generator;
+use crate::storage::Storage;
 use ra_ap_intern::{InternStorage, Internable, Interned, Refusal};
 use std::alloc::{AllocError, Global};
 
@@ -16,7 +18,7 @@ impl Internable for Number {
     ghost USE_GC = { false };
 }
 
-impl Counted for InternStorage<Number> {
+impl Storage for InternStorage<Number> {
     type Input = Number;
 
     type Handle = Interned<Number>;
@@ -25,8 +27,12 @@ impl Counted for InternStorage<Number> {
         InternStorage::new(alloc, 0)
     }
 
-    fn input(_alloc: Global, number: u64) -> Result<Number, AllocError> {
-        Ok(Number(number))
+    fn input(
+        _alloc: Global,
+        _place: usize,
+        generator: &mut Generator,
+    ) -> Result<Number, AllocError> {
+        Ok(Number(generator.draw()))
     }
 
     fn entries(&self) -> usize {
@@ -47,7 +53,9 @@ impl Counted for InternStorage<Number> {
         let Number(value) = handle.get(self).ok_or(Refusal::Gone)?;
         Ok(*value)
     }
+}
 
+impl Counted for InternStorage<Number> {
     fn release(&mut self, handle: Interned<Number>) -> Result<(), Failure> {
         handle.release(self)?;
         Ok(())

@@ -1,7 +1,10 @@
 //! The example of the README.
-ghost use Rattle.std.specs.Prelude.{false};
+ghost use Rattle.std.specs.Prelude.{false, true};
 
-use ra_ap_intern::{InternStorage, Internable, Interned, Symbol, SymbolTable, sym};
+use ra_ap_intern::{
+    InternSliceStorage, InternStorage, Internable, Interned, InternedSlice, SliceInternable,
+    Symbol, SymbolTable, sym,
+};
 use std::alloc::{AllocError, Global};
 use std::test::Fail;
 
@@ -14,6 +17,19 @@ impl Internable for Word {
     const USE_GC: bool = false;
 
     ghost USE_GC = { false };
+}
+
+/// A generic type, by its number, with its arguments.
+struct Application;
+
+impl SliceInternable for Application {
+    type Header = u32;
+
+    type SliceType = u32;
+
+    const USE_GC: bool = true;
+
+    ghost USE_GC = { true };
 }
 
 fn make_word(alloc: Global, text: &str) -> Result<Word, AllocError> {
@@ -46,8 +62,33 @@ fn one_copy_of_each_word(rt: HostRuntime) -> Result<(), Fail> {
 }
 
 #[test]
+fn one_copy_of_each_slice(rt: HostRuntime) -> Result<(), Fail> {
+    let mut types: InternSliceStorage<Application> = InternSliceStorage::new(rt.alloc(), 2);
+    let arguments = [20, 21].as_slice();
+    let (pair, back) = InternedSlice::from_header_and_slice(&mut types, 7, arguments)?;
+    assert_eq!(rt; back, None);
+
+    // An equal header with equal items is stored already: the header comes back.
+    let (again, back) = InternedSlice::from_header_and_slice(&mut types, 7, arguments)?;
+    assert_eq!(rt; back, Some(7));
+    assert!(rt; pair == again);
+
+    // Reading lends the header and the items.
+    let read = pair.get(&types).expect(&rt, "it is stored");
+    assert_eq!(rt; (*read.header.header, read.header.length), (7, 2));
+    assert_eq!(rt; read.slice, arguments);
+
+    // A reference counts nothing; an owned handle does, until it is released.
+    let owned = pair.to_owned(&mut types)?;
+    assert_eq!(rt; types.count(pair), Some(1));
+    assert!(rt; owned.release(&mut types).is_ok());
+    assert_eq!(rt; types.count(pair), Some(0));
+    Ok(())
+}
+
+#[test]
 fn one_symbol_for_each_text(rt: HostRuntime) -> Result<(), Fail> {
-    let mut table = SymbolTable::new(rt.alloc(), 2);
+    let mut table = SymbolTable::new(rt.alloc(), 3);
 
     // A preset's text gives its constant, and is in no table.
     assert!(rt; Symbol::intern(&mut table, "Clone")? == sym::Clone);

@@ -1,0 +1,17 @@
+//! Short words for what a call answers.
+use ra_ap_intern::{Refusal, Refused};
+use std::test::Fail;
+
+/// Why the call was refused, if it was.
+pub fn refusal<A: Drop>(answer: Result<A, Refusal>) -> Option<Refusal> {
+    answer.err()
+}
+
+/// Why the call was refused, and what it gave back. It fails the test where the call was not
+/// refused.
+pub fn refused<A: Drop, H>(answer: Result<A, Refused<H>>) -> Result<(Refusal, H), Fail> {
+    match answer {
+        Ok(_) => Err(Fail::new("not refused")),
+        Err(Refused { why, back }) => Ok((why, back)),
+    }
+}
