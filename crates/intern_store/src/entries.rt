@@ -1,5 +1,5 @@
 //! What a store asks of the table that keeps its entries.
-ghost use Rattle.std.specs.Prelude.{◌≡◌, ℕ, Bool, nat_eq, IsSome, is_some, Some, None, OnOk, OnErr, IfErr, IfSome, IfNone, true, false};
+ghost use Rattle.std.specs.Prelude.{◌≡◌, ℕ, ◌<◌, Bool, nat_eq, IsSome, is_some, Some, None, OnOk, OnErr, IfErr, IfSome, IfNone, true, false};
 ghost use Rattle.std.specs.Option.{option_map};
 ghost use Rattle.std.specs.FinMap as map;
 ghost use Rattle.std.specs.Ordering.{nat_cmp};
@@ -59,10 +59,10 @@ pub trait Takes<O>: Entries {
         ensures found { IfSome result (λ s. is_at Self.Value.eq (value offer.now) (map.get (Self.entries self.now) s.birth) ≡ true) }
         ensures none { IfNone result ((b : ℕ) → is_at Self.Value.eq (value offer.now) (map.get (Self.entries self.now) b) ≡ false) };
 
-    /// Adds an entry under a new birth, and tells its place. Where there is no memory the offer
-    /// comes back.
+    /// Adds an entry under a birth above all others, and tells its place. Where there is no memory
+    /// the offer comes back.
     fn insert(&mut self, birth: u64, offer: O, count: u64) -> Result<usize, O>
-        requires { map.get (Self.entries self.old) birth ≡ None }
+        requires { (b : ℕ) → IsSome (map.get (Self.entries self.old) b) → b < birth }
         ensures ok { OnOk result (Self.entries self.new ≡ map.insert (Self.entries self.old) birth (record { value = value offer; count = count })) }
         ensures err { OnErr result (Self.entries self.new ≡ Self.entries self.old) }
         ensures back { IfErr result (λ back. back ≡ offer) };

@@ -1,48 +1,34 @@
 -- The rows of a table, and the entries that they are seen as.
-use Rattle.std.proofs.Common.{◌≡◌, ℕ, Bool, true, false, cond, Option, Some, None, IsSome, IfNone, is_some, ◌||◌, List, inl, inr, nat_eq, Result, Ok, Err, OnOk, OnErr, refl, sym, ap, subst, ◌∙◌}
+use Rattle.std.proofs.Common.{◌≡◌, ℕ, ◌<◌, Bool, true, false, cond, Option, Some, None, IsSome, IfSome, IfNone, is_some, nat_eq, Result, Ok, Err, OnOk, OnErr, refl, sym, ap, subst, ◌∙◌}
 use Rattle.std.specs.Option.{option_map}
 use Rattle.std.specs.Ordering.{nat_cmp}
 use Rattle.std.specs.FinMap.{FinMap, empty, get, insert, remove, retain_keys, get-empty}
-use Rattle.std.proofs.lemmas.Bool.{eq-eqb, eqb-true, or_cases}
+use Rattle.std.proofs.lemmas.Bool.{eq-eqb}
 use Rattle.std.proofs.lemmas.Option.{same_Some}
 use Rattle.intern_store.specs.Kept.{Kept, is_at}
 use Rattle.intern_store.proofs.Compared.{get-inserted, get-removed, get-retained}
 use Rattle.intern_store.specs.declared.names.Spot.{Spot}
-use Rattle.intern_table.specs.Buckets.{has_birth, is_spot}
+use Rattle.intern_table.specs.Ordered.{is_sought}
 use Rattle.intern_table.specs.Row.{Row, has_hash}
 use Rattle.intern_table.specs.Rows.{map_values, IsHashed}
 use Rattle.intern_table.proofs.MapValues.{get-map_values, map_values-insert}
 
 -- a test is false, if from its truth it follows that it is false
-pub settled : (t listed : Bool) → (t ≡ true → listed ≡ true) → (listed ≡ true → t ≡ false) → t ≡ false
+settled : (t listed : Bool) → (t ≡ true → listed ≡ true) → (listed ≡ true → t ≡ false) → t ≡ false
 settled true listed up down = down (up refl)
 settled false listed up down = refl
 
-pub none_then : {X P Q : Type 0} (r : Option X) → (P → Q) → IfNone r P → IfNone r Q
+some_then : {X : Type 0} (P Q : X → Type 0) (r : Option X) → ((x : X) → P x → Q x) → IfSome r P → IfSome r Q
+some_then P Q None f p = p
+some_then P Q (Some x) f p = f x p
+
+none_then : {X P Q : Type 0} (r : Option X) → (P → Q) → IfNone r P → IfNone r Q
 none_then None f p = f p
 none_then (Some x) f p = p
 
 pub ok_then : {X E P Q : Type 0} (r : Result X E) → (P → Q) → OnOk r P → OnOk r Q
 ok_then (Ok x) f p = f p
 ok_then (Err e) f p = p
-
--- a test that fails at a spot, fails at its birth
-pub fails_at : (test : ℕ → Bool) (o : Option Spot) (s : Spot) → o ≡ Some s → test s.birth ≡ false → (b : ℕ) → is_spot o b ≡ true → test b ≡ false
-fails_at test o s is fails b its = let same = eqb-true s.birth b (sym (ap (λ o. is_spot o b) is) ∙ its) in ap test (sym same) ∙ fails
-
--- a test fails at no spot
-pub fails_nowhere : (test : ℕ → Bool) (o : Option Spot) → ((s : Spot) → o ≡ Some s → ⊥) → (b : ℕ) → is_spot o b ≡ true → test b ≡ false
-fails_nowhere test None none b its = absurd (cc)
-fails_nowhere test (Some s) none b its = absurd (none s refl)
-
--- a test that fails at one spot and at others, fails at all of them
-pub fails_at_all : (test : ℕ → Bool) (o : Option Spot) (spots : List Spot) → ((b : ℕ) → is_spot o b ≡ true → test b ≡ false) → ((b : ℕ) → has_birth spots b ≡ true → test b ≡ false)
-    → (b : ℕ) → (is_spot o b || has_birth spots b) ≡ true → test b ≡ false
-fails_at_all test o spots first rest b its =
-    elim (or_cases _ _ its) [
-      | inl is ↦ first b is
-      | inr is ↦ rest b is
-    ]
 
 module _ {T N V : Type 0} (entry : Row T N → Kept V) where
   module _ (m : FinMap nat_cmp (Row T N)) (k : FinMap nat_cmp (Kept V)) (view : map_values entry m ≡ k) where
@@ -76,12 +62,9 @@ module _ {T N V : Type 0} (entry : Row T N → Kept V) where
     pub has_row : (b : ℕ) → IsSome (get k b) → IsSome (get m b)
     has_row b some = is_some_seen b ∙ some
 
-    pub no_row : (b : ℕ) → get k b ≡ None → get m b ≡ None
-    no_row b none = go (get m b) (sym (seen b) ∙ none)
-      where
-        go : (o : Option (Row T N)) → option_map entry o ≡ None → o ≡ None
-        go None e = refl
-        go (Some r) e = absurd (cc)
+    -- a birth above those of all entries is above those of all rows
+    pub all_below : (b : ℕ) → ((c : ℕ) → IsSome (get k c) → c < b) → (c : ℕ) → IsSome (get m c) → c < b
+    all_below b above c some = above c (sym (is_some_seen c) ∙ some)
 
   module _ (hash : V → ℕ) where
     pub empty_hashed : (m : FinMap nat_cmp (Row T N)) → m ≡ empty → IsHashed entry hash m
@@ -134,11 +117,28 @@ module _ {T N V : Type 0} (entry : Row T N → Kept V) where
             ∙ ap (insert k b) (recounted r.0)
             ∙ ap (λ x. insert k b (record { value = x.value; count = c })) r.2
 
-    -- an entry whose value equals v is listed under the hash of v
-    pub candidate : (eq : V → V → Bool) (v : V) → ((x : V) → eq v x ≡ true → hash v ≡ hash x) → (m : FinMap nat_cmp (Row T N)) (k : FinMap nat_cmp (Kept V)) → IsHashed entry hash m → map_values entry m ≡ k
-        → (b : ℕ) → is_at eq v (get k b) ≡ true → has_hash (hash v) (get m b) ≡ true
-    candidate eq v alike m k is view b equal = go (get m b) refl (ap (is_at eq v) (sym (seen m k view b)) ∙ equal)
+    -- a search among the rows of a hash, seen as one among all entries
+    module _ (fits : T → N → Bool) (eq : V → V → Bool) (v : V) (same : (r : Row T N) → fits r.value r.note ≡ eq v (entry r).value) (alike : (x : V) → eq v x ≡ true → hash v ≡ hash x)
+        (m : FinMap nat_cmp (Row T N)) (k : FinMap nat_cmp (Kept V)) (is : IsHashed entry hash m) (view : map_values entry m ≡ k)
       where
-        go : (o : Option (Row T N)) → get m b ≡ o → is_at eq v (option_map entry o) ≡ true → has_hash (hash v) o ≡ true
-        go None at e = absurd (cc)
-        go (Some r) at e = eq-eqb (hash v) r.hash (alike (entry r).value e ∙ sym (is.hashed b r at))
+        -- what is sought in a row is what is at its entry
+        sought_seen : (b : ℕ) → is_sought fits (get m b) ≡ is_at eq v (get k b)
+        sought_seen b = go (get m b) ∙ sym (ap (is_at eq v) (seen m k view b))
+          where
+            go : (o : Option (Row T N)) → is_sought fits o ≡ is_at eq v (option_map entry o)
+            go None = refl
+            go (Some r) = same r
+
+        -- an entry whose value equals v has the hash of v
+        candidate : (b : ℕ) → is_at eq v (get k b) ≡ true → has_hash (hash v) (get m b) ≡ true
+        candidate b equal = go (get m b) refl (ap (is_at eq v) (sym (seen m k view b)) ∙ equal)
+          where
+            go : (o : Option (Row T N)) → get m b ≡ o → is_at eq v (option_map entry o) ≡ true → has_hash (hash v) o ≡ true
+            go None at e = absurd (cc)
+            go (Some r) at e = eq-eqb (hash v) r.hash (alike (entry r).value e ∙ sym (is.hashed b r at))
+
+        pub finds : (o : Option Spot) → IfSome o (λ s. is_sought fits (get m s.birth) ≡ true) → IfSome o (λ s. is_at eq v (get k s.birth) ≡ true)
+        finds o = some_then (λ s. is_sought fits (get m s.birth) ≡ true) (λ s. is_at eq v (get k s.birth) ≡ true) o (λ s has. sym (sought_seen s.birth) ∙ has)
+
+        pub finds_none : (o : Option Spot) (h : ℕ) → h ≡ hash v → IfNone o ((b : ℕ) → has_hash h (get m b) ≡ true → is_sought fits (get m b) ≡ false) → IfNone o ((b : ℕ) → is_at eq v (get k b) ≡ false)
+        finds_none o h hashes = none_then o (λ apart b. settled _ _ (λ equal. ap (λ x. has_hash x (get m b)) hashes ∙ candidate b equal) (λ has. sym (sought_seen b) ∙ apart b has))

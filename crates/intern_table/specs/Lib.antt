@@ -1,12 +1,9 @@
-pub mod Buckets
-pub mod Cut
 pub mod Forms
 pub mod Hashes
 pub mod Joined
-pub mod Pieces
+pub mod Ordered
+pub mod Probed
 pub mod Read
 pub mod Row
 pub mod Rows
 pub mod Sliced
-pub mod Starts
-pub mod Tied

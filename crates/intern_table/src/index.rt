@@ -1,41 +1,41 @@
 //! Values with notes, each under a birth and a hash.
-ghost use Rattle.std.specs.Prelude.{◌≡◌, ℕ, ◌||◌, option_copied, IsSome, is_some, Some, None, OnOk, OnErr, IfErr};
+ghost use Rattle.std.specs.Prelude.{◌≡◌, ℕ, ◌<◌, option_copied, IsSome, is_some, Some, None, OnOk, OnErr, IfErr, IfSome, IfNone, true, false, ◌&&◌};
 ghost use Rattle.std.specs.Option.{option_map};
 ghost use Rattle.std.specs.FinMap as map;
-ghost use Rattle.std.specs.Ordering.{nat_cmp};
-ghost use Rattle.slab.specs.Slab.{get};
-ghost use Rattle.intern_table.specs.Buckets.{has_birth, is_spot};
-ghost use Rattle.intern_table.specs.Tied.{found, hinted, is_entry, kept, place_in};
+ghost use Rattle.intern_table.specs.Ordered.{is_match, is_sought, row_in};
 ghost use Rattle.intern_table.specs.Row.{Row, has_hash};
 
-use crate::buckets::Buckets;
+use crate::births::place_of;
 use crate::offer::Offer;
-use crate::sweep::{keep_firsts, keep_others, keep_places, keep_slots};
+use crate::probes::{self, Probes};
+use crate::room::{make_room, thin_out};
+use crate::sought::Sought;
+use crate::sweep::keep_entries;
 use intern_store::{Marks, Spot};
-use slab::Slab;
 use std::alloc::Global;
-use std::collections::HashMap;
 use std::hash::Hash;
 use std::marker::Model;
 
+/// An entry. One whose value is taken out keeps its place until room is made.
 #[derive(Drop)]
 pub(crate) struct Entry<T, N: Copy> {
     pub(crate) birth: u64,
-    hash: u64,
-    value: T,
-    note: N,
+    pub(crate) hash: u64,
+    pub(crate) value: Option<T>,
+    pub(crate) note: N,
 }
 
-/// Entries in a slab, found by their births, and listed by hashes that the caller gives.
+/// Entries in the order of their births, and a table of their places by hashes that the caller
+/// gives.
 ///
-/// A look-up reads the slab alone where its hint is right, and else asks one map first. Only an
-/// insertion takes memory.
+/// A look-up is one step where no birth before is missing or the hint is right, and else a binary
+/// search. Only an insertion takes memory.
 #[derive(Drop)]
 pub(crate) struct Index<T, N: Copy> {
     alloc: Global,
-    slots: Slab<Entry<T, N>>,
-    buckets: Buckets,
-    places: HashMap<u64, usize>,
+    pub(crate) entries: Vec<Entry<T, N>>,
+    probes: Probes,
+    live: usize,
 }
 
 impl<T, N: Copy> Model for Index<T, N> {
@@ -48,36 +48,26 @@ impl<T, N: Copy> Model for Index<T, N> {
 
     ghost coded = { map.code coded_ℕ (row_code T.code N.code) };
 
-    ghost use Rattle.intern_table.specs.Tied.{held, IsTied, place_in};
-    ghost use Rattle.intern_table.specs.Buckets.{first_in, is_other};
-    ghost use Rattle.slab.specs.Slab.{get};
+    ghost use Rattle.intern_table.specs.Ordered.{held, IsTied};
 
-    ghost view = { λ a. held (get a.slots) a.places.entries };
+    ghost view = { λ a. held a.entries.items };
 
-    ghost invariant = { λ a. IsTied (place_in a.places.entries) (get a.slots) (first_in a.buckets) (is_other a.buckets) };
+    ghost invariant = { λ a. IsTied a.live a.entries.items a.probes };
 }
 
-/// The place of an entry: the hint where it is right, and else what the map says.
-fn place_of<T, N: Copy>(
-    slots: &Slab<Entry<T, N>>,
-    places: &HashMap<u64, usize>,
-    spot: Spot,
-) -> Option<usize>
-    ensures { result ≡ hinted (get slots.now) (place_in places.now.entries) spot.birth spot.place }
-{
-    match slots.get(spot.place) {
-        Some(entry) if entry.birth == spot.birth => Some(spot.place),
-        _ => places.get(&spot.birth).copied(),
+impl<T, N: Copy> Entry<T, N> {
+    // Whether the entry has this hash and what is sought.
+    fn is_match<Q: Sought<T, N>>(&self, hash: u64, sought: &Q) -> bool
+        ensures { result ≡ is_match (Q.fits sought.now) hash self.now }
+    {
+        if self.hash != hash {
+            return false;
+        }
+        match &self.value {
+            Some(value) => sought.fits(value, self.note),
+            None => false,
+        }
     }
-}
-
-// The spot of the entry at a place.
-fn spot_at<T, N: Copy>(slots: &Slab<Entry<T, N>>, place: Option<usize>) -> Option<Spot>
-    ensures { (b : ℕ) → is_spot result b ≡ is_entry (found (get slots.now) place) b }
-{
-    let place = place?;
-    let birth = slots.get(place)?.birth;
-    Some(Spot { birth, place })
 }
 
 impl<T, N: Copy> Index<T, N> {
@@ -86,38 +76,34 @@ impl<T, N: Copy> Index<T, N> {
     {
         Index {
             alloc,
-            slots: Slab::new(alloc),
-            buckets: Buckets::new(alloc),
-            places: HashMap::new(alloc),
+            entries: Vec::new(alloc),
+            probes: Probes::new(alloc),
+            live: 0,
         }
     }
 
     pub(crate) fn len(&self) -> usize
         ensures { result ≡ map.len self.now }
     {
-        self.places.len()
+        self.live
+    }
+
+    fn entry(&self, spot: Spot) -> Option<&Entry<T, N>>
+        ensures { row_in (option_copied result) ≡ map.get self.now spot.birth }
+    {
+        match place_of(self.entries.as_slice(), spot) {
+            Some(place) => self.entries.as_slice().get(place),
+            None => None,
+        }
     }
 
     /// The place of the entry of a birth.
     pub(crate) fn place(&self, birth: u64) -> Option<usize>
         ensures { is_some result ≡ is_some (map.get self.now birth) }
     {
-        self.places.get(&birth).copied()
-    }
-
-    /// The spot of a birth, with its place where it has an entry.
-    pub(crate) fn spot(&self, birth: u64) -> Spot
-        ensures { result.birth ≡ birth }
-    {
-        let place = self.place(birth).unwrap_or(0);
-        Spot { birth, place }
-    }
-
-    fn entry(&self, spot: Spot) -> Option<&Entry<T, N>>
-        ensures { option_map kept (option_copied result) ≡ map.get self.now spot.birth }
-    {
-        match place_of(&self.slots, &self.places, spot) {
-            Some(place) => self.slots.get(place),
+        let place = place_of(self.entries.as_slice(), Spot { birth, place: 0 })?;
+        match self.entries[place].value {
+            Some(_) => Some(place),
             None => None,
         }
     }
@@ -127,7 +113,7 @@ impl<T, N: Copy> Index<T, N> {
         ensures { option_copied result ≡ option_map (λ r. r.value) (map.get self.now spot.birth) }
     {
         match self.entry(spot) {
-            Some(entry) => Some(&entry.value),
+            Some(entry) => entry.value.as_ref(),
             None => None,
         }
     }
@@ -136,8 +122,8 @@ impl<T, N: Copy> Index<T, N> {
     pub(crate) fn note(&self, spot: Spot) -> Option<N>
         ensures { result ≡ option_map (λ r. r.note) (map.get self.now spot.birth) }
     {
-        match self.entry(spot) {
-            Some(entry) => Some(entry.note),
+        match self.read(spot) {
+            Some((_, note)) => Some(note),
             None => None,
         }
     }
@@ -147,8 +133,9 @@ impl<T, N: Copy> Index<T, N> {
         ensures value { option_map (λ r. r.0.now) result ≡ option_map (λ r. r.value) (map.get self.now spot.birth) }
         ensures note { option_map (λ r. r.1) result ≡ option_map (λ r. r.note) (map.get self.now spot.birth) }
     {
-        match self.entry(spot) {
-            Some(entry) => Some((&entry.value, entry.note)),
+        let entry = self.entry(spot)?;
+        match &entry.value {
+            Some(value) => Some((value, entry.note)),
             None => None,
         }
     }
@@ -158,17 +145,32 @@ impl<T, N: Copy> Index<T, N> {
         requires { IsSome (map.get self.old spot.birth) }
         ensures { (r : Row T N) → map.get self.old spot.birth ≡ Some r → self.new ≡ map.insert self.old spot.birth (record r { note = note }) }
     {
-        let place = place_of(&self.slots, &self.places, spot).unwrap();
-        let entry = &mut self.slots[place];
+        let place = place_of(self.entries.as_slice(), spot).unwrap();
+        let entry = &mut self.entries[place];
         entry.note = note;
     }
 
-    /// The spots of the values that have a hash: of one, and of the others.
-    pub(crate) fn listed(&self, hash: u64) -> (Option<Spot>, &[Spot])
-        ensures { (b : ℕ) → is_spot result.0 b || has_birth result.1.now b ≡ has_hash hash (map.get self.now b) }
+    /// An entry of a hash that has what is sought. Only entries of that hash are looked at.
+    pub(crate) fn find<Q: Sought<T, N>>(&self, hash: u64, sought: &Q) -> Option<Spot>
+        ensures found { IfSome result (λ s. is_sought (Q.fits sought.now) (map.get self.now s.birth) ≡ true) }
+        ensures none { IfNone result ((b : ℕ) → has_hash hash (map.get self.now b) ≡ true → is_sought (Q.fits sought.now) (map.get self.now b) ≡ false) }
     {
-        let first = spot_at(&self.slots, self.buckets.first(hash));
-        (first, self.buckets.others(hash))
+        for word in self.probes.run(hash) {
+            if *word == 0 {
+                return None;
+            }
+            if let Some(place) = probes::place_of(*word, hash) {
+                if let Some(entry) = self.entries.as_slice().get(place) {
+                    if entry.is_match(hash, sought) {
+                        return Some(Spot {
+                            birth: entry.birth,
+                            place,
+                        });
+                    }
+                }
+            }
+        }
+        None
     }
 
     /// Takes the entry of a birth out, and gives its value.
@@ -176,19 +178,13 @@ impl<T, N: Copy> Index<T, N> {
         ensures value { result ≡ option_map (λ r. r.value) (map.get self.old birth) }
         ensures removed { self.new ≡ map.remove self.old birth }
     {
-        match self.places.remove(&birth) {
-            Some(place) => {
-                let Entry {
-                    birth: _,
-                    hash,
-                    value,
-                    note: _,
-                } = self.slots.remove(place);
-                self.buckets.unlist(hash, Spot { birth, place });
-                Some(value)
-            }
-            None => None,
+        let place = place_of(self.entries.as_slice(), Spot { birth, place: 0 })?;
+        let entry = &mut self.entries[place];
+        let value = entry.value.take();
+        if value.is_some() {
+            self.live -= 1;
         }
+        value
     }
 
     /// Drops every entry that isn't marked. It takes no memory.
@@ -197,19 +193,15 @@ impl<T, N: Copy> Index<T, N> {
         T: Drop,
         ensures { self.new ≡ map.retain_keys self.old (M.marked marks.now) }
     {
-        keep_slots(&mut self.slots, marks);
-        keep_places(&mut self.places, marks);
-        keep_firsts(&mut self.buckets.firsts, &self.slots);
-        keep_others(&mut self.buckets.others, marks);
+        self.live = keep_entries(&mut self.entries, marks);
     }
 }
 
 impl<T: Hash, N: Copy> Index<T, N> {
-    /// Adds an entry under a new birth, and tells its place. Where there is no memory the offer
-    /// comes back.
+    /// Adds an entry under a birth above all others, and tells its place. Where there is no memory
+    /// the offer comes back.
     ///
-    /// The room is reserved first and the value is made last. Where a step between is refused,
-    /// those before it are undone, which takes no memory.
+    /// Room is made first and the value is made last.
     pub(crate) fn insert<O: Offer<T>>(
         &mut self,
         birth: u64,
@@ -217,38 +209,30 @@ impl<T: Hash, N: Copy> Index<T, N> {
         offer: O,
         note: N,
     ) -> Result<usize, O>
-        requires { map.get self.old birth ≡ None }
+        requires { (b : ℕ) → IsSome (map.get self.old b) → b < birth }
         ensures ok { OnOk result (self.new ≡ map.insert self.old birth (record { hash = hash; value = O.value offer; note = note })) }
         ensures err { OnErr result (self.new ≡ self.old) }
         ensures back { IfErr result (λ back. back ≡ offer) }
     {
-        let Ok(()) = self.slots.reserve(1) else {
+        let (alloc, live) = (self.alloc, self.live);
+        thin_out(alloc, &mut self.entries, &mut self.probes, live);
+        let Ok(()) = make_room(alloc, &mut self.entries, &mut self.probes, live, birth) else {
             return Err(offer);
         };
-        let place = self.slots.vacant_key();
-        let Ok(_) = self.places.insert(birth, place) else {
-            return Err(offer);
-        };
-        let spot = Spot { birth, place };
-        let Ok(()) = self.buckets.enlist(self.alloc, hash, spot) else {
-            self.places.remove(&birth);
-            return Err(offer);
-        };
-        match offer.into_value(self.alloc) {
+        match offer.into_value(alloc) {
             Ok(value) => {
-                self.slots.insert_reserved(Entry {
+                let place = self.entries.len();
+                self.probes.enter(hash, place);
+                self.entries.push_reserved(Entry {
                     birth,
                     hash,
-                    value,
+                    value: Some(value),
                     note,
                 });
+                self.live += 1;
                 Ok(place)
             }
-            Err(back) => {
-                self.buckets.unlist(hash, spot);
-                self.places.remove(&birth);
-                Err(back)
-            }
+            Err(back) => Err(back),
         }
     }
 }

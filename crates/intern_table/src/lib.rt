@@ -1,17 +1,18 @@
-//! How the entries of a storage are kept: a slab under an index of hashes and births, and for lists
-//! of items one pool.
+//! How the entries of a storage are kept: in the order of their births, under an index of hashes,
+//! and for lists of items with one vector of all items.
 #![tactic(auto)]
 
-mod buckets;
+mod births;
 mod compact;
 mod hashing;
 mod index;
 mod offer;
 mod parts;
-mod pool;
-mod restart;
+mod probes;
+mod room;
 mod slice_table;
 mod slice_value;
+mod sought;
 mod sweep;
 mod table;
 mod text;

@@ -1,32 +1,32 @@
 //! Headers with lists of items and counts, each stored once under a birth.
-ghost use Rattle.std.specs.Prelude.{◌≡◌, ℕ, Some, None, OnOk, OnErr, IfErr, IfSome, IfNone, IsSome, is_some, true, false};
+ghost use Rattle.std.specs.Prelude.{◌≡◌, take, drop};
+ghost use Rattle.std.specs.Cmp.Lexicographic.{pointwise};
 ghost use Rattle.std.specs.Option.{option_map};
 ghost use Rattle.std.specs.FinMap as map;
-ghost use Rattle.intern_store.specs.Kept.{Kept, is_at};
-ghost use Rattle.intern_table.specs.Buckets.{has_birth};
 ghost use Rattle.intern_table.specs.Sliced.{sliced_eq};
 ghost use Rattle.intern_table.specs.Read.{read, shown};
 
+use crate::compact::{SliceNote, part};
 use crate::hashing::hash_value;
 use crate::index::Index;
 use crate::parts::{HeaderSlice, HeaderWithLength};
-use crate::pool::Pool;
-use crate::restart::{SliceNote, restart};
 use crate::slice_value::SliceValue;
+use crate::sought::Sought;
 use intern_store::{Entries, Marks, Spot, Sweeps, Takes};
 use std::alloc::Global;
 use std::cmp::Eq;
 use std::hash::{BuildHasherDefault, FoldHasher, Hash};
 use std::marker::Model;
 
-/// The table of lists: an index of the headers, and a pool with the items of every list.
+/// The table of lists: an index of the headers, and one vector with the items of every list, which
+/// lie in it in the order of their births.
 ///
 /// A search compares only entries of one hash. Only an insertion takes memory.
 #[derive(Drop)]
 pub struct SliceTable<H: Hash + Eq, S: Hash + Eq + Copy> {
     hasher: BuildHasherDefault<FoldHasher>,
     index: Index<H, SliceNote>,
-    pool: Pool<S>,
+    items: Vec<S>,
 }
 
 impl<H: Hash + Eq, S: Hash + Eq + Copy> Model for SliceTable<H, S> {
@@ -41,13 +41,29 @@ impl<H: Hash + Eq, S: Hash + Eq + Copy> Model for SliceTable<H, S> {
     ghost coded = { map.code coded_ℕ (kept_code (sliced_code H.code S.code)) };
 
     ghost use Rattle.intern_table.specs.Rows.{map_values};
-    ghost use Rattle.intern_table.specs.Pieces.{flat};
     ghost use Rattle.intern_table.specs.Joined.{sliced_row, IsJoined};
     ghost use Rattle.intern_table.specs.Hashes.{hash_by};
 
-    ghost view = { λ a. map_values (sliced_row (flat a.pool)) a.index };
+    ghost view = { λ a. map_values (sliced_row a.items.items) a.index };
 
-    ghost invariant = { λ a. IsJoined (λ v. hash_by a.hasher (sliced_input H.hash_input S.hash_input v)) a.index a.pool };
+    ghost invariant = { λ a. IsJoined (λ v. hash_by a.hasher (sliced_input H.hash_input S.hash_input v)) a.index a.items.items };
+}
+
+// A header and a list that equal those offered are sought.
+#[derive_where(Clone, Copy)]
+struct Equal<'a, H, S> {
+    header: &'a H,
+    items: &'a [S],
+    // Where the lists lie.
+    all: &'a [S],
+}
+
+impl<H: Eq, S: Eq> Sought<H, SliceNote> for Equal<'_, H, S> {
+    ghost fits = { λ s v n. sliced_eq H.eq S.eq (record { header = s.header.now; items = s.items.now }) (record { header = v; items = take n.length (drop n.start s.all.now) }) };
+
+    fn fits(&self, value: &H, note: SliceNote) -> bool {
+        self.header == value && self.items == part(self.all, note.start, note.length)
+    }
 }
 
 impl<H: Hash + Eq, S: Hash + Eq + Copy> SliceTable<H, S> {
@@ -61,33 +77,10 @@ impl<H: Hash + Eq, S: Hash + Eq + Copy> SliceTable<H, S> {
                     header,
                     length: note.length,
                 },
-                slice: self.pool.get(note.start, note.length),
+                slice: part(self.items.as_slice(), note.start, note.length),
             }),
             None => None,
         }
-    }
-
-    // Whether an entry has a header and a list equal to those offered.
-    fn equals(&self, spot: Spot, header: &H, items: &[S]) -> bool
-        ensures { result ≡ is_at (sliced_eq H.eq S.eq) (record { header = header.now; items = items.now }) (map.get self.now spot.birth) }
-    {
-        match self.get(spot) {
-            Some(stored) => header == stored.header.header && items == stored.slice,
-            None => false,
-        }
-    }
-
-    // The first of these spots with a header and a list equal to those offered.
-    fn first_equal(&self, spots: &[Spot], header: &H, items: &[S]) -> Option<Spot>
-        ensures found { IfSome result (λ s. is_at (sliced_eq H.eq S.eq) (record { header = header.now; items = items.now }) (map.get self.now s.birth) ≡ true) }
-        ensures none { IfNone result ((b : ℕ) → has_birth spots.now b ≡ true → is_at (sliced_eq H.eq S.eq) (record { header = header.now; items = items.now }) (map.get self.now b) ≡ false) }
-    {
-        for spot in spots {
-            if self.equals(*spot, header, items) {
-                return Some(*spot);
-            }
-        }
-        None
     }
 }
 
@@ -100,7 +93,7 @@ impl<H: Hash + Eq, S: Hash + Eq + Copy> Entries for SliceTable<H, S> {
         SliceTable {
             hasher: BuildHasherDefault::new(),
             index: Index::new(alloc),
-            pool: Pool::new(alloc),
+            items: Vec::new(alloc),
         }
     }
 
@@ -128,8 +121,7 @@ impl<H: Hash + Eq, S: Hash + Eq + Copy> Entries for SliceTable<H, S> {
 impl<H: Hash + Eq + Drop, S: Hash + Eq + Copy, M: Marks> Sweeps<M> for SliceTable<H, S> {
     fn keep(&mut self, marks: &M) {
         self.index.keep(marks);
-        self.pool.keep(marks);
-        restart(&mut self.index, self.pool.pieces());
+        self.index.compact(&mut self.items);
     }
 }
 
@@ -137,12 +129,12 @@ impl<'a, H: Hash + Eq, S: Hash + Eq + Copy> Takes<(H, &'a [S])> for SliceTable<H
     ghost value = { λ o. record { header = o.0; items = o.1.now } };
 
     fn find(&self, offer: &(H, &'a [S])) -> Option<Spot> {
-        let hash = hash_value(&self.hasher, offer);
-        let (first, others) = self.index.listed(hash);
-        match first {
-            Some(spot) if self.equals(spot, &offer.0, offer.1) => first,
-            _ => self.first_equal(others, &offer.0, offer.1),
-        }
+        let equal = Equal {
+            header: &offer.0,
+            items: offer.1,
+            all: self.items.as_slice(),
+        };
+        self.index.find(hash_value(&self.hasher, offer), &equal)
     }
 
     fn insert(
@@ -153,7 +145,8 @@ impl<'a, H: Hash + Eq, S: Hash + Eq + Copy> Takes<(H, &'a [S])> for SliceTable<H
     ) -> Result<usize, (H, &'a [S])> {
         let hash = hash_value(&self.hasher, &offer);
         let (header, items) = offer;
-        let Ok(start) = self.pool.append(birth, items) else {
+        let start = self.items.len();
+        let Ok(()) = self.items.extend_from_slice(items) else {
             return Err((header, items));
         };
         let note = SliceNote {
@@ -164,7 +157,7 @@ impl<'a, H: Hash + Eq, S: Hash + Eq + Copy> Takes<(H, &'a [S])> for SliceTable<H
         match self.index.insert(birth, hash, header, note) {
             Ok(place) => Ok(place),
             Err(header) => {
-                self.pool.take_back();
+                self.items.truncate(start);
                 Err((header, items))
             }
         }

@@ -1,12 +1,11 @@
 //! Values with counts, each stored once under a birth.
-ghost use Rattle.std.specs.Prelude.{◌≡◌, ℕ, option_copied, IsSome, Some, None, OnOk, OnErr, IfErr, IfSome, IfNone, is_some, true, false};
+ghost use Rattle.std.specs.Prelude.{◌≡◌, option_copied};
 ghost use Rattle.std.specs.Option.{option_map};
 ghost use Rattle.std.specs.FinMap as map;
-ghost use Rattle.intern_table.specs.Buckets.{has_birth};
-ghost use Rattle.intern_store.specs.Kept.{Kept, is_at};
 
 use crate::index::Index;
 use crate::offer::Offer;
+use crate::sought::Sought;
 use intern_store::{Entries, Marks, Removes, Spot, Sweeps, Takes};
 use std::alloc::Global;
 use std::cmp::Eq;
@@ -40,35 +39,26 @@ impl<T: Hash + Eq> Model for Table<T> {
     ghost invariant = { λ a. IsHashed kept_row (λ v. hash_by a.hasher (T.hash_input v)) a.index };
 }
 
+// A value that equals the one offered is sought.
+#[derive_where(Clone, Copy)]
+struct Equal<'a, O> {
+    offer: &'a O,
+}
+
+impl<T: Hash + Eq, O: Offer<T>> Sought<T, u64> for Equal<'_, O> {
+    ghost fits = { λ s v _. T.eq (O.value s.offer.now) v };
+
+    fn fits(&self, value: &T, _note: u64) -> bool {
+        self.offer.equals(value)
+    }
+}
+
 impl<T: Hash + Eq> Table<T> {
     /// The value of an entry.
     pub fn get(&self, spot: Spot) -> Option<&T>
         ensures { option_copied result ≡ option_map (λ k. k.value) (map.get self.now spot.birth) }
     {
         self.index.get(spot)
-    }
-
-    // Whether the value of an entry equals the one offered.
-    fn equals<O: Offer<T>>(&self, spot: Spot, offer: &O) -> bool
-        ensures { result ≡ is_at T.eq (O.value offer.now) (map.get self.now spot.birth) }
-    {
-        match self.get(spot) {
-            Some(stored) => offer.equals(stored),
-            None => false,
-        }
-    }
-
-    // The first of these spots whose value equals the one offered.
-    fn first_equal<O: Offer<T>>(&self, spots: &[Spot], offer: &O) -> Option<Spot>
-        ensures found { IfSome result (λ s. is_at T.eq (O.value offer.now) (map.get self.now s.birth) ≡ true) }
-        ensures none { IfNone result ((b : ℕ) → has_birth spots.now b ≡ true → is_at T.eq (O.value offer.now) (map.get self.now b) ≡ false) }
-    {
-        for spot in spots {
-            if self.equals(*spot, offer) {
-                return Some(*spot);
-            }
-        }
-        None
     }
 }
 
@@ -111,12 +101,8 @@ impl<T: Hash + Eq, O: Offer<T>> Takes<O> for Table<T> {
     ghost value = { O.value };
 
     fn find(&self, offer: &O) -> Option<Spot> {
-        let hash = offer.hash_in(&self.hasher);
-        let (first, others) = self.index.listed(hash);
-        match first {
-            Some(spot) if self.equals(spot, offer) => first,
-            _ => self.first_equal(others, offer),
-        }
+        self.index
+            .find(offer.hash_in(&self.hasher), &Equal { offer })
     }
 
     fn insert(&mut self, birth: u64, offer: O, count: u64) -> Result<usize, O> {

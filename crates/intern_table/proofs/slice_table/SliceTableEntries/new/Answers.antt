@@ -1,11 +1,10 @@
-use Rattle.intern_table.specs.Pieces.{flat}
 use Rattle.intern_table.specs.Joined.{sliced_row}
 use Rattle.intern_table.proofs.Joins.{empty_joined}
 use Rattle.intern_table.proofs.MapValues.{map_values-empty}
 use Rattle.intern_table.proofs.slice_table.SliceTableEntries.new.Goals as goal
 
 pub invariant_of-result : goal.invariant_of-result
-invariant_of-result g c = empty_joined _ _ _ c.new-2.ensures c.new-3.ensures
+invariant_of-result g c = empty_joined _ _ _ c.new-2.ensures
 
 pub returns : goal.returns
-returns g c = map_values-empty (sliced_row (flat c.new-3.result)) _ c.new-2.ensures
+returns g c = map_values-empty (sliced_row c.new-3.result.items) _ c.new-2.ensures

@@ -2,12 +2,12 @@ use Rattle.std.proofs.Common.{ap, ◌∙◌}
 use Rattle.std.specs.FinMap.{insert}
 use Rattle.intern_table.specs.Hashes.{hash_by}
 use Rattle.intern_table.specs.Rows.{kept_row}
-use Rattle.intern_table.proofs.Counted.{no_row, ok_then, offered_hashed}
+use Rattle.intern_table.proofs.Counted.{all_below, ok_then, offered_hashed}
 use Rattle.intern_table.proofs.MapValues.{map_values-insert}
 use Rattle.intern_table.proofs.table.TableTakes.insert.Goals as goal
 
 pub insert-requires : goal.insert-requires
-insert-requires g c = no_row kept_row _ _ c.self.view_is c.args.birth c.requires
+insert-requires g c = all_below kept_row _ _ c.self.view_is c.args.birth c.requires
 
 pub invariant_of-self : goal.invariant_of-self
 invariant_of-self g c =

@@ -1,0 +1,46 @@
+use Rattle.std.proofs.Common.{◌≤◌, ◌<◌, ◌∙◌, sym, ap, length, rules, refl, arith}
+use Rattle.std.proofs.lemmas.List.{get_or_default}
+use Rattle.intern_table.specs.Probed.{home, word, leads}
+use Rattle.intern_table.proofs.Probing.{filled_still, filled_met, full_more, more_still, more_met}
+use Rattle.intern_table.proofs.probes.Probes.enter.Goals as goal
+
+pub loop-at-init : goal.loop-at-init
+loop-at-init c = record { same = refl; behind = omega arith; full = λ k low high. absurd (omega arith) }
+
+pub loop-at-preserved : goal.loop-at-preserved
+loop-at-preserved c = record {
+  same = c.loop-at.invariant.same;
+  behind = omega arith;
+  full =
+      let within : c.loop-at.at < length c.loop-at.self.words.items = search rules in
+      full_more _ c.loop-at.at c.loop-at.self.words.items c.loop-at.invariant.full
+      (λ empty. c.if-index-eq0.false (c.index.ensures ∙ get_or_default c.loop-at.self.words.items c.loop-at.at c.index.result.now 0 within ∙ empty));
+}
+
+pub returns-then-index-eq0-clause-entered : goal.returns-then-index-eq0-clause-entered
+returns-then-index-eq0-clause-entered c =
+    let within : c.loop-at.at < length c.loop-at.self.words.items = search rules in
+    rw c.word_of-word.ensures
+    (filled_met (word c.args.hash c.args.place) (home c.loop-at.self.homes c.args.hash) c.loop-at.at c.loop-at.self.words.items
+    (λ none. absurd (omega arith)) c.loop-at.invariant.behind within c.loop-at.invariant.full)
+
+pub returns-then-index-eq0-clause-still : goal.returns-then-index-eq0-clause-still
+returns-then-index-eq0-clause-still c = λ h p met.
+    let within : c.loop-at.at < length c.loop-at.self.words.items = search rules in
+    filled_still (word h p) c.word_of-word.result (home c.loop-at.self.homes h) c.loop-at.at c.loop-at.self.words.items
+    (sym (get_or_default c.loop-at.self.words.items c.loop-at.at c.index.result.now 0 within) ∙ sym c.index.ensures ∙ c.if-index-eq0.true)
+    (ap (λ a. leads a h p) c.loop-at.invariant.same ∙ met)
+
+pub returns-clause-entered : goal.returns-clause-entered
+returns-clause-entered c =
+    let all : length c.loop-at.self.words.items ≤ c.loop-at.at = search rules in
+    let low : home c.loop-at.self.homes c.args.hash ≤ length c.loop-at.self.words.items = search rules in
+    rw (c.push_reserved.ensures.items, c.word_of-word.ensures)
+    (more_met (word c.args.hash c.args.place) (home c.loop-at.self.homes c.args.hash) c.loop-at.self.words.items
+    (λ none. absurd (omega arith)) low (λ k from to. c.loop-at.invariant.full k from (omega arith)))
+
+pub returns-clause-still : goal.returns-clause-still
+returns-clause-still c = λ h p met.
+    rw c.push_reserved.ensures.items
+    (more_still (word h p) c.word_of-word.result (home c.loop-at.self.homes h) c.loop-at.self.words.items
+    (ap (λ a. leads a h p) c.loop-at.invariant.same ∙ met))
