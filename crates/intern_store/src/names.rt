@@ -78,7 +78,7 @@ pub enum Refusal {
     /// The value isn't stored, and the storage has given all its births.
     #[error("the storage has given all its numbers")]
     NumbersUsedUp,
-    /// A growth that the call needs was refused.
+    /// A growth that the call needs was refused. A table doesn't grow past 2^32 - 2 entries.
     #[error("out of memory")]
     OutOfMemory,
 }

@@ -280,7 +280,7 @@ module _ {H S : Type 0} where
     still_tied live a is = record {
       ordered = record {
         rising = subst IsRising (sym same_births) is.ordered.rising;
-        small = let size : length es ≡ length es' = sym (length-map es (λ e. e.birth)) ∙ ap length same_births ∙ length-map es' (λ e. e.birth) in subst (λ n. n < 2 ^ 48) (sym size) is.ordered.small;
+        small = let size : length es ≡ length es' = sym (length-map es (λ e. e.birth)) ∙ ap length same_births ∙ length-map es' (λ e. e.birth) in subst (λ n. n < 2 ^ 32) (sym size) is.ordered.small;
       };
       counted = is.counted ∙ sym same_len;
       homes = is.homes;

@@ -1,22 +1,23 @@
 -- What a change of the entries does to the map, and to what ties the index.
-use Rattle.std.proofs.Common.{◌≡◌, inl, inr, ◌⊎◌, ℕ, zero, suc, ◌+◌, ◌-◌, ◌<◌, ◌≤◌, ◌^◌, Bool, true, false, cond, ◌&&◌, List, [], ◌∷◌, ◌++◌, length, map, set, drop, get_or, drop-cons, add-one, Option, Some, None, IsSome, IfSome, IfNone, is_some, Bor, nat_eq, nat_lt, refl, sym, ap, subst, ◌∙◌, arith}
+use Rattle.std.proofs.Common.{◌≡◌, inl, inr, ◌⊎◌, ℕ, zero, suc, ◌+◌, ◌-◌, ◌<◌, ◌≤◌, ◌^◌, Bool, true, false, cond, not, ◌&&◌, ◌||◌, List, [], ◌∷◌, ◌++◌, length, map, set, drop, get_or, drop-cons, add-one, Option, Some, None, IsSome, IfSome, IfNone, is_some, Bor, nat_eq, nat_lt, refl, sym, ap, subst, ◌∙◌, arith}
 use Rattle.std.specs.Prelude.{slice_get, slice_index_or, option_copied}
 use Rattle.std.specs.Option.{option_map}
 use Rattle.std.specs.Ordering.{nat_cmp}
 use Rattle.std.specs.Cmp.{nat_cmp_total}
 use Rattle.std.specs.FinMap.{FinMap, get, insert, remove, retain_keys, len, empty_of_len, get-empty, len-empty, len-insert, len-remove}
 use Rattle.std.proofs.lemmas.Bool.{eqb-true, eq-eqb}
-use Rattle.std.proofs.lemmas.Option.{same_Some, slice_get-map, slice_get_past, slice_get_read, slice_get_within}
+use Rattle.std.proofs.lemmas.Option.{same_Some, slice_get-map, slice_get_past, slice_get_read}
 use Rattle.std.proofs.lemmas.List.{length-map, length-set}
 use Rattle.std.proofs.lemmas.Bool.Decides.{nat_tests}
 use Rattle.intern_store.proofs.Compared.{get-removed, get-retained}
 use Rattle.intern_table.specs.Row.{Row, has_hash}
-use Rattle.intern_table.specs.Probed.{word, is_met, leads, run}
+use Rattle.intern_table.specs.Probed.{word, is_empty, is_same, is_met, leads, run}
+use Rattle.intern_table.specs.declared.probes.Word.{Word}
 use Rattle.intern_table.specs.Ordered.{IsAt, IsAbsent, IsRising, IsBelow, row_of, row_in, is_live, births, put, held, is_sought, is_match, cut, IsTied}
 use Rattle.intern_table.specs.declared.index.Entry.{Entry}
 use Rattle.intern_table.specs.declared.probes.Probes.{Probes}
 use Rattle.intern_table.proofs.Ordered.{row_at, get-put, get-held, same, held-none, entry_there, row_at-absent, row_at-high, row_at-there, row_from, births-set, row_at-set, row_at-push, births-push, rising_push, births-cut, row_at-cut}
-use Rattle.intern_table.proofs.Probing.{met_cases}
+use Rattle.intern_table.proofs.Probing.{nothing, met_cases}
 
 -- an entry has a row where it has a value
 pub is_live_row : {T N : Type 0} (e : Entry T N) → is_some (row_of e) ≡ is_live e
@@ -131,7 +132,7 @@ module _ {T N : Type 0} where
     }
 
     -- one more entry at the end
-    pub push_tied : (e : Entry T N) (b : Probes) → IsBelow (births es) e.birth → length es + 1 < 2 ^ 48 → IsSome e.value → b.homes ≤ length b.words.items
+    pub push_tied : (e : Entry T N) (b : Probes) → IsBelow (births es) e.birth → length es + 1 < 2 ^ 32 → IsSome e.value → b.homes ≤ length b.words.items
         → leads b e.hash (length es) ≡ true → ((h p : ℕ) → leads a h p ≡ true → leads b h p ≡ true) → IsTied (live + 1) (es ++ e ∷ []) b
     push_tied e b below small some homes entered still = record {
       ordered = record {
@@ -232,13 +233,13 @@ module _ {T N : Type 0} where
           go (Some v) = refl
 
   -- each entry of a hash that has what is sought is met among these words
-  abbrev pub IsPassed : (T → N → Bool) → ℕ → List (Entry T N) → List ℕ → Type 0
+  abbrev pub IsPassed : (T → N → Bool) → ℕ → List (Entry T N) → List Word → Type 0
   IsPassed fits h es ws = (p : ℕ) (e : Entry T N) → slice_get es p ≡ Some e → e.hash ≡ h → (is_sought fits (row_of e) ≡ false) ⊎ (is_met (word h p) ws ≡ true)
 
-  pub passed_all : (fits : T → N → Bool) (h live : ℕ) (es : List (Entry T N)) (a : Probes) (ws : List ℕ) → IsTied live es a → ws ≡ run a h → IsPassed fits h es ws
+  pub passed_all : (fits : T → N → Bool) (h live : ℕ) (es : List (Entry T N)) (a : Probes) (ws : List Word) → IsTied live es a → ws ≡ run a h → IsPassed fits h es ws
   passed_all fits h live es a ws tied is p e has hash = inr (ap (is_met (word h p)) is ∙ ap (λ g. leads a g p) (sym hash) ∙ tied.led p e has)
 
-  pub passed_on : (fits : T → N → Bool) (h : ℕ) (es : List (Entry T N)) (w : ℕ) (ws : List ℕ) → IsPassed fits h es (w ∷ ws)
+  pub passed_on : (fits : T → N → Bool) (h : ℕ) (es : List (Entry T N)) (w : Word) (ws : List Word) → IsPassed fits h es (w ∷ ws)
       → ((p : ℕ) (e : Entry T N) → slice_get es p ≡ Some e → e.hash ≡ h → w ≡ word h p → is_sought fits (row_of e) ≡ false) → IsPassed fits h es ws
   passed_on fits h es w ws passed other p e has hash =
       elim (passed p e has hash) [
@@ -250,13 +251,13 @@ module _ {T N : Type 0} where
             ]
       ]
 
-  pub passed_step : (fits : T → N → Bool) (h : ℕ) (es : List (Entry T N)) (ws : List ℕ) (i : ℕ) → IsPassed fits h es (drop i ws) → i < length ws
-      → ((p : ℕ) (e : Entry T N) → slice_get es p ≡ Some e → e.hash ≡ h → get_or ws i 0 ≡ word h p → is_sought fits (row_of e) ≡ false) → IsPassed fits h es (drop (i + 1) ws)
+  pub passed_step : (fits : T → N → Bool) (h : ℕ) (es : List (Entry T N)) (ws : List Word) (i : ℕ) → IsPassed fits h es (drop i ws) → i < length ws
+      → ((p : ℕ) (e : Entry T N) → slice_get es p ≡ Some e → e.hash ≡ h → get_or ws i nothing ≡ word h p → is_sought fits (row_of e) ≡ false) → IsPassed fits h es (drop (i + 1) ws)
   passed_step fits h es ws i passed below other =
-      passed_on fits h es (get_or ws i 0) (drop (i + 1) ws) (subst (IsPassed fits h es) (drop-cons ws i 0 below ∙ ap (λ n. get_or ws i 0 ∷ drop n ws) (sym (add-one i))) passed) other
+      passed_on fits h es (get_or ws i nothing) (drop (i + 1) ws) (subst (IsPassed fits h es) (drop-cons ws i nothing below ∙ ap (λ n. get_or ws i nothing ∷ drop n ws) (sym (add-one i))) passed) other
 
   -- where no word is left, none has what is sought
-  pub none_left : (fits : T → N → Bool) (h : ℕ) (es : List (Entry T N)) (m : FinMap nat_cmp (Row T N)) (ws : List ℕ) → held es ≡ m → IsPassed fits h es ws → ((x : ℕ) → is_met x ws ≡ false)
+  pub none_left : (fits : T → N → Bool) (h : ℕ) (es : List (Entry T N)) (m : FinMap nat_cmp (Row T N)) (ws : List Word) → held es ≡ m → IsPassed fits h es ws → ((x : Word) → is_met x ws ≡ false)
       → (b : ℕ) → has_hash h (get m b) ≡ true → is_sought fits (get m b) ≡ false
   none_left fits h es m ws view passed none b hashed = go (get m b) (sym (seen es m view b)) hashed
     where
@@ -313,18 +314,15 @@ unremoved m b none = same m (remove m b) (λ q. sym (get-removed m b q ∙ go q 
     go q false t = refl
 
 -- nothing is met at an empty word, or past the last
-pub empty_word : (ws : List ℕ) (i : ℕ) → i < length ws → get_or ws i 0 ≡ 0 → (x : ℕ) → is_met x (drop i ws) ≡ false
-empty_word ws i below none x = ap (is_met x) (drop-cons ws i 0 below) ∙ ap (λ w. is_met x (w ∷ drop (suc i) ws)) none
+pub empty_word : (ws : List Word) (i : ℕ) → i < length ws → is_empty (get_or ws i nothing) ≡ true → (x : Word) → is_met x (drop i ws) ≡ false
+empty_word ws i below none x =
+    ap (is_met x) (drop-cons ws i nothing below) ∙ ap (λ t. not t && (is_same x (get_or ws i nothing) || is_met x (drop (suc i) ws))) none
 
-pub no_word : (ws : List ℕ) (i : ℕ) → length ws ≤ i → (x : ℕ) → is_met x (drop i ws) ≡ false
+pub no_word : (ws : List Word) (i : ℕ) → length ws ≤ i → (x : Word) → is_met x (drop i ws) ≡ false
 no_word [] zero past x = refl
 no_word [] (suc i) past x = refl
 no_word (w ∷ ws) zero past x = absurd (omega arith)
 no_word (w ∷ ws) (suc i) past x = no_word ws i (omega arith) x
-
--- a place of an entry has a word
-pub has_word : {T N : Type 0} (es : List (Entry T N)) (p : ℕ) (e : Entry T N) → length es < 2 ^ 48 → slice_get es p ≡ Some e → p + 1 < 2 ^ 48
-has_word es p e small has = let within = slice_get_within es p e has in omega arith
 
 pub not_got : {X : Type 0} (xs : List X) (i : ℕ) (o : Option (Bor X)) → is_some o ≡ nat_lt i (length xs) → IfSome o (λ x. x.now ≡ slice_index_or xs i x.now)
     → ((x : Bor X) → o ≡ Some x → ⊥) → (x : X) → slice_get xs i ≡ Some x → ⊥

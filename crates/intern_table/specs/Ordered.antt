@@ -67,7 +67,7 @@ module _ {T N : Type 0} where
     -- the births rise
     pub rising : IsRising (births es)
     -- there are fewer than words can tell apart
-    pub small : length es < 2 ^ 48
+    pub small : length es < 2 ^ 32
 
   pub record IsTied (live : ℕ) (es : List (Entry T N)) (a : Probes) : Type 0 where
     pub ordered : IsOrdered es

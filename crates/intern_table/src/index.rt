@@ -7,7 +7,7 @@ ghost use Rattle.intern_table.specs.Row.{Row, has_hash};
 
 use crate::births::place_of;
 use crate::offer::Offer;
-use crate::probes::{self, Probes};
+use crate::probes::Probes;
 use crate::room::{make_room, thin_out};
 use crate::sought::Sought;
 use crate::sweep::keep_entries;
@@ -156,17 +156,18 @@ impl<T, N: Copy> Index<T, N> {
         ensures none { IfNone result ((b : ℕ) → has_hash hash (map.get self.now b) ≡ true → is_sought (Q.fits sought.now) (map.get self.now b) ≡ false) }
     {
         for word in self.probes.run(hash) {
-            if *word == 0 {
+            if word.is_empty() {
                 return None;
             }
-            if let Some(place) = probes::place_of(*word, hash) {
-                if let Some(entry) = self.entries.as_slice().get(place) {
-                    if entry.is_match(hash, sought) {
-                        return Some(Spot {
-                            birth: entry.birth,
-                            place,
-                        });
-                    }
+            let Some(place) = word.place(hash) else {
+                continue;
+            };
+            if let Some(entry) = self.entries.as_slice().get(place) {
+                if entry.is_match(hash, sought) {
+                    return Some(Spot {
+                        birth: entry.birth,
+                        place,
+                    });
                 }
             }
         }

@@ -1,44 +1,71 @@
 //! Where the entries of a hash may lie.
-ghost use Rattle.std.specs.Prelude.{◌≡◌, ℕ, ◌+◌, ◌<◌, ◌≤◌, ◌^◌, length, Some, true, IfOk, OnOk};
+ghost use Rattle.std.specs.Prelude.{◌≡◌, ℕ, ◌+◌, ◌/◌, ◌<◌, ◌≤◌, ◌^◌, length, Some, true, IfOk, OnOk};
 ghost use Rattle.std.specs.Vec.{vec_len, vec_capacity};
-ghost use Rattle.intern_table.specs.Probed.{home, is_met, leads, run, word};
+ghost use Rattle.intern_table.specs.Probed.{home, is_empty, leads, run, word};
 
 use std::alloc::{AllocError, Global};
 
-/// More than the places that there are.
-pub(crate) const PLACES: u64 = 1 << 48;
+/// How many places there may be at most, and one more.
+pub(crate) const PLACES: usize = 1 << 32;
 
 // How many words have room behind the homes, before more is asked for.
 const SPARE: usize = 64;
 
-/// Words of the places of entries: a hash table by open addressing, with linear probing.
+/// Where an entry may lie. It is empty where the number is zero.
+#[derive(Clone, Copy)]
+pub(crate) struct Word {
+    /// The upper half of the entry's hash.
+    half: u32,
+    /// The entry's place, counted from one.
+    number: u32,
+}
+
+/// A hash table of places by open addressing, with linear probing.
 ///
 /// A search for a hash begins at the hash's home, and ends at the first empty word or at the end.
-/// A word is zero where it is empty, and else the upper 16 bits of a hash with a place, counted
-/// from one. Words stay until the table is made anew: a word may be of no entry.
+/// Words stay until the table is made anew: a word may be of no entry.
 #[derive(Drop)]
 pub(crate) struct Probes {
-    words: Vec<u64>,
+    words: Vec<Word>,
     homes: usize,
 }
 
-// The word of an entry.
-fn word_of(hash: u64, place: usize) -> u64
-    requires { place + 1 < 2 ^ 48 }
-    ensures { result ≡ word hash place }
+const EMPTY: Word = Word { half: 0, number: 0 };
+
+// The upper half of a hash.
+fn upper_half(hash: u64) -> u32
+    ensures { result ≡ hash / 2 ^ 32 }
 {
-    hash / PLACES * PLACES + (place as u64 + 1)
+    (hash / (1 << 32)) as u32
 }
 
-/// The place of a word that is met, where it may be that of an entry of this hash.
-pub(crate) fn place_of(met: u64, hash: u64) -> Option<usize>
-    ensures { (p : ℕ) → p + 1 < 2 ^ 48 → met ≡ word hash p → result ≡ Some p }
+// The word of an entry.
+fn word_of(hash: u64, place: usize) -> Word
+    requires { place + 1 < 2 ^ 32 }
+    ensures { result ≡ word hash place }
 {
-    if met / PLACES != hash / PLACES {
-        return None;
+    Word {
+        half: upper_half(hash),
+        number: place as u32 + 1,
     }
-    let number = (met % PLACES) as usize;
-    number.checked_sub(1)
+}
+
+impl Word {
+    pub(crate) fn is_empty(self) -> bool
+        ensures { result ≡ is_empty self }
+    {
+        self.number == 0
+    }
+
+    /// The place, where the word may be that of an entry of this hash.
+    pub(crate) fn place(self, hash: u64) -> Option<usize>
+        ensures { (p : ℕ) → self ≡ word hash p → result ≡ Some p }
+    {
+        if self.half != upper_half(hash) {
+            return None;
+        }
+        (self.number as usize).checked_sub(1)
+    }
 }
 
 impl Probes {
@@ -57,7 +84,7 @@ impl Probes {
     {
         let homes = places.saturating_add(places / 2);
         let mut words = Vec::with_capacity(alloc, homes.saturating_add(SPARE))?;
-        words.resize(homes, 0)?;
+        words.resize(homes, EMPTY)?;
         Ok(Probes { words, homes })
     }
 
@@ -73,7 +100,7 @@ impl Probes {
     }
 
     /// The words that a search for a hash begins with.
-    pub(crate) fn run(&self, hash: u64) -> &[u64]
+    pub(crate) fn run(&self, hash: u64) -> &[Word]
         requires { self.now.homes ≤ length self.now.words.items }
         ensures { result.now ≡ run self.now hash }
     {
@@ -92,7 +119,7 @@ impl Probes {
     /// Enters the word of an entry.
     pub(crate) fn enter(&mut self, hash: u64, place: usize)
         requires fits { self.old.homes ≤ length self.old.words.items }
-        requires small { place + 1 < 2 ^ 48 }
+        requires small { place + 1 < 2 ^ 32 }
         requires room { vec_len self.old.words < vec_capacity self.old.words }
         ensures fits { self.new.homes ≤ length self.new.words.items }
         ensures entered { leads self.new hash place ≡ true }
@@ -100,7 +127,7 @@ impl Probes {
     {
         let word = word_of(hash, place);
         for at in self.home(hash)..self.words.len() {
-            if self.words[at] == 0 {
+            if self.words[at].is_empty() {
                 self.words[at] = word;
                 return;
             }

@@ -34,7 +34,7 @@ fn table_of<T, N: Copy>(
     entries: &[Entry<T, N>],
     room: usize,
 ) -> Result<Probes, AllocError>
-    requires { length entries.now < 2 ^ 48 }
+    requires { length entries.now < 2 ^ 32 }
     ensures homes { IfOk result (λ a. a.homes ≤ length a.words.items) }
     ensures led { IfOk result (λ a. (p : ℕ) (e : Entry T N) → slice_get (filter is_live entries.now) p ≡ Some e → leads a e.hash p ≡ true) }
 {
@@ -135,7 +135,7 @@ pub(crate) fn make_room<T, N: Copy>(
     ensures tied { IsTied live entries.new.items probes.new }
     ensures held { held entries.new.items ≡ held entries.old.items }
     ensures below { OnOk result (IsBelow (births entries.new.items) birth) }
-    ensures small { OnOk result (length entries.new.items + 1 < 2 ^ 48) }
+    ensures small { OnOk result (length entries.new.items + 1 < 2 ^ 32) }
     ensures room { OnOk result (vec_len entries.new < vec_capacity entries.new) }
     ensures word { OnOk result (vec_len probes.new.words < vec_capacity probes.new.words) }
 {
@@ -143,7 +143,7 @@ pub(crate) fn make_room<T, N: Copy>(
         renew(alloc, entries, probes, live)?;
         entries.reserve(1)?;
     }
-    if entries.len() as u64 + 1 >= PLACES {
+    if entries.len() + 1 >= PLACES {
         return Err(AllocError);
     }
     probes.reserve()

@@ -2,16 +2,16 @@ use Rattle.std.proofs.Common.{◌≡◌, Some, drop, ap, sym, ◌∙◌}
 use Rattle.std.specs.Prelude.{slice_get, option_copied}
 use Rattle.std.proofs.lemmas.Option.{same_Some}
 use Rattle.intern_table.specs.Ordered.{is_match, is_sought}
-use Rattle.intern_table.proofs.Tied.{seen_entry, got, not_got, passed_all, passed_step, none_left, unmatched, matched, empty_word, no_word, has_word}
+use Rattle.intern_table.proofs.Tied.{seen_entry, got, not_got, passed_all, passed_step, none_left, unmatched, matched, empty_word, no_word}
 use Rattle.intern_table.proofs.index.Index.find.Goals as goal
-use Rattle.intern_table.proofs.index.Index.find.Goals.{in-Some+in-Some-get+else-is_match, in-Some+in_default-get, in_default}
+use Rattle.intern_table.proofs.index.Index.find.Goals.{in-Some-get+else-is_match, in_default-get}
 
 pub loop-word-init : goal.loop-word-init
 loop-word-init g c = passed_all (g.Q.Sought.fits c.args.sought.now) c.args.hash c.self.inside.live _ c.self.inside.probes _ c.self.invariant c.run-word-items.ensures
 
-pub returns-then-word-eq0-clause-none : goal.returns-then-word-eq0-clause-none
-returns-then-word-eq0-clause-none g c =
-    none_left (g.Q.Sought.fits c.args.sought.now) c.args.hash _ _ (drop c.loop-word.word-index c.run-word-items.result.now) c.self.view_is c.loop-word.invariant (empty_word _ c.loop-word.word-index c.loop-word-test.true c.if-word-eq0.true)
+pub returns-then-is_empty-clause-none : goal.returns-then-is_empty-clause-none
+returns-then-is_empty-clause-none g c =
+    none_left (g.Q.Sought.fits c.args.sought.now) c.args.hash _ _ (drop c.loop-word.word-index c.run-word-items.result.now) c.self.view_is c.loop-word.invariant (empty_word _ c.loop-word.word-index c.loop-word-test.true (sym c.is_empty.ensures ∙ c.if-is_empty.true))
 
 pub returns-then-is_match-clause-found : goal.returns-then-is_match-clause-found
 returns-then-is_match-clause-found g c =
@@ -24,18 +24,19 @@ pub loop-word-preserved : goal.loop-word-preserved
 loop-word-preserved g c =
     let fits = g.Q.Sought.fits c.args.sought.now in
     passed_step fits c.args.hash c.self.inside.entries.items c.run-word-items.result.now c.loop-word.word-index c.loop-word.invariant c.loop-word-test.true (λ p e has hash is.
-    let placed = c.place_of.ensures p (has_word _ p e c.self.invariant.ordered.small has) is in
-    elim c.match-place_of.branch [
-      | in-Some+in-Some-get+else-is_match w ↦
-          let here = same_Some _ _ (sym w.in-Some.is ∙ placed) in
-          let read = ap option_copied (sym w.in-Some-get.is) ∙ got _ w.in-Some.place _ w.get.ensures.lookup.0 w.get.ensures.lookup.1 ∙ ap (λ es. slice_get es w.in-Some.place) w.as_slice.ensures.value in
-          let entry = same_Some _ _ (read ∙ ap (slice_get c.self.inside.entries.items) here ∙ has) in
+    let here = same_Some _ _ (sym c.in-Some.is ∙ c.place.ensures p is) in
+    let there = ap (λ es. slice_get es c.in-Some.place) c.as_slice.ensures.value ∙ ap (slice_get c.self.inside.entries.items) here ∙ has in
+    elim c.match-get.branch [
+      | in-Some-get+else-is_match w ↦
+          let entry = same_Some _ _ (ap option_copied (sym w.in-Some-get.is) ∙ got _ c.in-Some.place _ c.get.ensures.lookup.0 c.get.ensures.lookup.1 ∙ there) in
           unmatched fits c.args.hash e (ap (is_match fits c.args.hash) (sym entry) ∙ sym w.is_match.ensures ∙ w.if-is_match.false) hash
-      | in-Some+in_default-get w ↦
-          let here = same_Some _ _ (sym w.in-Some.is ∙ placed) in
-          absurd (not_got _ w.in-Some.place _ w.get.ensures.lookup.0 w.get.ensures.lookup.1 w.in_default-get.not-Some e (ap (λ es. slice_get es w.in-Some.place) w.as_slice.ensures.value ∙ ap (slice_get c.self.inside.entries.items) here ∙ has))
-      | in_default w ↦ absurd (w.in_default.not-Some p placed)
+      | in_default-get w ↦ absurd (not_got _ c.in-Some.place _ c.get.ensures.lookup.0 c.get.ensures.lookup.1 w.in_default-get.not-Some e there)
     ])
+
+pub loop-word-preserved-in_default : goal.loop-word-preserved-in_default
+loop-word-preserved-in_default g c =
+    passed_step (g.Q.Sought.fits c.args.sought.now) c.args.hash c.self.inside.entries.items c.run-word-items.result.now c.loop-word.word-index c.loop-word.invariant c.loop-word-test.true (λ p e has hash is.
+    absurd (c.in_default.not-Some p (c.place.ensures p is)))
 
 pub returns-clause-none : goal.returns-clause-none
 returns-clause-none g c = none_left (g.Q.Sought.fits c.args.sought.now) c.args.hash _ _ (drop c.loop-word.word-index c.run-word-items.result.now) c.self.view_is c.loop-word.invariant (no_word _ c.loop-word.word-index c.loop-word-test.false)

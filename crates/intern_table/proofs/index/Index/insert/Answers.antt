@@ -12,7 +12,7 @@ pub overflow_add-self : goal.overflow_add-self
 overflow_add-self g c =
     let all : c.self.inside.live ≡ length (filter is_live c.make_room.new.entries.items) = counted_live _ _ _ c.in-Ok.ensures.tied in
     let most : length (filter is_live c.make_room.new.entries.items) ≤ length c.make_room.new.entries.items = length-filtered-le _ _ in
-    let small : length c.make_room.new.entries.items + 1 < 2 ^ 48 = c.in-Ok.ensures.small in
+    let small : length c.make_room.new.entries.items + 1 < 2 ^ 32 = c.in-Ok.ensures.small in
     omega arith
 
 pub invariant_of-self-in-Ok-into_value : goal.invariant_of-self-in-Ok-into_value

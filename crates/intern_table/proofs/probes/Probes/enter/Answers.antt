@@ -1,7 +1,7 @@
-use Rattle.std.proofs.Common.{◌≤◌, ◌<◌, ◌∙◌, sym, ap, length, rules, refl, arith}
+use Rattle.std.proofs.Common.{◌≤◌, ◌<◌, ◌∙◌, sym, ap, get_or, length, rules, refl, arith}
 use Rattle.std.proofs.lemmas.List.{get_or_default}
-use Rattle.intern_table.specs.Probed.{home, word, leads}
-use Rattle.intern_table.proofs.Probing.{filled_still, filled_met, full_more, more_still, more_met}
+use Rattle.intern_table.specs.Probed.{home, is_empty, word, leads}
+use Rattle.intern_table.proofs.Probing.{nothing, some_number, no_number, filled_still, filled_met, full_more, more_still, more_met}
 use Rattle.intern_table.proofs.probes.Probes.enter.Goals as goal
 
 pub loop-at-init : goal.loop-at-init
@@ -14,21 +14,21 @@ loop-at-preserved c = record {
   full =
       let within : c.loop-at.at < length c.loop-at.self.words.items = search rules in
       full_more _ c.loop-at.at c.loop-at.self.words.items c.loop-at.invariant.full
-      (λ empty. c.if-index-eq0.false (c.index.ensures ∙ get_or_default c.loop-at.self.words.items c.loop-at.at c.index.result.now 0 within ∙ empty));
+      (some_number (get_or c.loop-at.self.words.items c.loop-at.at nothing) (ap is_empty (sym (get_or_default c.loop-at.self.words.items c.loop-at.at c.index.result.now nothing within) ∙ sym c.index.ensures) ∙ sym c.is_empty.ensures ∙ c.if-is_empty.false));
 }
 
-pub returns-then-index-eq0-clause-entered : goal.returns-then-index-eq0-clause-entered
-returns-then-index-eq0-clause-entered c =
+pub returns-then-is_empty-clause-entered : goal.returns-then-is_empty-clause-entered
+returns-then-is_empty-clause-entered c =
     let within : c.loop-at.at < length c.loop-at.self.words.items = search rules in
     rw c.word_of-word.ensures
     (filled_met (word c.args.hash c.args.place) (home c.loop-at.self.homes c.args.hash) c.loop-at.at c.loop-at.self.words.items
     (λ none. absurd (omega arith)) c.loop-at.invariant.behind within c.loop-at.invariant.full)
 
-pub returns-then-index-eq0-clause-still : goal.returns-then-index-eq0-clause-still
-returns-then-index-eq0-clause-still c = λ h p met.
+pub returns-then-is_empty-clause-still : goal.returns-then-is_empty-clause-still
+returns-then-is_empty-clause-still c = λ h p met.
     let within : c.loop-at.at < length c.loop-at.self.words.items = search rules in
     filled_still (word h p) c.word_of-word.result (home c.loop-at.self.homes h) c.loop-at.at c.loop-at.self.words.items
-    (sym (get_or_default c.loop-at.self.words.items c.loop-at.at c.index.result.now 0 within) ∙ sym c.index.ensures ∙ c.if-index-eq0.true)
+    (no_number (get_or c.loop-at.self.words.items c.loop-at.at nothing) (ap is_empty (sym (get_or_default c.loop-at.self.words.items c.loop-at.at c.index.result.now nothing within) ∙ sym c.index.ensures) ∙ sym c.is_empty.ensures ∙ c.if-is_empty.true))
     (ap (λ a. leads a h p) c.loop-at.invariant.same ∙ met)
 
 pub returns-clause-entered : goal.returns-clause-entered
