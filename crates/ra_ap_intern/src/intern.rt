@@ -27,10 +27,11 @@ pub trait Internable: Hash + Eq {
 
 /// A storage of values, each kept once.
 ///
-/// Only interning a value that isn't stored takes memory. Interning takes the time of one hash,
-/// one look-up, and a comparison with each stored value of that hash. Reads and counts go straight
-/// to the entry by the handle's hint; `from_raw` and the release that frees a value take a few
-/// look-ups more.
+/// Only interning a value that isn't stored takes memory, and lets go what the entries took that
+/// went. Interning takes the time of one hash, one look-up, and a comparison with each stored value
+/// of that hash; storing one may move the others, which takes constant time a call on average.
+/// Reads and counts go straight to the entry. Where other entries have gone since, they may take a
+/// binary search, as `from_raw` may.
 #[derive(Drop)]
 pub struct InternStorage<T: Internable> {
     store: Store<Table<T>>,
