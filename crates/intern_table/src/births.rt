@@ -1,6 +1,6 @@
 //! Where the entry of a birth is.
-ghost use Rattle.std.specs.Prelude.{◌≡◌, IfOk, IfErr, IfSome, IfNone, OnErr};
-ghost use Rattle.intern_table.specs.Ordered.{births, IsAt, IsAbsent, IsBelow, IsRising};
+ghost use Rattle.std.specs.Prelude.{IfSome, IfNone};
+ghost use Rattle.intern_table.specs.Ordered.{births, IsAt, IsAbsent, IsRising};
 
 use crate::index::Entry;
 use intern_store::Spot;

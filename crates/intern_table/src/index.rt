@@ -1,5 +1,5 @@
 //! Values with notes, each under a birth and a hash.
-ghost use Rattle.std.specs.Prelude.{◌≡◌, ℕ, ◌<◌, option_copied, IsSome, is_some, Some, None, OnOk, OnErr, IfErr, IfSome, IfNone, true, false, ◌&&◌};
+ghost use Rattle.std.specs.Prelude.{◌≡◌, ℕ, ◌<◌, option_copied, IsSome, is_some, Some, None, OnOk, OnErr, IfErr, IfSome, IfNone, true, false};
 ghost use Rattle.std.specs.Option.{option_map};
 ghost use Rattle.std.specs.FinMap as map;
 ghost use Rattle.intern_table.specs.Ordered.{is_match, is_sought, row_in};
