@@ -1,4 +1,4 @@
-use super::{digits, generated, number, place, text};
+use super::{digits, generated, laws, number, place, text};
 use std::test::Fail;
 
 #[test]
@@ -136,4 +136,14 @@ fn writes_numbers(rt: HostRuntime) {
         assert_eq!(rt; digits(n).as_str(), want);
         assert_eq!(rt; generated(n).as_str(), name);
     }
+}
+
+#[test]
+fn laws_are_callable() {
+    laws::texts_rise();
+    laws::places_end();
+    laws::a_place_is_that_of_its_text();
+    laws::presets_differ();
+    laws::only_integers_are_numbers();
+    laws::numbered_lists_end();
 }

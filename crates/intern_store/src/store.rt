@@ -74,25 +74,33 @@ impl<E: Entries> Store<E> {
         self.table.len()
     }
 
+    // Where the entry of a handle is sought: nowhere for a handle of another storage.
+    fn spot(&self, handle: Handle) -> Result<Spot, Refusal>
+        ensures own { IfOk result (λ s. (handle.name.storage ≡ self.now.number) × (s.birth ≡ handle.name.birth)) }
+        ensures foreign { IfErr result (λ why. (handle.name.storage ≢ self.now.number) × (why ≡ Refusal.Foreign)) }
+    {
+        if handle.name.storage != self.number {
+            return Err(Refusal::Foreign);
+        }
+        Ok(handle.spot())
+    }
+
     /// The table, where a handle is of this storage.
     pub fn own(&self, handle: Handle) -> Option<&E>
         ensures own { IfSome result (λ t. (handle.name.storage ≡ self.now.number) × (E.entries t.now ≡ self.now.map)) }
         ensures foreign { IfNone result (handle.name.storage ≢ self.now.number) }
     {
-        if handle.name.storage != self.number {
-            return None;
+        match self.spot(handle) {
+            Ok(_) => Some(&self.table),
+            Err(_) => None,
         }
-        Some(&self.table)
     }
 
     /// The count of the entry of a handle.
     pub fn count(&self, handle: Handle) -> Option<u64>
         ensures { result ≡ counts self.now handle.name }
     {
-        if handle.name.storage != self.number {
-            return None;
-        }
-        self.table.count(handle.spot())
+        self.table.count(self.spot(handle).ok()?)
     }
 
     // A handle of a spot.
@@ -197,10 +205,7 @@ impl<E: Entries> Store<E> {
         ensures allowed { OnOk result (due self.now handle.name zero_count ≡ None) }
         ensures refused { IfErr result (λ why. due self.now handle.name zero_count ≡ Some why) }
     {
-        if handle.name.storage != self.number {
-            return Err(Refusal::Foreign);
-        }
-        match self.table.count(handle.spot()) {
+        match self.table.count(self.spot(handle)?) {
             None => Err(Refusal::Gone),
             Some(0) => Err(Refusal::CountZero),
             Some(count) => Ok(count),
@@ -259,10 +264,8 @@ impl<E: Entries> Store<E> {
         ensures refused { IfErr result (λ why. due self.old handle.name (full self.old.top) ≡ Some why) }
         ensures state { self.new ≡ (if is_ok result then counted_up self.old handle.name.birth else self.old) }
     {
-        if handle.name.storage != self.number {
-            return Err(Refusal::Foreign);
-        }
-        self.raise(handle.spot())
+        let spot = self.spot(handle)?;
+        self.raise(spot)
     }
 
     /// Counts an entry once less. It stays, also at zero.

@@ -3,15 +3,15 @@ ghost use Rattle.std.specs.Prelude.{◌≡◌, ◌<◌, ◌^◌, ◌↔◌, ℕ,
 ghost use Rattle.std.specs.List.{list_all};
 ghost use Rattle.std.specs.Str.{bytes_eq};
 ghost use Rattle.intern_presets.specs.Numbers.{number_value};
-ghost use Rattle.intern_presets.specs.Presets.{preset_text};
+ghost use Rattle.intern_presets.specs.Presets.{preset_text, place_of};
 ghost use Rattle.intern_store.specs.State.{State, IsState, IsGone, name_in, reads, entry_at, count_at, birth_of, interned, counted_up, counted_down, released, kept, due_interning, full, any_count};
 ghost use Rattle.intern_store.specs.declared.names.Name.{Name};
 ghost use Rattle.intern_table.specs.Sliced.{Sliced, sliced_eq};
 ghost use Rattle.ra_ap_intern.specs.Constants.{constants, has_its_text};
 ghost use Rattle.ra_ap_intern.specs.Handle.{name_of, ref_name};
 ghost use Rattle.ra_ap_intern.specs.Slices.{slice_name, slice_ref_name};
-ghost use Rattle.ra_ap_intern.specs.Symbols.{IsTable, Named, symbol_name, text_of, symbol_in, at_entry};
-ghost use Rattle.ra_ap_intern.specs.Symbols.Named.{preset};
+ghost use Rattle.ra_ap_intern.specs.Symbols.{IsTable, Named, symbol_name, text_of, symbol_in, due_symbol, at_entry};
+ghost use Rattle.ra_ap_intern.specs.Symbols.Named.{preset, entry};
 ghost use Rattle.ra_ap_intern.specs.declared.intern.Interned.{Interned as Owned};
 ghost use Rattle.ra_ap_intern.specs.declared.intern.InternedRef.{InternedRef as Reference};
 ghost use Rattle.ra_ap_intern.specs.declared.intern_slice.InternedSlice.{InternedSlice as OwnedSlice};
@@ -80,6 +80,29 @@ pub fn a_slice_that_is_interned_is_read<T: SliceInternable>()
     ensures { let eq = sliced_eq T.Header.eq T.SliceType.eq in (s : State (Sliced T.Header T.SliceType)) (v : Sliced T.Header T.SliceType) → let i = interned eq s v in (w : Sliced T.Header T.SliceType) × (reads i.1 (name_in s i.0) ≡ Some w) × (eq v w ≡ true) }
 {}
 
+/// A birth that was given and has no entry has none after any change of its storage of slices.
+pub fn a_slices_birth_is_given_once<T: SliceInternable>()
+    ensures interned { let eq = sliced_eq T.Header.eq T.SliceType.eq in
+        (s : State (Sliced T.Header T.SliceType)) (v : Sliced T.Header T.SliceType) (b : ℕ) →
+        IsGone s b → IsGone (interned eq s v).1 b }
+    ensures counted_up { (s : State (Sliced T.Header T.SliceType)) (c b : ℕ) →
+        IsGone s b → IsGone (counted_up s c) b }
+    ensures counted_down { (s : State (Sliced T.Header T.SliceType)) (c b : ℕ) →
+        IsGone s b → IsGone (counted_down s c) b }
+    ensures swept { (s : State (Sliced T.Header T.SliceType)) (marked : ℕ → Bool) (b : ℕ) →
+        IsGone s b → IsGone (kept s marked) b }
+{}
+
+/// Interning a slice that is stored changes nothing, and nothing can refuse it.
+pub fn a_stored_slice_is_found<T: SliceInternable>()
+    ensures unchanged { let eq = sliced_eq T.Header.eq T.SliceType.eq in
+        (s : State (Sliced T.Header T.SliceType)) (v : Sliced T.Header T.SliceType) (b : ℕ) →
+        birth_of eq s v ≡ Some b → interned eq s v ≡ (b, s) }
+    ensures allowed { let eq = sliced_eq T.Header.eq T.SliceType.eq in
+        (s : State (Sliced T.Header T.SliceType)) (v : Sliced T.Header T.SliceType) (b : ℕ) →
+        birth_of eq s v ≡ Some b → due_interning eq s v any_count ≡ None }
+{}
+
 /// Owned handles of slices are equal exactly if their names are, and equal ones hash alike.
 pub fn owned_slices_are_names<T>()
     ensures equal { (a b : OwnedSlice T) → (⟦<InternedSlice<T> as PartialEq>⟧.eq a b ≡ true) ↔ (slice_name a ≡ slice_name b) }
@@ -124,6 +147,17 @@ pub fn a_gone_text_stays_gone()
     ensures interned { (s : State (List ℕ)) (t : List ℕ) (b : ℕ) → IsGone s b → IsGone (symbol_in s t).1 b }
     ensures cloned { (s : State (List ℕ)) (a : Named) (b : ℕ) → IsGone s b → IsGone (at_entry counted_up s a) b }
     ensures released { (s : State (List ℕ)) (a : Named) (b : ℕ) → IsGone s b → IsGone (at_entry (released false) s a) b }
+{}
+
+/// Interning a text that is stored gives a symbol of its entry and counts it once more. Its count
+/// alone can refuse it.
+pub fn a_stored_text_is_found()
+    ensures counted_up { (s : State (List ℕ)) (t : List ℕ) (b : ℕ) →
+        place_of t ≡ None → birth_of bytes_eq s t ≡ Some b →
+        symbol_in s t ≡ (entry (name_in s b), counted_up s b) }
+    ensures refused { (s : State (List ℕ)) (t : List ℕ) (b n : ℕ) →
+        place_of t ≡ None → birth_of bytes_eq s t ≡ Some b → count_at s b ≡ Some n →
+        due_symbol s t ≡ full s.top n }
 {}
 
 /// Each constant has its text.

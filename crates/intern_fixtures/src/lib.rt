@@ -1,0 +1,8 @@
+//! What the crates of tests share: values to intern, and short words for what a call answers.
+#![tactic(auto)]
+
+mod answers;
+mod values;
+
+pub use answers::{allowed, refusal, refused};
+pub use values::{Unhashed, Word, make_word};
