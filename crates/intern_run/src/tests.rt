@@ -5,7 +5,7 @@ use crate::watched::Watched;
 use std::alloc::Global;
 use std::io;
 use std::io::{ErrorKind, Read, Write};
-use std::test::Fail;
+use std::process::Abort;
 
 /// Gives at most `step` bytes a read, and fails at the read `fails_at`, counted from 0.
 #[derive(Drop)]
@@ -79,167 +79,200 @@ const WRITES: usize = 14;
 
 fn make_source<'a>(
     rest: &'a [u8],
-    step: usize,
     fails_at: Option<usize>,
     kind: ErrorKind,
 ) -> Watched<Source<'a>> {
     Watched::new(Source {
         rest,
-        step,
+        step: READ_STEP,
         reads: 0,
         fails_at,
         kind,
     })
 }
 
-fn make_sink(
-    alloc: Global,
-    step: usize,
-    fails_at: Option<usize>,
-    kind: Option<ErrorKind>,
-) -> Watched<Sink> {
+fn make_sink(alloc: Global, fails_at: Option<usize>, kind: Option<ErrorKind>) -> Watched<Sink> {
     Watched::new(Sink {
         taken: Vec::new(alloc),
-        step,
+        step: WRITE_STEP,
         writes: 0,
         fails_at,
         kind,
     })
 }
 
-fn make_steady_source<'a>(text: &'a [u8]) -> Watched<Source<'a>> {
-    make_source(text, READ_STEP, None, ErrorKind::Other)
+/// What a run came to, and what its devices then tell.
+#[derive(Drop)]
+struct Run {
+    outcome: Result<(), Fault>,
+    input_failed: bool,
+    output_failed: bool,
+    reads: usize,
+    writes: usize,
+    taken: Vec<u8>,
 }
 
-fn make_steady_sink(alloc: Global) -> Watched<Sink> {
-    make_sink(alloc, WRITE_STEP, None, None)
-}
-
-#[test]
-fn answers_each_line(rt: HostRuntime) -> Result<(), Fail> {
-    let mut input = make_steady_source(TEXT);
-    let mut output = make_steady_sink(rt.alloc());
-    assert_eq!(rt; serve(rt.alloc(), &mut input, &mut output), Ok(()));
-    assert!(rt; !input.failed() && !output.failed());
-    assert_eq!(rt; input.into_inner().reads, READS);
+fn run_over(alloc: Global, mut input: Watched<Source<'_>>, mut output: Watched<Sink>) -> Run {
+    let outcome = serve(alloc, &mut input, &mut output);
+    let input_failed = input.failed();
+    let output_failed = output.failed();
     let Sink { taken, writes, .. } = output.into_inner();
-    assert_eq!(rt; writes, WRITES);
-    assert_eq!(rt; taken.as_slice(), ANSWERS);
-    Ok(())
+    Run {
+        outcome,
+        input_failed,
+        output_failed,
+        reads: input.into_inner().reads,
+        writes,
+        taken,
+    }
+}
+
+/// A run over the text in which no device fails.
+fn run_steady(alloc: Global, text: &[u8]) -> Run {
+    run_over(
+        alloc,
+        make_source(text, None, ErrorKind::Other),
+        make_sink(alloc, None, None),
+    )
+}
+
+/// A run over the text whose read `at` fails.
+fn run_to_read(alloc: Global, text: &[u8], at: usize, kind: ErrorKind) -> Run {
+    run_over(
+        alloc,
+        make_source(text, Some(at), kind),
+        make_sink(alloc, None, None),
+    )
+}
+
+/// A run over the text whose write `at` fails, or takes nothing.
+fn run_to_write(alloc: Global, text: &[u8], at: usize, kind: Option<ErrorKind>) -> Run {
+    run_over(
+        alloc,
+        make_source(text, None, ErrorKind::Other),
+        make_sink(alloc, Some(at), kind),
+    )
+}
+
+fn assert_outcome(rt: &impl Abort, ran: &Run, outcome: Result<(), Fault>) {
+    assert_eq!(rt; ran.outcome, outcome);
+}
+
+fn assert_status(rt: &impl Abort, ran: &Run, wanted: u8) {
+    assert_eq!(rt; status(&ran.outcome), wanted);
+}
+
+fn assert_count(rt: &impl Abort, count: usize, wanted: usize) {
+    assert_eq!(rt; count, wanted);
+}
+
+fn assert_answers(rt: &impl Abort, ran: &Run, answers: &[u8]) {
+    assert_outcome(rt, ran, Ok(()));
+    assert_eq!(rt; ran.taken.as_slice(), answers);
 }
 
 #[test]
-fn a_slot_is_for_one_handle(rt: HostRuntime) -> Result<(), Fail> {
+fn answers_each_line(rt: HostRuntime) {
+    let ran = run_steady(rt.alloc(), TEXT);
+    assert_answers(&rt, &ran, ANSWERS);
+    assert!(rt; !ran.input_failed && !ran.output_failed);
+    assert_count(&rt, ran.reads, READS);
+    assert_count(&rt, ran.writes, WRITES);
+}
+
+#[test]
+fn a_slot_is_for_one_handle(rt: HostRuntime) {
     let text =
         b"new a\nclone 0\nclone 1\nsame 0 2\nrelease 0\nclone 0\nsame 0 1\nsame 1 x\nsame 1\nrelease 1\nrelease 2\nrelease 2\nread 3\n";
     let answers =
         b"slot 0 birth 0 new\nslot 1\nslot 2\nyes\nkept\nno slot\nno slot\nbad command\nbad command\nkept\nfreed a\nno slot\nno slot\n";
-    let mut input = make_steady_source(text);
-    let mut output = make_steady_sink(rt.alloc());
-    assert_eq!(rt; serve(rt.alloc(), &mut input, &mut output), Ok(()));
-    assert_eq!(rt; output.into_inner().taken.as_slice(), answers.as_slice());
-    Ok(())
+    assert_answers(&rt, &run_steady(rt.alloc(), text), answers);
 }
 
 #[test]
-fn what_is_no_command_is_answered_as_such(rt: HostRuntime) -> Result<(), Fail> {
-    let mut input = make_steady_source(b"sym\nnew\nlen \nread  0\nNEW a\n len\nread -0\nlen\r\n");
-    let mut output = make_steady_sink(rt.alloc());
-    assert_eq!(rt; serve(rt.alloc(), &mut input, &mut output), Ok(()));
-    let output = output.into_inner();
-    let mut lines = 0usize;
-    for line in output.taken.as_slice().split(|b| *b == b'\n') {
-        if !line.is_empty() {
-            assert_eq!(rt; line, b"bad command".as_slice());
-            lines = lines.saturating_add(1);
-        }
-    }
-    assert_eq!(rt; lines, 8);
-    Ok(())
+fn what_is_no_command_is_answered_as_such(rt: HostRuntime) {
+    let text = b"sym\nnew\nlen \nread  0\nNEW a\n len\nread -0\nlen\r\n";
+    let answers =
+        b"bad command\nbad command\nbad command\nbad command\nbad command\nbad command\nbad command\nbad command\n";
+    assert_answers(&rt, &run_steady(rt.alloc(), text), answers);
 }
 
 #[test]
-fn a_symbol_is_counted_or_a_preset(rt: HostRuntime) -> Result<(), Fail> {
+fn a_symbol_is_counted_or_a_preset(rt: HostRuntime) {
     let text =
         b"sym hello\nsym hello\nsym isize\nsym preserve-none\nsym preserve_none\nsym \nlen\n";
     let answers =
         b"count 1 len 1\ncount 2 len 1\npreset len 1\npreset len 1\ncount 1 len 2\npreset len 2\nlen 0\n";
-    let mut input = make_steady_source(text);
-    let mut output = make_steady_sink(rt.alloc());
-    assert_eq!(rt; serve(rt.alloc(), &mut input, &mut output), Ok(()));
-    assert_eq!(rt; output.into_inner().taken.as_slice(), answers.as_slice());
-    Ok(())
+    assert_answers(&rt, &run_steady(rt.alloc(), text), answers);
 }
 
 #[test]
-fn nothing_in_nothing_out(rt: HostRuntime) -> Result<(), Fail> {
-    let mut input = make_steady_source(b"");
-    let mut output = make_steady_sink(rt.alloc());
-    let outcome = serve(rt.alloc(), &mut input, &mut output);
-    assert_eq!(rt; outcome, Ok(()));
-    assert_eq!(rt; status(&outcome), 0);
-    assert_eq!(rt; output.into_inner().writes, 0);
-    Ok(())
+fn nothing_in_nothing_out(rt: HostRuntime) {
+    let ran = run_steady(rt.alloc(), b"");
+    assert_outcome(&rt, &ran, Ok(()));
+    assert_status(&rt, &ran, 0);
+    assert_count(&rt, ran.writes, 0);
 }
 
 #[test]
 fn errors_are_passed_through(rt: HostRuntime) {
     for kind in [ErrorKind::Interrupted, ErrorKind::Other] {
-        let mut input = make_source(TEXT, READ_STEP, Some(0), kind);
-        assert_eq!(rt; input.read(&mut [0; 1]).map_err(|e| e.kind()), Err(kind));
-        let mut output = make_sink(rt.alloc(), WRITE_STEP, Some(0), Some(kind));
-        assert_eq!(rt; output.write(b"a").map_err(|e| e.kind()), Err(kind));
+        let mut input = make_source(TEXT, Some(0), kind);
+        assert_error(&rt, input.read(&mut [0; 1]), kind);
+        let mut output = make_sink(rt.alloc(), Some(0), Some(kind));
+        assert_error(&rt, output.write(b"a"), kind);
     }
 }
 
+fn assert_error(rt: &impl Abort, answer: io::Result<usize>, kind: ErrorKind) {
+    assert_eq!(rt; answer.map_err(|e| e.kind()), Err(kind));
+}
+
 #[test]
-fn fails_at_each_read_in_turn(rt: HostRuntime) -> Result<(), Fail> {
+fn fails_at_each_read_in_turn(rt: HostRuntime) {
     for kind in [ErrorKind::Interrupted, ErrorKind::Other] {
         for at in 0..READS {
-            let mut input = make_source(TEXT, READ_STEP, Some(at), kind);
-            let mut output = make_steady_sink(rt.alloc());
-            let outcome = serve(rt.alloc(), &mut input, &mut output);
-            assert_eq!(rt; outcome, Err(Fault::Input));
-            assert_eq!(rt; status(&outcome), 2);
-            assert!(rt; input.failed() && !output.failed());
-            assert_eq!(rt; input.into_inner().reads, at + 1);
-            assert_eq!(rt; output.into_inner().writes, 0);
+            fails_at_read(&rt, rt.alloc(), at, kind);
         }
     }
-    Ok(())
+}
+
+fn fails_at_read(rt: &impl Abort, alloc: Global, at: usize, kind: ErrorKind) {
+    let ran = run_to_read(alloc, TEXT, at, kind);
+    assert_outcome(rt, &ran, Err(Fault::Input));
+    assert_status(rt, &ran, 2);
+    assert!(rt; ran.input_failed && !ran.output_failed);
+    assert_count(rt, ran.reads, at.saturating_add(1));
+    assert_count(rt, ran.writes, 0);
 }
 
 #[test]
-fn fails_at_each_write_in_turn(rt: HostRuntime) -> Result<(), Fail> {
+fn fails_at_each_write_in_turn(rt: HostRuntime) {
     for kind in [Some(ErrorKind::Interrupted), Some(ErrorKind::Other), None] {
         for at in 0..WRITES {
-            let mut input = make_steady_source(TEXT);
-            let mut output = make_sink(rt.alloc(), WRITE_STEP, Some(at), kind);
-            assert_eq!(rt;
-                serve(rt.alloc(), &mut input, &mut output),
-                Err(Fault::Output)
-            );
-            assert!(rt; !input.failed() && output.failed());
-            let Sink { taken, writes, .. } = output.into_inner();
-            assert_eq!(rt; writes, at + 1);
-            assert_eq!(rt; Some(taken.as_slice()), ANSWERS.get(..at * WRITE_STEP));
+            fails_at_write(&rt, rt.alloc(), at, kind);
         }
     }
-    Ok(())
+}
+
+fn fails_at_write(rt: &impl Abort, alloc: Global, at: usize, kind: Option<ErrorKind>) {
+    let ran = run_to_write(alloc, TEXT, at, kind);
+    assert_outcome(rt, &ran, Err(Fault::Output));
+    assert!(rt; !ran.input_failed && ran.output_failed);
+    assert_count(rt, ran.writes, at.saturating_add(1));
+    assert_eq!(rt;
+        Some(ran.taken.as_slice()),
+        ANSWERS.get(..at.saturating_mul(WRITE_STEP))
+    );
 }
 
 #[test]
-fn the_first_write_fails(rt: HostRuntime) -> Result<(), Fail> {
+fn the_first_write_fails(rt: HostRuntime) {
     let text =
         b"new abc\nnew abc\nnew def\nsame 0 1\nsame 0 2\nrelease 2\nrelease 0\nread 1\nlen\n";
-    let mut input = make_steady_source(text);
-    let mut output = make_sink(rt.alloc(), WRITE_STEP, Some(0), Some(ErrorKind::Other));
-    assert_eq!(rt;
-        serve(rt.alloc(), &mut input, &mut output),
-        Err(Fault::Output)
-    );
-    assert_eq!(rt; output.into_inner().taken.len(), 0);
-    Ok(())
+    let ran = run_to_write(rt.alloc(), text, 0, Some(ErrorKind::Other));
+    assert_outcome(&rt, &ran, Err(Fault::Output));
+    assert_count(&rt, ran.taken.len(), 0);
 }
 
 #[test]
@@ -255,26 +288,16 @@ fn each_fault_has_its_line(rt: HostRuntime) {
 }
 
 #[test]
-fn a_byte_that_is_no_text(rt: HostRuntime) -> Result<(), Fail> {
-    let mut input = make_steady_source(b"\xff");
-    let mut output = make_steady_sink(rt.alloc());
-    assert_eq!(rt;
-        serve(rt.alloc(), &mut input, &mut output),
-        Err(Fault::NotText)
-    );
-    assert!(rt; !input.failed() && !output.failed());
-    assert_eq!(rt; output.into_inner().writes, 0);
-    Ok(())
+fn a_byte_that_is_no_text(rt: HostRuntime) {
+    let ran = run_steady(rt.alloc(), b"\xff");
+    assert_outcome(&rt, &ran, Err(Fault::NotText));
+    assert!(rt; !ran.input_failed && !ran.output_failed);
+    assert_count(&rt, ran.writes, 0);
 }
 
 #[test]
-fn a_failed_read_after_what_is_no_text(rt: HostRuntime) -> Result<(), Fail> {
-    let mut input = make_source(b"\xff", READ_STEP, Some(1), ErrorKind::Other);
-    let mut output = make_steady_sink(rt.alloc());
-    assert_eq!(rt;
-        serve(rt.alloc(), &mut input, &mut output),
-        Err(Fault::Input)
-    );
-    assert_eq!(rt; output.into_inner().writes, 0);
-    Ok(())
+fn a_failed_read_after_what_is_no_text(rt: HostRuntime) {
+    let ran = run_to_read(rt.alloc(), b"\xff", 1, ErrorKind::Other);
+    assert_outcome(&rt, &ran, Err(Fault::Input));
+    assert_count(&rt, ran.writes, 0);
 }
