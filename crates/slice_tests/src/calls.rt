@@ -1,33 +1,39 @@
 //! Each public call, where it succeeds.
-use crate::steps::{intern_again, intern_new, reads, release};
-use ra_ap_intern::{InternSliceStorage, Limits, Name};
+use crate::kinds::Numbers;
+use crate::steps::{
+    Numbered, clone, decrement, has_count, has_len, intern_again, intern_new, own, owner_reads,
+    reads, release,
+};
+use ra_ap_intern::{InternSliceStorage, InternedSlice, InternedSliceRef, Limits, Name, laws};
 use std::collections::{HashMap, HashSet};
-use std::test::Fail;
+use std::process::Abort;
 
 #[test]
-fn storages(rt: HostRuntime) -> Result<(), Fail> {
+fn storages(rt: HostRuntime) {
     let alloc = rt.alloc();
     let mut storage = InternSliceStorage::new(alloc, 7);
-    assert_eq!(rt; (storage.number(), storage.len()), (7, 0));
-    let x = intern_new(&rt, alloc, &mut storage, ("x", &[1]), 0)?;
-    assert_eq!(rt; storage.len(), 1);
-    assert_eq!(rt; storage.count(x), Some(0));
+    is_empty(&rt, &storage, 7);
+    let _ = intern_new(&rt, alloc, &mut storage, ("x", &[1]), 0);
+    has_len(&rt, &storage, 1);
 
     let limits = Limits { top: 1, numbers: 1 };
     let mut limited = InternSliceStorage::with_limits(alloc, 8, limits);
-    assert_eq!(rt; (limited.number(), limited.len()), (8, 0));
-    let y = intern_new(&rt, alloc, &mut limited, ("y", &[2]), 0)?;
-    assert_eq!(rt; limited.len(), 1);
-    assert_eq!(rt; limited.count(y), Some(0));
-    Ok(())
+    is_empty(&rt, &limited, 8);
+    let _ = intern_new(&rt, alloc, &mut limited, ("y", &[2]), 0);
+    has_len(&rt, &limited, 1);
+}
+
+/// The storage has this number, and no entry.
+fn is_empty(rt: &impl Abort, storage: &Numbered, number: u64) {
+    assert_eq!(rt; (storage.number(), storage.len()), (number, 0));
 }
 
 #[test]
-fn references(rt: HostRuntime) -> Result<(), Fail> {
+fn references(rt: HostRuntime) {
     let alloc = rt.alloc();
     let mut storage = InternSliceStorage::new(alloc, 7);
-    let x = intern_new(&rt, alloc, &mut storage, ("x", &[1, 2]), 0)?;
-    let y = intern_new(&rt, alloc, &mut storage, ("y", &[]), 1)?;
+    let x = intern_new(&rt, alloc, &mut storage, ("x", &[1, 2]), 0);
+    let y = intern_new(&rt, alloc, &mut storage, ("y", &[]), 1);
     let copy = y;
     assert!(rt; copy == y);
     assert!(rt; x != y);
@@ -38,62 +44,93 @@ fn references(rt: HostRuntime) -> Result<(), Fail> {
             birth: 1
         }
     );
-    reads(&rt, &storage, x, ("x", &[1, 2]))?;
-    let owned = x.to_owned(&mut storage)?;
-    assert_eq!(rt; storage.count(x), Some(1));
+    reads(&rt, &storage, x, ("x", &[1, 2]));
+    let owned = own(&rt, &mut storage, x, 1);
     drop(owned);
-    assert_eq!(rt; storage.count(x), Some(1));
-    assert_eq!(rt; x.decrement_refcount(&mut storage), Ok(()));
-    assert_eq!(rt; storage.count(x), Some(0));
-    Ok(())
+    has_count(&rt, &storage, x, 1);
+    decrement(&rt, &mut storage, x, 0);
 }
 
 #[test]
-fn owned_handles(rt: HostRuntime) -> Result<(), Fail> {
+fn owned_handles(rt: HostRuntime) {
     let alloc = rt.alloc();
     let mut storage = InternSliceStorage::new(alloc, 7);
-    let x = intern_new(&rt, alloc, &mut storage, ("x", &[1, 2]), 0)?;
-    let owned = x.to_owned(&mut storage)?;
-    assert!(rt; owned.as_ref() == x);
-    let second = owned.clone(&mut storage)?;
-    assert!(rt; owned == second);
-    assert_eq!(rt; storage.count(x), Some(2));
-    let read = second.get(&storage).ok_or("the slice is stored")?;
-    assert_eq!(rt; (read.header.header.text(), read.header.length), ("x", 2));
-    assert_eq!(rt; read.slice, [1, 2].as_slice());
-    release(&rt, &mut storage, owned, 1)?;
-    release(&rt, &mut storage, second, 0)?;
-    assert_eq!(rt; storage.len(), 1);
-    Ok(())
+    let x = intern_new(&rt, alloc, &mut storage, ("x", &[1, 2]), 0);
+    let owned = own(&rt, &mut storage, x, 1);
+    let second = clone(&rt, &mut storage, &owned, 2);
+    owner_reads(&rt, &storage, &second, ("x", &[1, 2]));
+    release(&rt, &mut storage, owned, 1);
+    release(&rt, &mut storage, second, 0);
+    has_len(&rt, &storage, 1);
 }
 
 #[test]
-fn a_set_of_references(rt: HostRuntime) -> Result<(), Fail> {
+fn a_set_of_references(rt: HostRuntime) {
     let alloc = rt.alloc();
     let mut storage = InternSliceStorage::new(alloc, 1);
-    let x = intern_new(&rt, alloc, &mut storage, ("x", &[1]), 0)?;
-    let y = intern_new(&rt, alloc, &mut storage, ("x", &[2]), 1)?;
-    let again = intern_again(&rt, alloc, &mut storage, ("x", &[1]), 0)?;
+    let x = intern_new(&rt, alloc, &mut storage, ("x", &[1]), 0);
+    let y = intern_new(&rt, alloc, &mut storage, ("x", &[2]), 1);
+    let again = intern_again(&rt, alloc, &mut storage, ("x", &[1]), 0);
     let mut set = HashSet::new(alloc);
-    assert_eq!(rt; set.insert(x)?, true);
-    assert_eq!(rt; set.insert(again)?, false);
-    assert_eq!(rt; set.contains(&again), true);
-    assert_eq!(rt; set.contains(&y), false);
-    Ok(())
+    insert(&rt, &mut set, x, true);
+    insert(&rt, &mut set, again, false);
+    contains(&rt, &set, again, true);
+    contains(&rt, &set, y, false);
+}
+
+/// Inserts a reference, which is new or isn't.
+fn insert(
+    rt: &impl Abort,
+    set: &mut HashSet<InternedSliceRef<Numbers>>,
+    slice: InternedSliceRef<Numbers>,
+    new: bool,
+) {
+    let inserted: Result<_, _> = set.insert(slice);
+    assert_eq!(rt; inserted.expect(rt, "memory"), new);
+}
+
+/// The set has the reference, or hasn't.
+fn contains(
+    rt: &impl Abort,
+    set: &HashSet<InternedSliceRef<Numbers>>,
+    slice: InternedSliceRef<Numbers>,
+    found: bool,
+) {
+    assert_eq!(rt; set.contains(&slice), found);
 }
 
 #[test]
-fn a_map_by_owned_handles(rt: HostRuntime) -> Result<(), Fail> {
+fn a_map_by_owned_handles(rt: HostRuntime) {
     let alloc = rt.alloc();
     let mut storage = InternSliceStorage::new(alloc, 1);
-    let x = intern_new(&rt, alloc, &mut storage, ("x", &[1]), 0)?;
-    let y = intern_new(&rt, alloc, &mut storage, ("x", &[2]), 1)?;
-    let owned = x.to_owned(&mut storage)?;
-    let second = owned.clone(&mut storage)?;
-    let other = y.to_owned(&mut storage)?;
+    let x = intern_new(&rt, alloc, &mut storage, ("x", &[1]), 0);
+    let y = intern_new(&rt, alloc, &mut storage, ("x", &[2]), 1);
+    let owned = own(&rt, &mut storage, x, 1);
+    let second = clone(&rt, &mut storage, &owned, 2);
+    let other = own(&rt, &mut storage, y, 1);
     let mut owners = HashMap::new(alloc);
-    assert_eq!(rt; owners.insert(owned, 5)?, None);
-    assert_eq!(rt; owners.get(&second).copied(), Some(5));
-    assert_eq!(rt; owners.get(&other).copied(), None);
-    Ok(())
+    let before: Result<_, _> = owners.insert(owned, 5);
+    assert_eq!(rt; before.expect(&rt, "memory"), None);
+    finds(&rt, &owners, &second, Some(5));
+    finds(&rt, &owners, &other, None);
+}
+
+/// The map has this value by a handle, or none.
+fn finds(
+    rt: &impl Abort,
+    owners: &HashMap<InternedSlice<Numbers>, u64>,
+    owned: &InternedSlice<Numbers>,
+    value: Option<u64>,
+) {
+    assert_eq!(rt; owners.get(owned).copied(), value);
+}
+
+#[test]
+fn laws_are_callable() {
+    laws::names_tell_slices::<Numbers>();
+    laws::a_slice_that_is_interned_is_read::<Numbers>();
+    laws::a_slices_birth_is_given_once::<Numbers>();
+    laws::a_stored_slice_is_found::<Numbers>();
+    laws::owned_slices_are_names::<Numbers>();
+    laws::slice_references_are_names::<Numbers>();
 }

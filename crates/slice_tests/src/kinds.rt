@@ -1,26 +1,8 @@
 //! The kinds of slices that the tests intern.
-ghost use Rattle.std.specs.Prelude.{true, []};
-ghost use Rattle.std.specs.Cmp.Rules.{hashing};
-ghost use Rattle.std.proofs.Common.{rules};
+ghost use Rattle.std.specs.Prelude.{true};
 
+use intern_fixtures::{Unhashed, Word};
 use ra_ap_intern::SliceInternable;
-use std::alloc::{AllocError, Global};
-use std::hash::{Hash, Hasher};
-
-/// A text.
-#[derive(Debug, Drop, PartialEq, Eq, Hash)]
-pub struct Word(String);
-
-impl Word {
-    pub fn text(&self) -> &str {
-        self.0.as_str()
-    }
-}
-
-/// The word of a text.
-pub fn make_word(alloc: Global, text: &str) -> Result<Word, AllocError> {
-    Ok(Word(String::from_str(alloc, text)?))
-}
 
 /// Numbers behind a word.
 pub struct Numbers;
@@ -67,18 +49,6 @@ impl SliceInternable for MarkedNumbers {
     const USE_GC: bool = true;
 
     ghost USE_GC = { true };
-}
-
-/// A number whose hash writes nothing: all of them hash alike.
-#[derive(Clone, Copy, Debug, PartialEq, Eq)]
-pub struct Unhashed(pub u64);
-
-impl Hash for Unhashed {
-    ghost hash_input = { λ _. [] };
-
-    ghost respects_eq = { Prim.search (hashing, rules) };
-
-    fn hash<H: Hasher>(&self, _state: &mut H) {}
 }
 
 /// Numbers behind a number, where no number writes anything to a hash.

@@ -1,8 +1,7 @@
-//! Worked examples of slices with headers, each with its expected answers.
+//! Tests of storages of slices: worked examples with their expected answers, each public call,
+//! hostile use.
 #![tactic(auto)]
 
-#[cfg(test)]
-mod answers;
 #[cfg(test)]
 mod calls;
 #[cfg(test)]

@@ -1,88 +1,206 @@
 //! Steps of many tests over numbers behind a word, each with the answer that it must get.
-use crate::answers::refused;
-use crate::kinds::{Numbers, Word, make_word};
-use ra_ap_intern::{InternSliceStorage, InternedSlice, InternedSliceRef, Refusal};
+use crate::kinds::Numbers;
+use intern_fixtures::{Word, allowed, make_word, refusal};
+use ra_ap_intern::{
+    HeaderSlice, InternSliceStorage, InternedSlice, InternedSliceRef, Refusal, Refused,
+};
 use std::alloc::Global;
 use std::process::Abort;
-use std::test::Fail;
 
 /// A storage of numbers behind a word.
 pub type Numbered = InternSliceStorage<Numbers>;
 
-/// Interns a pair that isn't stored: it gets this birth, and nothing comes back.
+/// Interns a pair, which isn't refused.
+fn intern(
+    rt: &impl Abort,
+    alloc: Global,
+    storage: &mut Numbered,
+    (text, items): (&str, &[u64]),
+) -> (InternedSliceRef<Numbers>, Option<Word>) {
+    let header = make_word(alloc, text).expect(rt, "memory");
+    InternedSlice::from_header_and_slice(storage, header, items).expect(rt, "interned")
+}
+
+/// Interns a pair that isn't stored: it gets this birth and count zero, and nothing comes back.
 pub fn intern_new(
     rt: &impl Abort,
     alloc: Global,
     storage: &mut Numbered,
-    (text, items): (&str, &[u64]),
+    pair: (&str, &[u64]),
     birth: u64,
-) -> Result<InternedSliceRef<Numbers>, Fail> {
-    let header = make_word(alloc, text)?;
-    let (slice, back) = InternedSlice::from_header_and_slice(storage, header, items)?;
-    assert_eq!(rt; slice.name().birth, birth);
+) -> InternedSliceRef<Numbers> {
+    let (slice, back) = intern(rt, alloc, storage, pair);
+    has_birth(rt, slice, birth);
     assert!(rt; back.is_none());
-    assert_eq!(rt; storage.count(slice), Some(0));
-    Ok(slice)
+    has_count(rt, storage, slice, 0);
+    slice
 }
 
-/// Interns a pair that is stored under this birth: the header comes back, and nothing changes.
+/// Interns a pair that is stored under this birth: the header comes back, and no entry is added.
 pub fn intern_again(
     rt: &impl Abort,
     alloc: Global,
     storage: &mut Numbered,
-    (text, items): (&str, &[u64]),
+    pair: (&str, &[u64]),
     birth: u64,
-) -> Result<InternedSliceRef<Numbers>, Fail> {
+) -> InternedSliceRef<Numbers> {
     let len = storage.len();
-    let header = make_word(alloc, text)?;
-    let (slice, back) = InternedSlice::from_header_and_slice(storage, header, items)?;
-    assert_eq!(rt; slice.name().birth, birth);
-    assert_eq!(rt; back.as_ref().map(Word::text), Some(text));
-    assert_eq!(rt; storage.len(), len);
-    Ok(slice)
+    let (slice, back) = intern(rt, alloc, storage, pair);
+    has_birth(rt, slice, birth);
+    assert_eq!(rt; back.as_ref().map(Word::text), Some(pair.0));
+    has_len(rt, storage, len);
+    slice
 }
 
-/// Interns a pair that isn't stored where all births are given: the header comes back, and nothing
-/// changes.
+/// Interns a pair that isn't stored where all births are given: the header comes back, and no entry
+/// is added.
 pub fn intern_in_vain(
     rt: &impl Abort,
     alloc: Global,
     storage: &mut Numbered,
     (text, items): (&str, &[u64]),
-) -> Result<(), Fail> {
+) {
     let len = storage.len();
-    let header = make_word(alloc, text)?;
+    let header = make_word(alloc, text).expect(rt, "memory");
     let answer = InternedSlice::from_header_and_slice(storage, header, items);
-    let (why, back) = refused(answer)?;
+    let Refused { why, back } = answer.err().expect(rt, "refused");
     assert_eq!(rt; why, Refusal::NumbersUsedUp);
     assert_eq!(rt; back.text(), text);
-    assert_eq!(rt; storage.len(), len);
-    Ok(())
+    has_len(rt, storage, len);
 }
 
-/// Reads this pair, and the number of its items.
+/// Reads this pair by a reference.
 pub fn reads(
     rt: &impl Abort,
     storage: &Numbered,
     slice: InternedSliceRef<Numbers>,
-    (text, items): (&str, &[u64]),
-) -> Result<(), Fail> {
-    let read = slice.get(storage).ok_or("the slice is stored")?;
+    pair: (&str, &[u64]),
+) {
+    is_pair(rt, slice.get(storage), pair);
+}
+
+/// Reads this pair by an owned handle.
+pub fn owner_reads(
+    rt: &impl Abort,
+    storage: &Numbered,
+    owned: &InternedSlice<Numbers>,
+    pair: (&str, &[u64]),
+) {
+    is_pair(rt, owned.get(storage), pair);
+}
+
+/// This pair was read, and the number of its items.
+fn is_pair(rt: &impl Abort, read: Option<HeaderSlice<Word, u64>>, (text, items): (&str, &[u64])) {
+    let read = read.expect(rt, "stored");
     assert_eq!(rt; read.header.header.text(), text);
     assert_eq!(rt; read.header.length, items.len());
     assert_eq!(rt; read.slice, items);
-    Ok(())
+}
+
+/// The reference names this birth.
+pub fn has_birth<T>(rt: &impl Abort, slice: InternedSliceRef<T>, birth: u64) {
+    assert_eq!(rt; slice.name().birth, birth);
+}
+
+/// The entry has this count.
+pub fn has_count(
+    rt: &impl Abort,
+    storage: &Numbered,
+    slice: InternedSliceRef<Numbers>,
+    count: u64,
+) {
+    assert_eq!(rt; storage.count(slice), Some(count));
+}
+
+/// The storage has this many entries.
+pub fn has_len(rt: &impl Abort, storage: &Numbered, len: usize) {
+    assert_eq!(rt; storage.len(), len);
+}
+
+/// Makes an owned handle, after which the entry has this count.
+pub fn own(
+    rt: &impl Abort,
+    storage: &mut Numbered,
+    slice: InternedSliceRef<Numbers>,
+    count: u64,
+) -> InternedSlice<Numbers> {
+    let owned = slice.to_owned(storage).expect(rt, "owned");
+    assert!(rt; owned.as_ref() == slice);
+    has_count(rt, storage, slice, count);
+    owned
+}
+
+/// Makes a second owned handle, after which the entry has this count.
+pub fn clone(
+    rt: &impl Abort,
+    storage: &mut Numbered,
+    owned: &InternedSlice<Numbers>,
+    count: u64,
+) -> InternedSlice<Numbers> {
+    let second = owned.clone(storage).expect(rt, "cloned");
+    assert!(rt; second == *owned);
+    has_count(rt, storage, owned.as_ref(), count);
+    second
 }
 
 /// Releases an owned handle, after which the entry has this count.
-pub fn release(
+pub fn release(rt: &impl Abort, storage: &mut Numbered, owned: InternedSlice<Numbers>, count: u64) {
+    let slice = owned.as_ref();
+    allowed(owned.release(storage)).expect(rt, "released");
+    has_count(rt, storage, slice, count);
+}
+
+/// Takes a count back, after which the entry has this count.
+pub fn decrement(
+    rt: &impl Abort,
+    storage: &mut Numbered,
+    slice: InternedSliceRef<Numbers>,
+    count: u64,
+) {
+    slice.decrement_refcount(storage).expect(rt, "decremented");
+    has_count(rt, storage, slice, count);
+}
+
+/// Is refused an owned handle for this reason.
+pub fn not_owned(
+    rt: &impl Abort,
+    storage: &mut Numbered,
+    slice: InternedSliceRef<Numbers>,
+    reason: Refusal,
+) {
+    assert_eq!(rt; refusal(slice.to_owned(storage)), Some(reason));
+}
+
+/// Is refused a second handle for this reason.
+pub fn not_cloned(
+    rt: &impl Abort,
+    storage: &mut Numbered,
+    owned: &InternedSlice<Numbers>,
+    reason: Refusal,
+) {
+    assert_eq!(rt; refusal(owned.clone(storage)), Some(reason));
+}
+
+/// Is refused to give a handle up for this reason: the handle comes back.
+pub fn not_released(
     rt: &impl Abort,
     storage: &mut Numbered,
     owned: InternedSlice<Numbers>,
-    count: u64,
-) -> Result<(), Fail> {
+    reason: Refusal,
+) -> InternedSlice<Numbers> {
     let slice = owned.as_ref();
-    owned.release(storage).map_err(|r| r.why)?;
-    assert_eq!(rt; storage.count(slice), Some(count));
-    Ok(())
+    let Refused { why, back } = owned.release(storage).err().expect(rt, "refused");
+    assert_eq!(rt; why, reason);
+    assert!(rt; back.as_ref() == slice);
+    back
+}
+
+/// Is refused to take a count back for this reason.
+pub fn not_decremented(
+    rt: &impl Abort,
+    storage: &mut Numbered,
+    slice: InternedSliceRef<Numbers>,
+    reason: Refusal,
+) {
+    assert_eq!(rt; slice.decrement_refcount(storage), Err(reason));
 }

@@ -1,37 +1,29 @@
 //! Every constant, with its text.
+use crate::steps::{gives, keeps};
 use ra_ap_intern::{Symbol, SymbolTable, sym};
 use std::process::Abort;
-use std::test::Fail;
 
 #[test]
-fn the_text_of_each_constant_gives_it(rt: HostRuntime) -> Result<(), Fail> {
+fn the_text_of_each_constant_gives_it(rt: HostRuntime) {
     let mut table = SymbolTable::new(rt.alloc(), 1);
-    finds_all(&rt, &mut table, &ROWS_0)?;
-    finds_all(&rt, &mut table, &ROWS_1)?;
-    finds_all(&rt, &mut table, &ROWS_2)?;
-    finds_all(&rt, &mut table, &ROWS_3)?;
-    finds_all(&rt, &mut table, &ROWS_4)?;
-    finds_all(&rt, &mut table, &ROWS_5)?;
-    assert_eq!(rt; table.len(), 0);
-    Ok(())
+    finds_each(&rt, &mut table, &PART_0);
+    finds_each(&rt, &mut table, &PART_1);
+    finds_each(&rt, &mut table, &PART_2);
+    finds_each(&rt, &mut table, &PART_3);
+    finds_each(&rt, &mut table, &PART_4);
+    finds_each(&rt, &mut table, &PART_5);
+    keeps(&rt, &table, 0);
 }
 
-fn finds_all(
-    rt: &impl Abort,
-    table: &mut SymbolTable,
-    rows: &[(&str, Symbol)],
-) -> Result<(), Fail> {
-    for (text, constant) in rows {
-        let found = Symbol::intern(table, text)?;
-        assert!(rt; found == *constant, "{text}");
-        assert_eq!(rt; constant.as_str(table), Some(*text));
-        assert_eq!(rt; table.count(constant), None, "{text}");
+/// The text of each constant of this part gives it.
+fn finds_each(rt: &impl Abort, table: &mut SymbolTable, part: &[(&str, Symbol)]) {
+    for (text, constant) in part {
+        gives(rt, table, text, constant);
     }
-    Ok(())
 }
 
 #[rattlefmt::skip]
-static ROWS_0: [(&str, Symbol); 90] = [
+static PART_0: [(&str, Symbol); 90] = [
     ("...", sym::dotdotdot),
     ("", sym::_empty_sym),
     ("unsafe", sym::unsafe_),
@@ -125,7 +117,7 @@ static ROWS_0: [(&str, Symbol); 90] = [
 ];
 
 #[rattlefmt::skip]
-static ROWS_1: [(&str, Symbol); 90] = [
+static PART_1: [(&str, Symbol); 90] = [
     ("cfg_attr", sym::cfg_attr),
     ("cfg_eval", sym::cfg_eval),
     ("cfg", sym::cfg),
@@ -219,7 +211,7 @@ static ROWS_1: [(&str, Symbol); 90] = [
 ];
 
 #[rattlefmt::skip]
-static ROWS_2: [(&str, Symbol); 90] = [
+static PART_2: [(&str, Symbol); 90] = [
     ("format_alignment", sym::format_alignment),
     ("format_args_nl", sym::format_args_nl),
     ("format_args", sym::format_args),
@@ -313,7 +305,7 @@ static ROWS_2: [(&str, Symbol); 90] = [
 ];
 
 #[rattlefmt::skip]
-static ROWS_3: [(&str, Symbol); 90] = [
+static PART_3: [(&str, Symbol); 90] = [
     ("neg", sym::neg),
     ("Neg", sym::Neg),
     ("new_binary", sym::new_binary),
@@ -407,7 +399,7 @@ static ROWS_3: [(&str, Symbol); 90] = [
 ];
 
 #[rattlefmt::skip]
-static ROWS_4: [(&str, Symbol); 90] = [
+static PART_4: [(&str, Symbol); 90] = [
     ("rem", sym::rem),
     ("repr", sym::repr),
     ("result", sym::result),
@@ -501,7 +493,7 @@ static ROWS_4: [(&str, Symbol); 90] = [
 ];
 
 #[rattlefmt::skip]
-static ROWS_5: [(&str, Symbol); 85] = [
+static PART_5: [(&str, Symbol); 85] = [
     ("unreachable_2015", sym::unreachable_2015),
     ("unreachable_2021", sym::unreachable_2021),
     ("unreachable", sym::unreachable),

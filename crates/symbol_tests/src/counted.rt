@@ -1,90 +1,69 @@
 //! Counts of stored texts.
-use crate::answers::{allowed, refusal, refused};
-use ra_ap_intern::{Limits, Refusal, Symbol, SymbolTable, sym};
-use std::test::Fail;
+use crate::steps::{
+    clone, decrease, free, intern_again, intern_new, intern_preset, is_preset, is_stored, keeps,
+    not_cloned, not_decreased, not_interned, not_released, reads_nothing, release,
+};
+use ra_ap_intern::{Limits, Refusal, SymbolTable, sym};
 
 #[test]
-fn the_last_count_taken_back_frees_the_text(rt: HostRuntime) -> Result<(), Fail> {
+fn the_last_count_taken_back_frees_the_text(rt: HostRuntime) {
     let mut table = SymbolTable::new(rt.alloc(), 1);
-    let mut x = Symbol::intern(&mut table, "x")?;
-    assert_eq!(rt; table.count(&x), Some(1));
-    assert_eq!(rt; x.decrease_refcount(&mut table), Ok(()));
-    assert_eq!(rt; x.as_str(&table), None);
-    assert_eq!(rt; table.count(&x), None);
-    assert_eq!(rt; table.len(), 0);
-    assert_eq!(rt; x.decrease_refcount(&mut table), Err(Refusal::Gone));
-    Ok(())
+    let mut x = intern_new(&rt, &mut table, "x", 1);
+    free(&rt, &mut table, &mut x, 0);
+    not_decreased(&rt, &mut table, &mut x, Refusal::Gone);
 }
 
 #[test]
 fn a_preset_has_no_count_to_take_back(rt: HostRuntime) {
     let mut table = SymbolTable::new(rt.alloc(), 1);
     let mut preset = sym::default;
-    assert_eq!(rt; preset.decrease_refcount(&mut table), Ok(()));
-    assert_eq!(rt; preset.decrease_refcount(&mut table), Ok(()));
-    assert_eq!(rt; preset.as_str(&table), Some("default"));
+    decrease(&rt, &mut table, &mut preset, None);
+    decrease(&rt, &mut table, &mut preset, None);
+    is_preset(&rt, &table, &preset, "default");
 }
 
 #[test]
-fn a_full_count_and_used_up_births_refuse(rt: HostRuntime) -> Result<(), Fail> {
+fn a_full_count_and_used_up_births_refuse(rt: HostRuntime) {
     let limits = Limits { top: 1, numbers: 2 };
     let mut table = SymbolTable::with_limits(rt.alloc(), 1, limits);
-    let mut s = Symbol::intern(&mut table, "x")?;
-    let full = Some(Refusal::CountFull);
-    assert_eq!(rt; refusal(Symbol::intern(&mut table, "x")), full);
-    assert_eq!(rt; refusal(s.clone(&mut table)), full);
-    assert_eq!(rt; s.decrease_refcount(&mut table), Ok(()));
-    assert_eq!(rt; s.as_str(&table), None);
+    let mut s = intern_new(&rt, &mut table, "x", 1);
+    not_interned(&rt, &mut table, "x", Refusal::CountFull);
+    not_cloned(&rt, &mut table, &s, Refusal::CountFull);
+    free(&rt, &mut table, &mut s, 0);
 
-    let t = Symbol::intern(&mut table, "x")?;
-    assert_eq!(rt; s == t, false);
-    assert_eq!(rt;
-        refusal(Symbol::intern(&mut table, "y")),
-        Some(Refusal::NumbersUsedUp)
-    );
-    let _ = Symbol::intern(&mut table, "isize")?;
-    assert_eq!(rt; table.len(), 1);
-    let (why, s) = refused(s.release(&mut table))?;
-    assert_eq!(rt; why, Refusal::Gone);
-    assert_eq!(rt; s.as_str(&table), None);
-    assert_eq!(rt; table.count(&t), Some(1));
-    Ok(())
+    let t = intern_new(&rt, &mut table, "x", 1);
+    assert!(rt; s != t);
+    not_interned(&rt, &mut table, "y", Refusal::NumbersUsedUp);
+    let _ = intern_preset(&rt, &mut table, "isize", 1);
+    let s = not_released(&rt, &mut table, s, Refusal::Gone);
+    reads_nothing(&rt, &table, &s);
+    is_stored(&rt, &table, &t, "x", 1);
 }
 
 #[test]
-fn a_freed_text_is_born_anew(rt: HostRuntime) -> Result<(), Fail> {
+fn a_freed_text_is_born_anew(rt: HostRuntime) {
     let mut table = SymbolTable::new(rt.alloc(), 1);
-    let a = Symbol::intern(&mut table, "v")?;
-    let b = a.clone(&mut table)?;
-    let mut stale = a.clone(&mut table)?;
-    assert_eq!(rt; table.count(&a), Some(3));
-    assert_eq!(rt; stale.decrease_refcount(&mut table), Ok(()));
-    allowed(a.release(&mut table))?;
-    assert_eq!(rt; stale.as_str(&table), Some("v"));
-    allowed(b.release(&mut table))?;
-    assert_eq!(rt; stale.as_str(&table), None);
-    assert_eq!(rt; table.len(), 0);
+    let a = intern_new(&rt, &mut table, "v", 1);
+    let b = clone(&rt, &mut table, &a, Some(2));
+    let mut stale = clone(&rt, &mut table, &a, Some(3));
+    decrease(&rt, &mut table, &mut stale, Some(2));
+    release(&rt, &mut table, a, 1);
+    is_stored(&rt, &table, &stale, "v", 1);
+    release(&rt, &mut table, b, 0);
+    reads_nothing(&rt, &table, &stale);
 
-    let c = Symbol::intern(&mut table, "v")?;
+    let c = intern_new(&rt, &mut table, "v", 1);
     assert!(rt; stale != c);
-    assert_eq!(rt; c.as_str(&table), Some("v"));
-    assert_eq!(rt; table.count(&c), Some(1));
-    assert_eq!(rt; stale.as_str(&table), None);
-    assert_eq!(rt; table.count(&stale), None);
-    Ok(())
+    reads_nothing(&rt, &table, &stale);
 }
 
 #[test]
-fn a_symbol_let_fall_leaves_its_count(rt: HostRuntime) -> Result<(), Fail> {
+fn a_symbol_let_fall_leaves_its_count(rt: HostRuntime) {
     let mut table = SymbolTable::new(rt.alloc(), 1);
-    let fallen = Symbol::intern(&mut table, "x")?;
+    let fallen = intern_new(&rt, &mut table, "x", 1);
     drop(fallen);
-    assert_eq!(rt; table.len(), 1);
-    let mut x = Symbol::intern(&mut table, "x")?;
-    assert_eq!(rt; table.count(&x), Some(2));
-    assert_eq!(rt; x.decrease_refcount(&mut table), Ok(()));
-    assert_eq!(rt; table.count(&x), Some(1));
-    allowed(x.release(&mut table))?;
-    assert_eq!(rt; table.len(), 0);
-    Ok(())
+    keeps(&rt, &table, 1);
+    let mut x = intern_again(&rt, &mut table, "x", 2);
+    decrease(&rt, &mut table, &mut x, Some(1));
+    release(&rt, &mut table, x, 0);
 }

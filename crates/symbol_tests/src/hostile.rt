@@ -1,114 +1,104 @@
 //! Symbols of another table, and the order of refusals.
-use crate::answers::{allowed, refusal, refused};
-use ra_ap_intern::sym::{Integer, RaGeneratedName};
+use crate::steps::{
+    clone, free, generated, integer, intern_new, is_stored, keeps, no_generated, no_integer,
+    not_cloned, not_decreased, not_interned, not_released, reads_nothing, release, writes,
+};
 use ra_ap_intern::{Limits, Refusal, Symbol, SymbolTable};
 use std::process::Abort;
-use std::test::Fail;
 
 #[test]
-fn a_symbol_of_another_table_reads_nothing(rt: HostRuntime) -> Result<(), Fail> {
+fn a_symbol_of_another_table_reads_nothing(rt: HostRuntime) {
     let alloc = rt.alloc();
     let mut first = SymbolTable::new(alloc, 1);
     let mut second = SymbolTable::new(alloc, 2);
-    let s = Symbol::intern(&mut first, "300")?;
-    let other = Symbol::intern(&mut second, "300")?;
+    let s = intern_new(&rt, &mut first, "300", 1);
+    let other = intern_new(&rt, &mut second, "300", 1);
     assert!(rt; s != other);
-    assert_eq!(rt; s.as_str(&second), None);
-    assert_eq!(rt; Integer::as_uint(&s, &second), None);
-    assert_eq!(rt; second.count(&s), None);
-    Ok(())
+    reads_nothing(&rt, &second, &s);
+    writes(&rt, &second, &s, None);
 }
 
 #[test]
-fn a_symbol_of_another_table_is_refused(rt: HostRuntime) -> Result<(), Fail> {
+fn a_symbol_of_another_table_is_refused(rt: HostRuntime) {
     let alloc = rt.alloc();
     let mut first = SymbolTable::new(alloc, 1);
     let mut second = SymbolTable::new(alloc, 2);
-    let s = Symbol::intern(&mut first, "x")?;
-    let twin = s.clone(&mut first)?;
-    let s = refused_in_each_way(&rt, s, &mut second, Refusal::Foreign)?;
+    let s = intern_new(&rt, &mut first, "x", 1);
+    let twin = clone(&rt, &mut first, &s, Some(2));
+    let s = refused_in_each_way(&rt, &mut second, s, Refusal::Foreign);
     assert!(rt; s == twin);
-    assert_eq!(rt; first.count(&s), Some(2));
-    assert_eq!(rt; allowed(s.release(&mut first)), Ok(()));
-    assert_eq!(rt; first.count(&twin), Some(1));
-    assert_eq!(rt; allowed(twin.release(&mut first)), Ok(()));
-    assert_eq!(rt; first.len(), 0);
-    Ok(())
+    is_stored(&rt, &first, &s, "x", 2);
+    release(&rt, &mut first, s, 1);
+    is_stored(&rt, &first, &twin, "x", 1);
+    release(&rt, &mut first, twin, 0);
 }
 
 #[test]
-fn foreign_comes_before_full(rt: HostRuntime) -> Result<(), Fail> {
+fn foreign_comes_before_full(rt: HostRuntime) {
     let alloc = rt.alloc();
     let mut first = SymbolTable::new(alloc, 1);
     let limits = Limits { top: 1, numbers: 1 };
     let mut full = SymbolTable::with_limits(alloc, 2, limits);
-    let s = Symbol::intern(&mut first, "x")?;
-    let x = Symbol::intern(&mut full, "x")?;
-    assert_eq!(rt; refusal(x.clone(&mut full)), Some(Refusal::CountFull));
-    let _ = refused_in_each_way(&rt, s, &mut full, Refusal::Foreign)?;
-    assert_eq!(rt; full.count(&x), Some(1));
-    Ok(())
+    let s = intern_new(&rt, &mut first, "x", 1);
+    let x = intern_new(&rt, &mut full, "x", 1);
+    not_cloned(&rt, &mut full, &x, Refusal::CountFull);
+    let _ = refused_in_each_way(&rt, &mut full, s, Refusal::Foreign);
+    is_stored(&rt, &full, &x, "x", 1);
 }
 
 #[test]
-fn foreign_comes_before_gone(rt: HostRuntime) -> Result<(), Fail> {
+fn foreign_comes_before_gone(rt: HostRuntime) {
     let alloc = rt.alloc();
     let mut first = SymbolTable::new(alloc, 1);
     let mut second = SymbolTable::new(alloc, 2);
-    let mut s = Symbol::intern(&mut first, "x")?;
-    assert_eq!(rt; s.decrease_refcount(&mut first), Ok(()));
-    let s = refused_in_each_way(&rt, s, &mut second, Refusal::Foreign)?;
-    let _ = refused_in_each_way(&rt, s, &mut first, Refusal::Gone)?;
-    Ok(())
+    let mut s = intern_new(&rt, &mut first, "x", 1);
+    free(&rt, &mut first, &mut s, 0);
+    let s = refused_in_each_way(&rt, &mut second, s, Refusal::Foreign);
+    let _ = refused_in_each_way(&rt, &mut first, s, Refusal::Gone);
 }
 
 #[test]
-fn gone_comes_before_full(rt: HostRuntime) -> Result<(), Fail> {
+fn gone_comes_before_full(rt: HostRuntime) {
     let limits = Limits { top: 1, numbers: 2 };
     let mut table = SymbolTable::with_limits(rt.alloc(), 1, limits);
-    let mut stale = Symbol::intern(&mut table, "x")?;
-    assert_eq!(rt; stale.decrease_refcount(&mut table), Ok(()));
-    let x = Symbol::intern(&mut table, "x")?;
-    assert_eq!(rt; refusal(x.clone(&mut table)), Some(Refusal::CountFull));
-    let stale = refused_in_each_way(&rt, stale, &mut table, Refusal::Gone)?;
+    let mut stale = intern_new(&rt, &mut table, "x", 1);
+    free(&rt, &mut table, &mut stale, 0);
+    let x = intern_new(&rt, &mut table, "x", 1);
+    not_cloned(&rt, &mut table, &x, Refusal::CountFull);
+    let stale = refused_in_each_way(&rt, &mut table, stale, Refusal::Gone);
     assert!(rt; stale != x);
-    assert_eq!(rt; table.count(&x), Some(1));
-    Ok(())
+    is_stored(&rt, &table, &x, "x", 1);
 }
 
 #[test]
-fn full_is_told_from_used_up(rt: HostRuntime) -> Result<(), Fail> {
+fn full_is_told_from_used_up(rt: HostRuntime) {
     let limits = Limits { top: 1, numbers: 3 };
     let mut table = SymbolTable::with_limits(rt.alloc(), 1, limits);
-    let _ = Symbol::intern(&mut table, "x")?;
-    let _ = Integer::get(&mut table, 256)?;
-    let _ = RaGeneratedName::get(&mut table, 256)?;
-    let full = Some(Refusal::CountFull);
-    assert_eq!(rt; refusal(Symbol::intern(&mut table, "x")), full);
-    assert_eq!(rt; refusal(Integer::get(&mut table, 256)), full);
-    assert_eq!(rt; refusal(RaGeneratedName::get(&mut table, 256)), full);
-    let used_up = Some(Refusal::NumbersUsedUp);
-    assert_eq!(rt; refusal(Symbol::intern(&mut table, "y")), used_up);
-    assert_eq!(rt; refusal(Integer::get(&mut table, 257)), used_up);
-    assert_eq!(rt; refusal(RaGeneratedName::get(&mut table, 257)), used_up);
-    assert_eq!(rt; table.len(), 3);
-    Ok(())
+    let _ = intern_new(&rt, &mut table, "x", 1);
+    let _ = integer(&rt, &mut table, 256);
+    let _ = generated(&rt, &mut table, 256);
+    not_interned(&rt, &mut table, "x", Refusal::CountFull);
+    no_integer(&rt, &mut table, 256, Refusal::CountFull);
+    no_generated(&rt, &mut table, 256, Refusal::CountFull);
+    not_interned(&rt, &mut table, "y", Refusal::NumbersUsedUp);
+    no_integer(&rt, &mut table, 257, Refusal::NumbersUsedUp);
+    no_generated(&rt, &mut table, 257, Refusal::NumbersUsedUp);
+    keeps(&rt, &table, 3);
 }
 
-/// Each call that takes a symbol refuses this one for the same reason. It gives the symbol back.
+/// Each call that takes a symbol refuses this one for the same reason, and changes nothing. It gives
+/// the symbol back.
 fn refused_in_each_way(
     rt: &impl Abort,
-    mut symbol: Symbol,
     table: &mut SymbolTable,
+    mut symbol: Symbol,
     reason: Refusal,
-) -> Result<Symbol, Fail> {
+) -> Symbol {
     let len = table.len();
-    assert_eq!(rt; symbol.as_str(table), None);
-    assert_eq!(rt; table.count(&symbol), None);
-    assert_eq!(rt; refusal(symbol.clone(table)), Some(reason));
-    assert_eq!(rt; symbol.decrease_refcount(table), Err(reason));
-    let (why, back) = refused(symbol.release(table))?;
-    assert_eq!(rt; why, reason);
-    assert_eq!(rt; table.len(), len);
-    Ok(back)
+    reads_nothing(rt, table, &symbol);
+    not_cloned(rt, table, &symbol, reason);
+    not_decreased(rt, table, &mut symbol, reason);
+    let back = not_released(rt, table, symbol, reason);
+    keeps(rt, table, len);
+    back
 }

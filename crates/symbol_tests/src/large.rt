@@ -1,26 +1,43 @@
 //! Tables with many texts.
-use crate::answers::allowed;
+use crate::steps::{intern_new, is_stored, keeps, release};
 use ra_ap_intern::{Symbol, SymbolTable};
-use std::test::Fail;
+use std::alloc::Global;
+use std::process::Abort;
 
 #[test]
-fn ten_thousand_texts_are_kept_apart(rt: HostRuntime) -> Result<(), Fail> {
+fn ten_thousand_texts_are_kept_apart(rt: HostRuntime) {
     let alloc = rt.alloc();
     let mut table = SymbolTable::new(alloc, 1);
     let mut symbols = Vec::new(alloc);
     for k in 0..10_000 {
-        let text = format!(in alloc; "x{k}")?;
-        symbols.push(Symbol::intern(&mut table, text.as_str())?)?;
+        symbols
+            .push(intern_numbered(&rt, alloc, &mut table, k, k + 1))
+            .expect(&rt, "memory");
     }
-    assert_eq!(rt; table.len(), 10_000);
+    keeps(&rt, &table, 10_000);
     for (k, symbol) in symbols.iter().enumerate() {
-        let text = format!(in alloc; "x{k}")?;
-        assert_eq!(rt; symbol.as_str(&table), Some(text.as_str()));
-        assert_eq!(rt; table.count(symbol), Some(1), "{text}");
+        is_numbered(&rt, alloc, &table, symbol, k);
     }
-    for symbol in symbols {
-        assert_eq!(rt; allowed(symbol.release(&mut table)), Ok(()));
+    for (symbol, left) in symbols.into_iter().zip((0..10_000).rev()) {
+        release(&rt, &mut table, symbol, left);
     }
-    assert_eq!(rt; table.len(), 0);
-    Ok(())
+    keeps(&rt, &table, 0);
+}
+
+/// Interns the text of this number, after which the table keeps so many texts.
+fn intern_numbered(
+    rt: &impl Abort,
+    alloc: Global,
+    table: &mut SymbolTable,
+    k: usize,
+    len: usize,
+) -> Symbol {
+    let text = format!(in alloc; "x{k}").expect(rt, "memory");
+    intern_new(rt, table, text.as_str(), len)
+}
+
+/// The symbol reads the text of this number.
+fn is_numbered(rt: &impl Abort, alloc: Global, table: &SymbolTable, symbol: &Symbol, k: usize) {
+    let text = format!(in alloc; "x{k}").expect(rt, "memory");
+    is_stored(rt, table, symbol, text.as_str(), 1);
 }

@@ -1,8 +1,6 @@
-//! Worked examples of symbols, call by call, each with its expected answers.
+//! Tests of symbols: worked examples with their expected answers, each public call, hostile use.
 #![tactic(auto)]
 
-#[cfg(test)]
-mod answers;
 #[cfg(test)]
 mod calls;
 #[cfg(test)]
@@ -19,3 +17,5 @@ mod numbers;
 mod ported;
 #[cfg(test)]
 mod presets;
+#[cfg(test)]
+mod steps;

@@ -1,11 +1,14 @@
 //! Symbols of numbers and of generated names.
-use crate::answers::allowed;
-use ra_ap_intern::sym::{self, Integer, RaGeneratedName};
+use crate::steps::{
+    free, generated, integer, intern, intern_again, intern_new, intern_preset, is_stored, keeps,
+    release, writes,
+};
+use ra_ap_intern::sym::{self, Integer};
 use ra_ap_intern::{Symbol, SymbolTable};
-use std::test::Fail;
+use std::process::Abort;
 
 #[test]
-fn numbers_are_read(rt: HostRuntime) -> Result<(), Fail> {
+fn numbers_are_read(rt: HostRuntime) {
     let mut table = SymbolTable::new(rt.alloc(), 1);
     for (text, number) in [
         ("007", Some(7)),
@@ -21,108 +24,97 @@ fn numbers_are_read(rt: HostRuntime) -> Result<(), Fail> {
         ("1 ", None),
         ("+0", Some(0)),
     ] {
-        let symbol = Symbol::intern(&mut table, text)?;
-        assert_eq!(rt; Integer::as_uint(&symbol, &table), number, "{text}");
+        is_read_as(&rt, &mut table, text, number);
     }
-    assert_eq!(rt; Integer::as_uint(&sym::_0_u8, &table), None);
-    let generated = RaGeneratedName::get(&mut table, 5)?;
-    assert_eq!(rt; Integer::as_uint(&generated, &table), None);
-    Ok(())
+    writes(&rt, &table, &sym::_0_u8, None);
+    let _ = generated(&rt, &mut table, 5);
+}
+
+/// The symbol of this text writes this number, or none.
+fn is_read_as(rt: &impl Abort, table: &mut SymbolTable, text: &str, number: Option<usize>) {
+    let symbol = intern(rt, table, text);
+    assert_eq!(rt; Integer::as_uint(&symbol, table), number, "{text}");
 }
 
 #[test]
-fn a_number_with_a_sign_is_another_symbol(rt: HostRuntime) -> Result<(), Fail> {
+fn a_number_with_a_sign_is_another_symbol(rt: HostRuntime) {
     let mut table = SymbolTable::new(rt.alloc(), 1);
-    let signed = Symbol::intern(&mut table, "+0")?;
-    let zero = Integer::get(&mut table, 0)?;
+    let signed = intern_new(&rt, &mut table, "+0", 1);
+    let zero = integer(&rt, &mut table, 0);
     assert!(rt; signed != zero);
-    assert_eq!(rt; Integer::as_uint(&signed, &table), Some(0));
-    assert_eq!(rt; Integer::as_uint(&zero, &table), Some(0));
-    assert_eq!(rt; table.len(), 1);
-    Ok(())
+    writes(&rt, &table, &signed, Some(0));
+    writes(&rt, &table, &zero, Some(0));
+    keeps(&rt, &table, 1);
 }
 
 #[test]
-fn numbers_up_to_255_are_presets(rt: HostRuntime) -> Result<(), Fail> {
+fn numbers_up_to_255_are_presets(rt: HostRuntime) {
     let mut table = SymbolTable::new(rt.alloc(), 1);
-    let number = Integer::get(&mut table, 255)?;
-    assert!(rt; number == Symbol::intern(&mut table, "255")?);
+    let number = integer(&rt, &mut table, 255);
+    assert!(rt; number == intern_preset(&rt, &mut table, "255", 0));
     for n in 0..256 {
-        let number = Integer::get(&mut table, n)?;
-        assert_eq!(rt; table.count(&number), None, "{n}");
-        assert_eq!(rt; Integer::as_uint(&number, &table), Some(n));
-        let generated = RaGeneratedName::get(&mut table, n)?;
-        assert_eq!(rt; table.count(&generated), None, "{n}");
-        assert!(rt; generated != number);
+        has_two_presets(&rt, &mut table, n);
     }
-    assert_eq!(rt; table.len(), 0);
-    Ok(())
+    keeps(&rt, &table, 0);
+}
+
+/// The symbol and the generated name of the number are two presets.
+fn has_two_presets(rt: &impl Abort, table: &mut SymbolTable, n: usize) {
+    let number = integer(rt, table, n);
+    assert_eq!(rt; table.count(&number), None, "{n}");
+    let name = generated(rt, table, n);
+    assert_eq!(rt; table.count(&name), None, "{n}");
+    assert!(rt; name != number);
 }
 
 #[test]
-fn numbers_above_255_are_stored(rt: HostRuntime) -> Result<(), Fail> {
+fn numbers_above_255_are_stored(rt: HostRuntime) {
     let mut table = SymbolTable::new(rt.alloc(), 1);
-    let number = Integer::get(&mut table, 256)?;
-    let again = Integer::get(&mut table, 256)?;
+    let number = integer(&rt, &mut table, 256);
+    let again = integer(&rt, &mut table, 256);
     assert!(rt; number == again);
-    assert_eq!(rt; table.count(&number), Some(2));
-    assert_eq!(rt; table.len(), 1);
-    assert_eq!(rt; number.as_str(&table), Some("256"));
-    assert_eq!(rt; Integer::as_uint(&number, &table), Some(256));
+    is_stored(&rt, &table, &number, "256", 2);
+    keeps(&rt, &table, 1);
 
-    let generated = RaGeneratedName::get(&mut table, 256)?;
-    assert_eq!(rt; generated.as_str(&table), Some("<ra@gennew>256"));
-    assert!(rt; generated == Symbol::intern(&mut table, "<ra@gennew>256")?);
-    assert_eq!(rt; table.count(&generated), Some(2));
-    assert_eq!(rt; table.len(), 2);
-    assert_eq!(rt; Integer::as_uint(&generated, &table), None);
-    Ok(())
+    let name = generated(&rt, &mut table, 256);
+    is_stored(&rt, &table, &name, "<ra@gennew>256", 1);
+    assert!(rt; name == intern_again(&rt, &mut table, "<ra@gennew>256", 2));
+    keeps(&rt, &table, 2);
 }
 
 #[test]
-fn the_largest_number_has_a_text(rt: HostRuntime) -> Result<(), Fail> {
+fn the_largest_number_has_a_text(rt: HostRuntime) {
     let mut table = SymbolTable::new(rt.alloc(), 1);
-    let number = Integer::get(&mut table, 18_446_744_073_709_551_615)?;
-    assert_eq!(rt; number.as_str(&table), Some("18446744073709551615"));
-    assert_eq!(rt; number.as_str(&table).map(|text| text.len()), Some(20));
-    assert_eq!(rt;
-        Integer::as_uint(&number, &table),
-        Some(18_446_744_073_709_551_615)
-    );
+    let largest = 18_446_744_073_709_551_615;
+    let number = integer(&rt, &mut table, largest);
+    is_stored(&rt, &table, &number, "18446744073709551615", 1);
+    has_length(&rt, &table, &number, 20);
+    let name = generated(&rt, &mut table, largest);
+    is_stored(&rt, &table, &name, "<ra@gennew>18446744073709551615", 1);
+    has_length(&rt, &table, &name, 31);
+}
 
-    let generated = RaGeneratedName::get(&mut table, 18_446_744_073_709_551_615)?;
-    assert_eq!(rt;
-        generated.as_str(&table),
-        Some("<ra@gennew>18446744073709551615")
-    );
-    assert_eq!(rt; generated.as_str(&table).map(|text| text.len()), Some(31));
-    Ok(())
+/// The symbol's text has so many bytes.
+fn has_length(rt: &impl Abort, table: &SymbolTable, symbol: &Symbol, len: usize) {
+    assert_eq!(rt; symbol.as_str(table).map(|text| text.len()), Some(len));
 }
 
 #[test]
-fn the_end_of_the_numbered_presets(rt: HostRuntime) -> Result<(), Fail> {
+fn the_end_of_the_numbered_presets(rt: HostRuntime) {
     let mut table = SymbolTable::new(rt.alloc(), 1);
-    for (text, len) in [
-        ("255", 0),
-        ("256", 1),
-        ("<ra@gennew>7", 1),
-        ("<ra@gennew>07", 2),
-    ] {
-        let symbol = Symbol::intern(&mut table, text)?;
-        assert_eq!(rt; symbol.as_str(&table), Some(text));
-        assert_eq!(rt; table.len(), len, "{text}");
-    }
-    Ok(())
+    let _ = intern_preset(&rt, &mut table, "255", 0);
+    let _ = intern_new(&rt, &mut table, "256", 1);
+    let _ = intern_preset(&rt, &mut table, "<ra@gennew>7", 1);
+    let _ = intern_new(&rt, &mut table, "<ra@gennew>07", 2);
 }
 
 #[test]
-fn a_number_that_is_gone_is_not_read(rt: HostRuntime) -> Result<(), Fail> {
+fn a_number_that_is_gone_is_not_read(rt: HostRuntime) {
     let mut table = SymbolTable::new(rt.alloc(), 1);
-    let number = Integer::get(&mut table, 256)?;
-    let mut again = Integer::get(&mut table, 256)?;
-    allowed(number.release(&mut table))?;
-    assert_eq!(rt; Integer::as_uint(&again, &table), Some(256));
-    again.decrease_refcount(&mut table)?;
-    assert_eq!(rt; Integer::as_uint(&again, &table), None);
-    Ok(())
+    let number = integer(&rt, &mut table, 256);
+    let mut again = integer(&rt, &mut table, 256);
+    release(&rt, &mut table, number, 1);
+    writes(&rt, &table, &again, Some(256));
+    free(&rt, &mut table, &mut again, 0);
+    writes(&rt, &table, &again, None);
 }

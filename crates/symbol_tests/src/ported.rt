@@ -1,39 +1,34 @@
 //! A test of the Rust crate, over a table.
-use crate::answers::allowed;
+use crate::steps::{clone, intern_again, intern_new, intern_preset, keeps, release};
 use ra_ap_intern::{Symbol, SymbolTable};
 use std::alloc::Global;
 use std::process::Abort;
-use std::test::Fail;
 
 #[test]
-fn smoke_test(rt: HostRuntime) -> Result<(), Fail> {
+fn smoke_test(rt: HostRuntime) {
     let mut table = SymbolTable::new(rt.alloc(), 1);
-    let _ = Symbol::intern(&mut table, "isize")?;
-    assert_eq!(rt; table.len(), 0);
-    let hello = Symbol::intern(&mut table, "hello")?;
-    let world = Symbol::intern(&mut table, "world")?;
-    let second_world = world.clone(&mut table)?;
-    let bang = Symbol::intern(&mut table, "!")?;
-    two_marks_come_and_go(&rt, &mut table)?;
+    let _ = intern_preset(&rt, &mut table, "isize", 0);
+    let hello = intern_new(&rt, &mut table, "hello", 1);
+    let world = intern_new(&rt, &mut table, "world", 2);
+    let second_world = clone(&rt, &mut table, &world, Some(2));
+    let bang = intern_new(&rt, &mut table, "!", 3);
+    two_marks_come_and_go(&rt, &mut table);
 
-    let third_world = world.clone(&mut table)?;
-    three_words_are_printed(&rt, rt.alloc(), &mut table, [&hello, &world, &bang])?;
-    gives_back(&rt, &mut table, second_world, 3);
-    gives_back(&rt, &mut table, third_world, 3);
-    gives_back(&rt, &mut table, hello, 2);
-    gives_back(&rt, &mut table, world, 1);
-    gives_back(&rt, &mut table, bang, 0);
-    Ok(())
+    let third_world = clone(&rt, &mut table, &world, Some(3));
+    three_words_are_printed(&rt, rt.alloc(), &mut table, [&hello, &world, &bang]);
+    release(&rt, &mut table, second_world, 3);
+    release(&rt, &mut table, third_world, 3);
+    release(&rt, &mut table, hello, 2);
+    release(&rt, &mut table, world, 1);
+    release(&rt, &mut table, bang, 0);
 }
 
-fn two_marks_come_and_go(rt: &impl Abort, table: &mut SymbolTable) -> Result<(), Fail> {
-    let question = Symbol::intern(table, "?")?;
-    assert_eq!(rt; table.len(), 4);
-    let second_bang = Symbol::intern(table, "!")?;
-    assert_eq!(rt; table.len(), 4);
-    gives_back(rt, table, second_bang, 4);
-    gives_back(rt, table, question, 3);
-    Ok(())
+fn two_marks_come_and_go(rt: &impl Abort, table: &mut SymbolTable) {
+    let question = intern_new(rt, table, "?", 4);
+    let second_bang = intern_again(rt, table, "!", 2);
+    keeps(rt, table, 4);
+    release(rt, table, second_bang, 4);
+    release(rt, table, question, 3);
 }
 
 fn three_words_are_printed(
@@ -41,21 +36,22 @@ fn three_words_are_printed(
     alloc: Global,
     table: &mut SymbolTable,
     [hello, world, bang]: [&Symbol; 3],
-) -> Result<(), Fail> {
-    let preset = Symbol::intern(table, "default")?;
-    assert_eq!(rt; table.len(), 3);
-    let hello = hello.as_str(table).ok_or("hello is stored")?;
-    let default = preset.as_str(table).ok_or("default is a preset")?;
-    let world = world.as_str(table).ok_or("world is stored")?;
-    let bang = bang.as_str(table).ok_or("! is stored")?;
-    let line = format!(in alloc; "{hello} {default} {world}{bang}")?;
+) {
+    let preset = intern_preset(rt, table, "default", 3);
+    let line = printed(rt, alloc, table, [hello, &preset, world, bang]);
     assert_eq!(rt; line.as_str(), "hello default world!");
-    gives_back(rt, table, preset, 3);
-    Ok(())
+    release(rt, table, preset, 3);
 }
 
-/// Releases a symbol, after which the table keeps so many texts.
-fn gives_back(rt: &impl Abort, table: &mut SymbolTable, symbol: Symbol, len: usize) {
-    assert_eq!(rt; allowed(symbol.release(table)), Ok(()));
-    assert_eq!(rt; table.len(), len);
+fn printed(
+    rt: &impl Abort,
+    alloc: Global,
+    table: &SymbolTable,
+    [hello, default, world, bang]: [&Symbol; 4],
+) -> String {
+    let hello = hello.as_str(table).expect(rt, "hello is stored");
+    let default = default.as_str(table).expect(rt, "default is a preset");
+    let world = world.as_str(table).expect(rt, "world is stored");
+    let bang = bang.as_str(table).expect(rt, "! is stored");
+    format!(in alloc; "{hello} {default} {world}{bang}").expect(rt, "memory")
 }

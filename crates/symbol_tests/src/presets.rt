@@ -1,9 +1,10 @@
 //! Texts that are presets, and texts that are nearly presets.
-use crate::answers::allowed;
-use ra_ap_intern::sym::{self, Integer, RaGeneratedName};
-use ra_ap_intern::{Limits, Symbol, SymbolTable};
+use crate::steps::{
+    clone, decrease, generated, gives, integer, intern_new, intern_preset, is_preset, keeps,
+    release, writes,
+};
+use ra_ap_intern::{Limits, Symbol, SymbolTable, sym};
 use std::process::Abort;
-use std::test::Fail;
 
 static PRESETS: [(&str, Symbol); 8] = [
     ("unsafe", sym::unsafe_),
@@ -17,18 +18,17 @@ static PRESETS: [(&str, Symbol); 8] = [
 ];
 
 #[test]
-fn texts_that_are_presets(rt: HostRuntime) -> Result<(), Fail> {
+fn texts_that_are_presets(rt: HostRuntime) {
     let mut table = SymbolTable::new(rt.alloc(), 1);
     assert!(rt; Symbol::empty() == sym::_empty_sym);
     for (text, preset) in &PRESETS {
-        assert!(rt; Symbol::intern(&mut table, text)? == *preset, "{text}");
+        gives(&rt, &mut table, text, preset);
     }
-    let zero = Integer::get(&mut table, 0)?;
-    assert!(rt; Symbol::intern(&mut table, "0")? == zero);
-    let generated = RaGeneratedName::get(&mut table, 255)?;
-    assert!(rt; Symbol::intern(&mut table, "<ra@gennew>255")? == generated);
-    assert_eq!(rt; table.len(), 0);
-    Ok(())
+    let zero = integer(&rt, &mut table, 0);
+    gives(&rt, &mut table, "0", &zero);
+    let name = generated(&rt, &mut table, 255);
+    gives(&rt, &mut table, "<ra@gennew>255", &name);
+    keeps(&rt, &table, 0);
 }
 
 #[test]
@@ -38,7 +38,7 @@ fn presets_with_like_texts_differ(rt: HostRuntime) {
 }
 
 #[test]
-fn texts_that_are_nearly_presets_are_stored(rt: HostRuntime) -> Result<(), Fail> {
+fn texts_that_are_nearly_presets_are_stored(rt: HostRuntime) {
     let mut table = SymbolTable::new(rt.alloc(), 1);
     for (len, text) in [
         (1, "rust-preserve-none"),
@@ -47,47 +47,39 @@ fn texts_that_are_nearly_presets_are_stored(rt: HostRuntime) -> Result<(), Fail>
         (4, "256"),
         (5, "<ra@gennew>"),
     ] {
-        let symbol = Symbol::intern(&mut table, text)?;
-        assert_eq!(rt; symbol.as_str(&table), Some(text));
-        assert_eq!(rt; table.count(&symbol), Some(1), "{text}");
-        assert_eq!(rt; table.len(), len, "{text}");
+        let _ = intern_new(&rt, &mut table, text, len);
     }
-    Ok(())
 }
 
 #[test]
-fn stored_texts_of_numbers(rt: HostRuntime) -> Result<(), Fail> {
+fn stored_texts_of_numbers(rt: HostRuntime) {
     let mut table = SymbolTable::new(rt.alloc(), 1);
-    let padded = Symbol::intern(&mut table, "00")?;
-    assert!(rt; padded != Integer::get(&mut table, 0)?);
-    assert_eq!(rt; Integer::as_uint(&padded, &table), Some(0));
-    let number = Symbol::intern(&mut table, "256")?;
-    assert!(rt; number == Integer::get(&mut table, 256)?);
-    assert_eq!(rt; table.len(), 2);
-    Ok(())
+    let padded = intern_new(&rt, &mut table, "00", 1);
+    assert!(rt; padded != integer(&rt, &mut table, 0));
+    writes(&rt, &table, &padded, Some(0));
+    let number = intern_new(&rt, &mut table, "256", 2);
+    assert!(rt; number == integer(&rt, &mut table, 256));
+    keeps(&rt, &table, 2);
 }
 
 #[test]
-fn presets_are_never_refused(rt: HostRuntime) -> Result<(), Fail> {
+fn presets_are_never_refused(rt: HostRuntime) {
     let limits = Limits { top: 1, numbers: 0 };
     let mut table = SymbolTable::with_limits(rt.alloc(), 1, limits);
     for text in ["", "default", "255", "<ra@gennew>255"] {
-        stays(&rt, &mut table, text)?;
+        stays(&rt, &mut table, text);
     }
-    let _ = Integer::get(&mut table, 255)?;
-    let _ = RaGeneratedName::get(&mut table, 255)?;
-    assert_eq!(rt; table.len(), 0);
-    Ok(())
+    let _ = integer(&rt, &mut table, 255);
+    let _ = generated(&rt, &mut table, 255);
+    keeps(&rt, &table, 0);
 }
 
 /// Gives a preset up more often than it was had: it reads its text all the while.
-fn stays(rt: &impl Abort, table: &mut SymbolTable, text: &str) -> Result<(), Fail> {
-    let preset = Symbol::intern(table, text)?;
-    let mut second = preset.clone(table)?;
-    assert!(rt; second == preset);
-    assert_eq!(rt; allowed(preset.release(table)), Ok(()));
-    assert_eq!(rt; second.decrease_refcount(table), Ok(()));
-    assert_eq!(rt; second.decrease_refcount(table), Ok(()));
-    assert_eq!(rt; second.as_str(table), Some(text));
-    Ok(())
+fn stays(rt: &impl Abort, table: &mut SymbolTable, text: &str) {
+    let preset = intern_preset(rt, table, text, 0);
+    let mut second = clone(rt, table, &preset, None);
+    release(rt, table, preset, 0);
+    decrease(rt, table, &mut second, None);
+    decrease(rt, table, &mut second, None);
+    is_preset(rt, table, &second, text);
 }

@@ -1,0 +1,131 @@
+-- What a change of the slab does to the map of its births, and to what ties it to its tables.
+use Rattle.std.proofs.Common.{◌≡◌, ◌≢◌, ◌⊎◌, inl, inr, ℕ, ◌+◌, ◌<◌, ◌^◌, Bool, true, false, cond, Option, Some, None, is_some, nat_eq, refl, sym, ap, subst, ◌∙◌, arith}
+use Rattle.std.specs.Option.{option_map}
+use Rattle.std.specs.Ordering.{nat_cmp}
+use Rattle.std.specs.Cmp.{nat_cmp_total}
+use Rattle.std.specs.FinMap.{FinMap, insert, remove, get as map_get, same_map, nat_cmp-IsAntisymmetric}
+use Rattle.std.proofs.lemmas.Bool.{cases_eq, eqb-true}
+use Rattle.std.proofs.lemmas.Option.{same_Some}
+use Rattle.slab.specs.Slab.{Slab, get, Updates}
+use Rattle.intern_store.proofs.Compared.{get-inserted, get-removed}
+use Rattle.intern_index.specs.IndexEntry.{IndexEntry}
+use Rattle.intern_index.specs.Leading.{leads}
+use Rattle.intern_index.specs.Entries.{seen, held, birth_at, IsTied}
+use Rattle.intern_index.specs.declared.buckets.Buckets.{Buckets}
+use Rattle.intern_index.specs.declared.entry.Entry.{Entry}
+use Rattle.intern_index.proofs.Held.{entry_there, birth_there, updated, seen_at}
+
+module _ {T N : Type 0} (s new : Slab (Entry T N)) (t : Buckets) (IsFor : (ℕ → Option ℕ) → Type 0) (tied : IsTied s t IsFor) where
+  -- fewer entries are tied, where each was there
+  pub less_tied : (IsNewFor : (ℕ → Option ℕ) → Type 0) → ((p : ℕ) (e : Entry T N) → get new p ≡ Some e → get s p ≡ Some e) → IsNewFor (birth_at new) → IsTied new t IsNewFor
+  less_tied IsNewFor was found = record {
+    apart = λ p q b one two. tied.apart p q b (still p b one) (still q b two);
+    led = λ p e there. tied.led p e (was p e there);
+    found = found;
+    told = λ p b is. tied.told p b (still p b is);
+  }
+    where
+      still : (p b : ℕ) → birth_at new p ≡ Some b → birth_at s p ≡ Some b
+      still p b is = let w = entry_there new p b is in birth_there s p b w.0 (was p w.0 w.1) w.2
+
+  -- an entry that is left after a removal was there
+  pub left_there : (key : ℕ) → Updates s new key None → (p : ℕ) (e : Entry T N) → get new p ≡ Some e → get s p ≡ Some e
+  left_there key updates p e there =
+      elim (cases_eq p key) [
+        | inl is ↦ let none = ap (get new) is ∙ updates.changed in absurd (cc)
+        | inr differs ↦ sym (updates.others p differs) ∙ there
+      ]
+
+  -- an entry that gets another payload is as tied as before
+  pub repaid_tied : (key : ℕ) (d e : Entry T N) → get s key ≡ Some d → d.birth ≡ e.birth → d.hash ≡ e.hash → Updates s new key (Some e) → IsTied new t IsFor
+  repaid_tied key d e there birth hash updates = record {
+    apart = λ p q b one two. tied.apart p q b (sym (same p) ∙ one) (sym (same q) ∙ two);
+    led = λ p x at.
+        elim (cases_eq p key) [
+          | inl is ↦
+              let entry = same_Some _ _ (sym updates.changed ∙ ap (get new) (sym is) ∙ at) in
+              ap (leads t x.hash) is ∙ ap (λ h. leads t h key) (ap (λ (e : Entry T N). e.hash) (sym entry) ∙ sym hash) ∙ tied.led key d there
+          | inr differs ↦ tied.led p x (sym (updates.others p differs) ∙ at)
+        ];
+    found = subst IsFor (λ i p. sym (same p) i) tied.found;
+    told = λ p b is. tied.told p b (sym (same p) ∙ is);
+  }
+    where
+      birth_of : Option (Entry T N) → Option ℕ
+      birth_of = option_map (λ e. e.birth)
+
+      same : (p : ℕ) → birth_at new p ≡ birth_at s p
+      same p =
+          elim (cases_eq p key) [
+            | inl is ↦ ap birth_of (ap (get new) is ∙ updates.changed) ∙ ap Some (sym birth) ∙ ap birth_of (sym there ∙ ap (get s) (sym is))
+            | inr differs ↦ ap birth_of (updates.others p differs)
+          ]
+
+  -- one more entry is tied, of a birth above all others, once it is entered
+  pub inserted_tied : (u : Buckets) (IsNewFor : (ℕ → Option ℕ) → Type 0) (key : ℕ) (e : Entry T N) → get s key ≡ None → ((p b : ℕ) → birth_at s p ≡ Some b → b < e.birth) → Updates s new key (Some e) → key + 1 < 2 ^ 48
+      → leads u e.hash key ≡ true → ((h p : ℕ) → leads t h p ≡ true → leads u h p ≡ true)
+      → ((old now : ℕ → Option ℕ) → IsFor old → old key ≡ None → ((p b : ℕ) → old p ≡ Some b → b < e.birth) → now key ≡ Some e.birth → ((p : ℕ) → p ≢ key → now p ≡ old p) → IsNewFor now) → IsTied new u IsNewFor
+  inserted_tied u IsNewFor key e vacant below updates small entered still found = record {
+    apart = λ p q b one two. apart p q b one two (cases_eq p key) (cases_eq q key);
+    led = λ p x at.
+        elim (cases_eq p key) [
+          | inl is ↦
+              let entry = same_Some _ _ (sym updates.changed ∙ ap (get new) (sym is) ∙ at) in
+              ap (leads u x.hash) is ∙ ap (λ h. leads u h key) (ap (λ (e : Entry T N). e.hash) (sym entry)) ∙ entered
+          | inr differs ↦ still x.hash p (tied.led p x (sym (updates.others p differs) ∙ at))
+        ];
+    found = found (birth_at s) (birth_at new) tied.found (ap birth_of vacant) below (ap birth_of updates.changed) (λ p differs. ap birth_of (updates.others p differs));
+    told = λ p b is.
+        elim (cases_eq p key) [
+          | inl here ↦ omega arith
+          | inr differs ↦ tied.told p b (old p b differs is)
+        ];
+  }
+    where
+      birth_of : Option (Entry T N) → Option ℕ
+      birth_of = option_map (λ e. e.birth)
+
+      old : (p b : ℕ) → p ≢ key → birth_at new p ≡ Some b → birth_at s p ≡ Some b
+      old p b differs is = sym (ap birth_of (updates.others p differs)) ∙ is
+
+      fresh : (p b : ℕ) → p ≡ key → birth_at new p ≡ Some b → b ≡ e.birth
+      fresh p b here is = same_Some _ _ (sym is ∙ ap birth_of (ap (get new) here ∙ updates.changed))
+
+      apart : (p q b : ℕ) → birth_at new p ≡ Some b → birth_at new q ≡ Some b → (p ≡ key) ⊎ (p ≢ key) → (q ≡ key) ⊎ (q ≢ key) → p ≡ q
+      apart p q b one two (inl first) (inl second) = first ∙ sym second
+      apart p q b one two (inl first) (inr second) = let is = fresh p b first one in let lower = below q b (old q b second two) in absurd (omega arith)
+      apart p q b one two (inr first) (inl second) = let is = fresh q b second two in let lower = below p b (old p b first one) in absurd (omega arith)
+      apart p q b one two (inr first) (inr second) = tied.apart p q b (old p b first one) (old q b second two)
+
+  -- room for more changes nothing
+  pub grown_tied : (capacity : ℕ) → IsTied (record s { capacity = capacity }) t IsFor
+  grown_tied capacity = record { apart = tied.apart; led = tied.led; found = tied.found; told = tied.told }
+
+  module _ (m : FinMap nat_cmp (IndexEntry T N)) (view : held s.slots ≡ m) (key b : ℕ) where
+    -- what is at a place is seen
+    pub seen_some : birth_at s key ≡ Some b → is_some (map_get m b) ≡ true
+    seen_some at =
+        let w = entry_there s key b at in
+        ap is_some (sym (seen_at s m view tied.apart key b at)) ∙ ap (λ o. is_some (option_map (seen key) o)) w.1
+
+    -- the map without the birth of an entry that is taken out
+    pub removed_seen : birth_at s key ≡ Some b → Updates s new key None → held new.slots ≡ remove m b
+    removed_seen at updates =
+        updated s new key b None (remove (held s.slots) b) tied.apart updates (λ p is. tied.apart p key b is at)
+        (λ e there. same_Some _ _ (sym (ap (option_map (λ (e : Entry T N). e.birth)) there) ∙ at)) (λ e none. absurd (cc)) (get-removed (held s.slots) b)
+        ∙ ap (λ n. remove n b) view
+
+    -- the map with an entry of a birth in place of the one that was there, or where none was
+    pub written_seen : (e : Entry T N) → e.birth ≡ b → ((p : ℕ) → birth_at s p ≡ Some b → p ≡ key) → ((d : Entry T N) → get s key ≡ Some d → d.birth ≡ b) → Updates s new key (Some e) → held new.slots ≡ insert m b (seen key e)
+    written_seen e birth alone was updates =
+        updated s new key b (Some e) (insert (held s.slots) b (seen key e)) tied.apart updates alone was
+        (λ d is. ap (λ (e : Entry T N). e.birth) (sym (same_Some _ _ is)) ∙ birth) (get-inserted (held s.slots) b (seen key e))
+        ∙ ap (λ n. insert n b (seen key e)) view
+
+-- a birth that isn't there is not missed
+pub unremoved : {X : Type 0} (m : FinMap nat_cmp X) (b : ℕ) → map_get m b ≡ None → m ≡ remove m b
+unremoved {X} m b none = same_map nat_cmp_total nat_cmp-IsAntisymmetric m (remove m b) (λ q. sym (get-removed m b q ∙ go q (nat_eq q b) refl))
+  where
+    go : (q : ℕ) (t : Bool) → nat_eq q b ≡ t → cond t None (map_get m q) ≡ map_get m q
+    go q true t = sym (ap (map_get m) (eqb-true q b t) ∙ none)
+    go q false t = refl

@@ -1,0 +1,7 @@
+mod Changes
+mod Finds
+mod Held
+mod Orders
+mod Probing
+mod Searching
+mod Sweeps

@@ -1,0 +1,74 @@
+//! How the place of a birth is found.
+ghost use Rattle.std.specs.Prelude.{◌≡◌, ◌≢◌, ℕ, ◌+◌, ◌<◌, ◌^◌, Some, None, Option, IfSome, IfNone, OnOk};
+ghost use Rattle.intern_index.specs.Entries.{birth_at, AreTold};
+
+use crate::entry::Entry;
+use intern_store::Spot;
+use slab::Slab;
+use std::alloc::{AllocError, Global};
+
+/// Finds the places of births. It is told each one when it is entered.
+pub trait Births: Sized {
+    // Whether it finds each of these births, by their places.
+    ghost IsFor: { Self → (ℕ → Option ℕ) → Type 0 };
+
+    // Whether one more can be entered.
+    ghost HasRoom: { Self → Type 0 };
+
+    /// One that knows no birth. It takes no memory.
+    fn new(alloc: Global) -> Self
+        ensures { (at : ℕ → Option ℕ) → ((p : ℕ) → at p ≡ None) → IsFor result at };
+
+    /// The place of a birth.
+    fn find<T, N: Copy>(&self, slots: &Slab<Entry<T, N>>, birth: u64) -> Option<usize>
+        requires known { IsFor self.now (birth_at slots.now) }
+        requires told { AreTold slots.now }
+        ensures found { IfSome result (λ p. birth_at slots.now p ≡ Some birth) }
+        ensures absent { IfNone result ((p : ℕ) → birth_at slots.now p ≢ Some birth) };
+
+    /// Makes room for one more.
+    fn reserve(&mut self) -> Result<(), AllocError>
+        ensures same { (at : ℕ → Option ℕ) → IsFor self.old at → IsFor self.new at }
+        ensures room { OnOk result (HasRoom self.new) };
+
+    /// Enters a birth above all others.
+    fn enter(&mut self, birth: u64, place: usize)
+        requires room { HasRoom self.old }
+        requires small { place + 1 < 2 ^ 48 }
+        ensures { (old new : ℕ → Option ℕ) → IsFor self.old old
+            → old place ≡ None → ((p b : ℕ) → old p ≡ Some b → b < birth)
+            → new place ≡ Some birth → ((p : ℕ) → p ≢ place → new p ≡ old p) → IsFor self.new new };
+
+    /// Built anew for so many births, those of these entries among them.
+    fn rebuild<T, N: Copy>(
+        &mut self,
+        alloc: Global,
+        slots: &Slab<Entry<T, N>>,
+        room: usize,
+    ) -> Result<(), AllocError>
+        requires known { IsFor self.old (birth_at slots.now) }
+        requires told { AreTold slots.now }
+        ensures { IsFor self.new (birth_at slots.now) };
+
+    /// Forgets the births that are gone. It takes no memory.
+    fn forget<T, N: Copy>(&mut self, slots: &Slab<Entry<T, N>>)
+        ensures { (old : ℕ → Option ℕ) → IsFor self.old old
+            → ((p b : ℕ) → birth_at slots.now p ≡ Some b → old p ≡ Some b) → IsFor self.new (birth_at slots.now) };
+}
+
+/// The place of a birth: the one that is guessed where it is right, and else what is found.
+pub(crate) fn locate<T, N: Copy, B: Births>(
+    slots: &Slab<Entry<T, N>>,
+    births: &B,
+    spot: Spot,
+) -> Option<usize>
+    requires known { B.IsFor births.now (birth_at slots.now) }
+    requires told { AreTold slots.now }
+    ensures found { IfSome result (λ p. birth_at slots.now p ≡ Some spot.birth) }
+    ensures absent { IfNone result ((p : ℕ) → birth_at slots.now p ≢ Some spot.birth) }
+{
+    match slots.get(spot.place) {
+        Some(entry) if entry.birth == spot.birth => Some(spot.place),
+        _ => births.find(slots, spot.birth),
+    }
+}

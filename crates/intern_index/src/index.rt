@@ -1,0 +1,211 @@
+//! Values with payloads, each under a birth and a hash.
+ghost use Rattle.std.specs.Prelude.{◌≡◌, ℕ, ◌<◌, option_copied, IsSome, is_some, Some, None, IfOk, OnErr, IfErr, IfSome, IfNone, true, false};
+ghost use Rattle.std.specs.Option.{option_map};
+ghost use Rattle.std.specs.FinMap as map;
+ghost use Rattle.intern_index.specs.IndexEntry.{IndexEntry, has_hash, is_sought, with_payload};
+
+use crate::births::{Births, locate};
+use crate::buckets::PLACES;
+use crate::change::Change;
+use crate::entry::Entry;
+use crate::offer::Offer;
+use crate::query::{OfHash, Query};
+use crate::search::search;
+use crate::sweep::keep_marked;
+use crate::tables::Tables;
+use intern_store::{Marks, Spot};
+use slab::Slab;
+use std::alloc::Global;
+use std::marker::Model;
+
+/// Entries in a slab, with a table of their places by hashes that the caller gives, and what finds
+/// their places by births.
+///
+/// Only an insertion takes memory.
+#[derive(Drop)]
+pub struct Index<T, N: Copy, B: Births> {
+    alloc: Global,
+    slots: Slab<Entry<T, N>>,
+    tables: Tables<B>,
+}
+
+impl<T, N: Copy, B: Births> Model for Index<T, N, B> {
+    ghost use Rattle.std.specs.FinMap as map;
+    ghost use Rattle.std.specs.Ordering.{nat_cmp};
+    ghost use Rattle.std.specs.Coded.{coded_ℕ};
+    ghost use Rattle.intern_index.specs.IndexEntry.{IndexEntry, index_entry_code};
+
+    ghost Value = { map.FinMap nat_cmp (IndexEntry T N) };
+
+    ghost coded = { map.code coded_ℕ (index_entry_code T.code N.code) };
+
+    ghost use Rattle.intern_index.specs.Entries.{held, birth_at, IsTied};
+
+    ghost view = { λ a. held a.slots.slots };
+
+    ghost invariant = { λ a. IsTied a.slots a.tables.by_hash (B.IsFor a.tables.births) };
+}
+
+impl<T, N: Copy, B: Births> Index<T, N, B> {
+    /// An index without an entry. It takes no memory.
+    pub fn new(alloc: Global) -> Index<T, N, B>
+        ensures { result ≡ map.empty }
+    {
+        Index {
+            alloc,
+            slots: Slab::new(alloc),
+            tables: Tables::new(alloc),
+        }
+    }
+
+    /// How many entries there are.
+    pub fn len(&self) -> usize
+        ensures { result ≡ map.len self.now }
+    {
+        self.slots.len()
+    }
+
+    /// The place of a birth.
+    pub fn place(&self, birth: u64) -> Option<usize>
+        ensures { result ≡ option_map (λ e. e.place) (map.get self.now birth) }
+    {
+        self.tables.births.find(&self.slots, birth)
+    }
+
+    /// The entry of a birth, where it has one.
+    fn entry(&self, spot: Spot) -> Option<&Entry<T, N>>
+        ensures value { option_map (λ e. e.value) (option_copied result)
+            ≡ option_map (λ e. e.value) (map.get self.now spot.birth) }
+        ensures payload { option_map (λ e. e.payload) (option_copied result)
+            ≡ option_map (λ e. e.payload) (map.get self.now spot.birth) }
+    {
+        self.slots
+            .get(locate(&self.slots, &self.tables.births, spot)?)
+    }
+
+    /// The value of an entry.
+    pub fn get(&self, spot: Spot) -> Option<&T>
+        ensures { option_copied result
+            ≡ option_map (λ e. e.value) (map.get self.now spot.birth) }
+    {
+        match self.entry(spot) {
+            Some(entry) => Some(&entry.value),
+            None => None,
+        }
+    }
+
+    /// The payload of an entry.
+    pub fn payload(&self, spot: Spot) -> Option<N>
+        ensures { result ≡ option_map (λ e. e.payload) (map.get self.now spot.birth) }
+    {
+        match self.entry(spot) {
+            Some(entry) => Some(entry.payload),
+            None => None,
+        }
+    }
+
+    /// The value and the payload of an entry.
+    pub fn read(&self, spot: Spot) -> Option<(&T, N)>
+        ensures value { option_map (λ r. r.0.now) result
+            ≡ option_map (λ e. e.value) (map.get self.now spot.birth) }
+        ensures payload { option_map (λ r. r.1) result
+            ≡ option_map (λ e. e.payload) (map.get self.now spot.birth) }
+    {
+        match self.entry(spot) {
+            Some(entry) => Some((&entry.value, entry.payload)),
+            None => None,
+        }
+    }
+
+    /// Changes the payload of an entry, and gives the one that it had.
+    pub fn change<C: Change<N>>(&mut self, spot: Spot, change: &C) -> Option<N>
+        ensures payload { result ≡ option_map (λ e. e.payload) (map.get self.old spot.birth) }
+        ensures state { self.new
+            ≡ with_payload (C.changed change.now) self.old spot.birth (map.get self.old spot.birth) }
+    {
+        let place = locate(&self.slots, &self.tables.births, spot)?;
+        let entry = &mut self.slots[place];
+        let payload = entry.payload;
+        entry.payload = change.changed(payload);
+        Some(payload)
+    }
+
+    /// Takes an entry out, and gives its value.
+    pub fn remove(&mut self, spot: Spot) -> Option<T>
+        ensures value { result ≡ option_map (λ e. e.value) (map.get self.old spot.birth) }
+        ensures removed { self.new ≡ map.remove self.old spot.birth }
+    {
+        let place = locate(&self.slots, &self.tables.births, spot)?;
+        let entry = self.slots.remove(place);
+        self.tables.births.forget(&self.slots);
+        let Entry { value, .. } = entry;
+        Some(value)
+    }
+
+    /// Adds an entry under a birth above all others, and tells its place. Where there is no memory
+    /// the offer comes back.
+    ///
+    /// Room is made first, and the value last.
+    pub fn insert<O: Offer<T>>(
+        &mut self,
+        birth: u64,
+        hash: u64,
+        offer: O,
+        payload: N,
+    ) -> Result<usize, O>
+        requires { (b : ℕ) → IsSome (map.get self.old b) → b < birth }
+        ensures ok { IfOk result (λ p. self.new ≡ map.insert self.old birth
+            (record { place = p; hash = hash; value = O.value offer; payload = payload })) }
+        ensures err { OnErr result (self.new ≡ self.old) }
+        ensures back { IfErr result (λ back. back ≡ offer) }
+    {
+        let (Ok(()), Ok(())) = (
+            self.tables.make_room(self.alloc, &self.slots),
+            self.slots.reserve(1),
+        ) else {
+            return Err(offer);
+        };
+        let place = self.slots.vacant_key();
+        if place >= PLACES - 1 {
+            return Err(offer);
+        }
+        match offer.into_value(self.alloc) {
+            Ok(value) => {
+                self.slots.insert_reserved(Entry {
+                    birth,
+                    hash,
+                    value,
+                    payload,
+                });
+                self.tables.enter(hash, birth, place);
+                Ok(place)
+            }
+            Err(back) => Err(back),
+        }
+    }
+
+    /// An entry of a hash that fits a query. Only entries of that hash are looked at.
+    pub fn find<Q: Query<T, N>>(&self, hash: u64, query: &Q) -> Option<Spot>
+        ensures found { IfSome result (λ s.
+            is_sought (Q.fits query.now) (map.get self.now s.birth) ≡ true) }
+        ensures place { IfSome result (λ s.
+            option_map (λ e. e.place) (map.get self.now s.birth) ≡ Some s.place) }
+        ensures none { IfNone result ((b : ℕ) → has_hash hash (map.get self.now b) ≡ true →
+            is_sought (Q.fits query.now) (map.get self.now b) ≡ false) }
+    {
+        let test = OfHash { hash, query };
+        let place = search(&self.slots, &self.tables.by_hash, hash, &test)?;
+        let birth = self.slots[place].birth;
+        Some(Spot { birth, place })
+    }
+
+    /// Drops every entry that isn't marked. It takes no memory.
+    pub fn keep<M: Marks>(&mut self, marks: &M)
+    where
+        T: Drop,
+        ensures { self.new ≡ map.retain_keys self.old (M.marked marks.now) }
+    {
+        keep_marked(&mut self.slots, marks);
+        self.tables.births.forget(&self.slots);
+    }
+}

@@ -1,0 +1,25 @@
+//! Entries in a slab, each at one place from its birth to its end, found by a hash or by a birth.
+#![tactic(auto)]
+
+mod birth_order;
+mod birth_table;
+mod births;
+mod buckets;
+mod change;
+mod entry;
+mod index;
+mod offer;
+mod query;
+mod search;
+mod sweep;
+mod table_of;
+mod tables;
+
+pub use birth_order::BirthOrder;
+pub use birth_table::BirthTable;
+pub use births::Births;
+pub use change::Change;
+pub use entry::Entry;
+pub use index::Index;
+pub use offer::Offer;
+pub use query::Query;

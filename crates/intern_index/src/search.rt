@@ -1,0 +1,50 @@
+//! The search for an entry along a probe sequence.
+ghost use Rattle.std.specs.Prelude.{◌≡◌, ℕ, Bool, true, false, Some, IfSome, IfNone};
+ghost use Rattle.std.specs.Option.{option_map};
+ghost use Rattle.slab.specs.Slab.{get};
+ghost use Rattle.intern_index.specs.Entries.{AreTold};
+ghost use Rattle.intern_index.specs.Leading.{leads};
+ghost use Rattle.intern_index.specs.declared.entry.Entry.{Entry as Kept};
+
+use crate::buckets::Buckets;
+use crate::entry::Entry;
+use slab::Slab;
+
+/// A test of entries.
+pub(crate) trait Test<T, N: Copy> {
+    // Whether an entry passes.
+    ghost passes: { Self → Kept T N → Bool };
+
+    /// Whether an entry passes.
+    fn passes(&self, entry: &Entry<T, N>) -> bool
+        ensures { result ≡ passes self.now entry.now };
+}
+
+/// The place of an entry that passes a test, of those that the probe sequence of a hash leads to.
+pub(crate) fn search<T, N: Copy, Q: Test<T, N>>(
+    slots: &Slab<Entry<T, N>>,
+    table: &Buckets,
+    hash: u64,
+    test: &Q,
+) -> Option<usize>
+    requires { AreTold slots.now }
+    ensures found { IfSome result (λ p.
+        option_map (Q.passes test.now) (get slots.now p) ≡ Some true) }
+    ensures none { IfNone result ((p : ℕ) (e : Kept T N) →
+        get slots.now p ≡ Some e → leads table.now hash p ≡ true → Q.passes test.now e ≡ false) }
+{
+    for bucket in table.probe(hash) {
+        if bucket.is_empty() {
+            return None;
+        }
+        let Some(place) = bucket.place(hash) else {
+            continue;
+        };
+        if let Some(entry) = slots.get(place) {
+            if test.passes(entry) {
+                return Some(place);
+            }
+        }
+    }
+    None
+}

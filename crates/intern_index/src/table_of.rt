@@ -1,0 +1,42 @@
+//! Tables built from the entries.
+ghost use Rattle.std.specs.Prelude.{◌≡◌, ℕ, true, Some, IfOk};
+ghost use Rattle.slab.specs.Slab.{get};
+ghost use Rattle.intern_index.specs.Entries.{AreTold};
+ghost use Rattle.intern_index.specs.Leading.{leads};
+ghost use Rattle.intern_index.specs.declared.entry.Entry.{Entry as Kept};
+
+use crate::buckets::Buckets;
+use crate::entry::Entry;
+use slab::Slab;
+use std::alloc::{AllocError, Global};
+
+/// What entries are entered under.
+pub(crate) trait Key<T, N: Copy> {
+    // The hash under which an entry is entered.
+    ghost key: { Self → Kept T N → ℕ };
+
+    /// The hash under which an entry is entered.
+    fn key(&self, entry: &Entry<T, N>) -> u64
+        ensures { result ≡ key self.now entry.now };
+}
+
+/// A table of the places of all entries, with homes for so many.
+pub(crate) fn table_of<T, N: Copy, K: Key<T, N>>(
+    alloc: Global,
+    slots: &Slab<Entry<T, N>>,
+    room: usize,
+    by: &K,
+) -> Result<Buckets, AllocError>
+    requires { AreTold slots.now }
+    ensures { IfOk result (λ t. (p : ℕ) (e : Kept T N) →
+        get slots.now p ≡ Some e → leads t (K.key by.now e) p ≡ true) }
+{
+    let mut table = Buckets::with_room(alloc, room)?;
+    for place in 0..slots.capacity() {
+        if let Some(entry) = slots.get(place) {
+            table.reserve()?;
+            table.enter(by.key(entry), place);
+        }
+    }
+    Ok(table)
+}

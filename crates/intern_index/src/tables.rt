@@ -1,0 +1,104 @@
+//! What finds the places of entries.
+ghost use Rattle.std.specs.Prelude.{◌≡◌, ◌≢◌, ℕ, ◌+◌, ◌<◌, ◌^◌, true, Option, Some, None, OnOk};
+ghost use Rattle.std.specs.Vec.{vec_len, vec_capacity};
+ghost use Rattle.intern_index.specs.Entries.{IsTied};
+ghost use Rattle.intern_index.specs.Leading.{leads};
+
+use crate::births::Births;
+use crate::buckets::Buckets;
+use crate::entry::Entry;
+use crate::table_of::{Key, table_of};
+use slab::Slab;
+use std::alloc::{AllocError, Global};
+
+// How many entries have room at least.
+const LEAST: usize = 4;
+
+// Entries are entered under their hashes.
+#[derive(Clone, Copy)]
+struct ByHash;
+
+impl<T, N: Copy> Key<T, N> for ByHash {
+    ghost key = { λ _ e. e.hash };
+
+    fn key(&self, entry: &Entry<T, N>) -> u64 {
+        entry.hash
+    }
+}
+
+/// The places of entries by their hashes, and by their births.
+#[derive(Drop)]
+pub(crate) struct Tables<B: Births> {
+    pub(crate) by_hash: Buckets,
+    pub(crate) births: B,
+    // how many entries may be entered before the tables are built anew
+    left: usize,
+}
+
+impl<B: Births> Tables<B> {
+    /// Tables that know no entry. They take no memory.
+    pub(crate) fn new(alloc: Global) -> Tables<B>
+        ensures { (at : ℕ → Option ℕ) →
+            ((p : ℕ) → at p ≡ None) → B.IsFor result.births at }
+    {
+        Tables {
+            by_hash: Buckets::new(alloc),
+            births: B::new(alloc),
+            left: 0,
+        }
+    }
+
+    // Builds the tables anew, with room for half as many entries again as there are.
+    fn rebuild<T, N: Copy>(
+        &mut self,
+        alloc: Global,
+        slots: &Slab<Entry<T, N>>,
+    ) -> Result<(), AllocError>
+        requires { IsTied slots.now self.old.by_hash (B.IsFor self.old.births) }
+        ensures { IsTied slots.now self.new.by_hash (B.IsFor self.new.births) }
+    {
+        let entries = slots.len();
+        let room = entries.saturating_add(entries / 2).max(LEAST);
+        let by_hash = table_of(alloc, slots, room, &ByHash)?;
+        self.births.rebuild(alloc, slots, room)?;
+        self.by_hash = by_hash;
+        self.left = room.saturating_sub(entries);
+        Ok(())
+    }
+
+    /// Makes room for one more entry.
+    pub(crate) fn make_room<T, N: Copy>(
+        &mut self,
+        alloc: Global,
+        slots: &Slab<Entry<T, N>>,
+    ) -> Result<(), AllocError>
+        requires { IsTied slots.now self.old.by_hash (B.IsFor self.old.births) }
+        ensures tied { IsTied slots.now self.new.by_hash (B.IsFor self.new.births) }
+        ensures bucket { OnOk result
+            (vec_len self.new.by_hash.buckets < vec_capacity self.new.by_hash.buckets) }
+        ensures birth { OnOk result (B.HasRoom self.new.births) }
+    {
+        if self.left == 0 {
+            self.rebuild(alloc, slots)?;
+        }
+        self.by_hash.reserve()?;
+        self.births.reserve()
+    }
+
+    /// Enters an entry of a birth above all others.
+    pub(crate) fn enter(&mut self, hash: u64, birth: u64, place: usize)
+        requires small { place + 1 < 2 ^ 48 }
+        requires bucket { vec_len self.old.by_hash.buckets < vec_capacity self.old.by_hash.buckets }
+        requires birth { B.HasRoom self.old.births }
+        ensures entered { leads self.new.by_hash hash place ≡ true }
+        ensures still { (h p : ℕ) →
+            leads self.old.by_hash h p ≡ true → leads self.new.by_hash h p ≡ true }
+        ensures found { (old new : ℕ → Option ℕ) → B.IsFor self.old.births old
+            → old place ≡ None → ((p b : ℕ) → old p ≡ Some b → b < birth)
+            → new place ≡ Some birth → ((p : ℕ) → p ≢ place → new p ≡ old p) → B.IsFor self.new.births new }
+    {
+        self.by_hash.enter(hash, place);
+        self.births.enter(birth, place);
+        self.left = self.left.saturating_sub(1);
+    }
+}
