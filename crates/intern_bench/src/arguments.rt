@@ -1,13 +1,13 @@
 //! What a call of the program asks for.
 use crate::numbers::STRIDE;
-use thiserror::Error;
+use anyhow::{Result, bail, ensure};
 
 /// How the program is called.
 pub(crate) const USAGE: &str =
     "usage: intern_bench NAME GROUP N, where GROUP is sym, val or slice and N is a number of entries";
 
 /// What is stored.
-#[derive(Clone, Copy, Debug, PartialEq, Eq)]
+#[derive(Clone, Copy)]
 pub(crate) enum Group {
     /// Symbols of texts.
     Symbols,
@@ -18,12 +18,12 @@ pub(crate) enum Group {
 }
 
 impl Group {
-    fn parse(name: &str) -> Option<Group> {
+    fn parse(name: &str) -> Result<Group> {
         match name {
-            "sym" => Some(Group::Symbols),
-            "val" => Some(Group::Values),
-            "slice" => Some(Group::Slices),
-            _ => None,
+            "sym" => Ok(Group::Symbols),
+            "val" => Ok(Group::Values),
+            "slice" => Ok(Group::Slices),
+            _ => bail!("no group {name:?}"),
         }
     }
 
@@ -38,7 +38,7 @@ impl Group {
 }
 
 /// One measurement to make.
-#[derive(Debug, Drop)]
+#[derive(Drop)]
 pub(crate) struct Job<'a> {
     /// What the report calls the library.
     pub(crate) name: &'a str,
@@ -48,53 +48,30 @@ pub(crate) struct Job<'a> {
     pub(crate) entries: usize,
 }
 
-/// What a call asks for.
-#[derive(Debug, Drop)]
-pub(crate) enum Request<'a> {
-    /// To say how the program is called.
-    Usage,
-    /// To measure.
-    Measure(Job<'a>),
-}
-
-/// What is wrong with the arguments.
-#[derive(Debug, Drop, Error)]
-pub(crate) enum ArgumentError<'a> {
-    #[error("{0} arguments in the place of 3")]
-    Count(usize),
-    #[error("no group {0:?}")]
-    Group(&'a str),
-    #[error("{0:?} is no number of entries")]
-    Number(&'a str),
-    #[error("{0} entries, but their number may be no multiple of {STRIDE}")]
-    Multiple(usize),
-}
-
-impl<'a> Request<'a> {
-    /// Reads the arguments that follow the program's name.
-    pub(crate) fn parse(words: &'a [String]) -> Result<Request<'a>, ArgumentError<'a>> {
-        match words {
-            [] => Ok(Request::Usage),
-            [name, group, entries] => Ok(Request::Measure(Job {
-                name: name.as_str(),
-                group: parse_group(group.as_str())?,
-                entries: parse_entries(entries.as_str())?,
-            })),
-            _ => Err(ArgumentError::Count(words.len())),
-        }
+impl<'a> Job<'a> {
+    /// Reads the arguments, the first of which is the program's name.
+    pub(crate) fn parse(words: &'a [String]) -> Result<Job<'a>> {
+        let [_, name, group, entries] = words else {
+            bail!(
+                "{} arguments in the place of 3",
+                words.len().saturating_sub(1)
+            );
+        };
+        Ok(Job {
+            name: name.as_str(),
+            group: Group::parse(group.as_str())?,
+            entries: parse_entries(entries.as_str())?,
+        })
     }
 }
 
-fn parse_group(word: &str) -> Result<Group, ArgumentError<'_>> {
-    Group::parse(word).ok_or(ArgumentError::Group(word))
-}
-
-fn parse_entries(word: &str) -> Result<usize, ArgumentError<'_>> {
+fn parse_entries(word: &str) -> Result<usize> {
     let Ok(entries) = word.parse::<usize>() else {
-        return Err(ArgumentError::Number(word));
+        bail!("{word:?} is no number of entries");
     };
-    if entries % STRIDE == 0 {
-        return Err(ArgumentError::Multiple(entries));
-    }
+    ensure!(
+        entries % STRIDE != 0,
+        "{entries} entries, but their number may be no multiple of {STRIDE}"
+    );
     Ok(entries)
 }

@@ -2,8 +2,6 @@
 #![tactic(auto)]
 
 mod arguments;
-mod counted;
-mod failure;
 mod measure;
 mod numbers;
 mod report;
@@ -14,33 +12,50 @@ mod values;
 mod workload;
 
 use anyhow::Result;
-use arguments::{Group, Job, Request, USAGE};
-use ra_ap_intern::{InternStorage, SymbolTable};
+use arguments::{Group, Job, USAGE};
+use measure::Memory;
+use ra_ap_intern::{InternSliceStorage, InternStorage, SymbolTable};
+use slices::Row;
+use std::alloc::Global;
 use std::env;
 use std::process::ExitCode;
-use std::rt::{Clock, Files};
+use std::rt::Clock;
 use values::Number;
+use workload::{COUNTED, SLICES};
 
 // The exit status of a call with wrong arguments.
 const WRONG_ARGUMENTS: u8 = 2;
 
-fn run(rt: &(impl Files + Clock + Print + AllocGlobal), job: &Job<'_>) -> Result<()> {
+fn measure_group(rt: &(impl Clock + Memory + Print), alloc: Global, job: &Job<'_>) -> Result<()> {
     match job.group {
-        Group::Symbols => counted::measure::<SymbolTable>(rt, job),
-        Group::Values => counted::measure::<InternStorage<Number>>(rt, job),
-        Group::Slices => slices::measure(rt, job),
+        Group::Symbols => workload::measure::<SymbolTable>(rt, alloc, job, &COUNTED),
+        Group::Values => workload::measure::<InternStorage<Number>>(rt, alloc, job, &COUNTED),
+        Group::Slices => workload::measure::<InternSliceStorage<Row>>(rt, alloc, job, &SLICES),
+    }
+}
+
+fn run(
+    rt: &(impl Clock + Memory + Print + Eprint),
+    alloc: Global,
+    words: &[String],
+) -> Result<ExitCode> {
+    if words.len() < 2 {
+        println!(rt; "{USAGE}")?;
+        return Ok(ExitCode::SUCCESS);
+    }
+    match Job::parse(words) {
+        Ok(job) => {
+            measure_group(rt, alloc, &job)?;
+            Ok(ExitCode::SUCCESS)
+        }
+        Err(error) => {
+            eprintln!(rt; "intern_bench: {error}; {USAGE}")?;
+            Ok(ExitCode::from(WRONG_ARGUMENTS))
+        }
     }
 }
 
 fn main(rt: HostRuntime) -> Result<ExitCode> {
-    let words = env::args(&rt)?.skip(1).collect::<Vec<String>>(rt.alloc())?;
-    match Request::parse(words.as_slice()) {
-        Ok(Request::Usage) => println!(rt; "{USAGE}")?,
-        Ok(Request::Measure(job)) => run(&rt, &job)?,
-        Err(error) => {
-            eprintln!(rt; "intern_bench: {error}; {USAGE}")?;
-            return Ok(ExitCode::from(WRONG_ARGUMENTS));
-        }
-    }
-    Ok(ExitCode::SUCCESS)
+    let words = env::args(&rt)?.collect::<Vec<String>>(rt.alloc())?;
+    run(&rt, rt.alloc(), &words)
 }

@@ -1,11 +1,11 @@
 //! The numbers that the workloads are made of.
-use std::alloc::{AllocError, Global};
+use std::alloc::AllocError;
 
 /// A prime. The places of N entries are visited in steps of it, each once if N is no multiple.
 pub(crate) const STRIDE: usize = 7_368_787;
 
 /// A linear congruential generator.
-#[derive(Debug, Drop)]
+#[derive(Drop)]
 pub(crate) struct Generator {
     state: u64,
 }
@@ -37,11 +37,11 @@ impl Generator {
     }
 }
 
-/// The places from 0 to `entries` - 1 in an order that leaps about.
-pub(crate) fn scattered(alloc: Global, entries: usize) -> Result<Vec<usize>, AllocError> {
-    let mut order = Vec::with_capacity(alloc, entries)?;
+/// Fills `order` with the places from 0 to `entries` - 1 in an order that leaps about.
+pub(crate) fn scatter(order: &mut Vec<usize>, entries: usize) -> Result<(), AllocError> {
+    order.reserve(entries)?;
     for place in 0..entries {
         order.push(place.wrapping_mul(STRIDE) % entries)?;
     }
-    Ok(order)
+    Ok(())
 }

@@ -2,47 +2,11 @@
 use crate::arguments::Job;
 use std::io;
 
-/// One of the loops that are timed.
-#[derive(Clone, Copy, Debug, PartialEq, Eq)]
-pub(crate) enum Metric {
-    /// Interning of values that aren't stored.
-    Fresh,
-    /// Interning of values that are stored.
-    Hits,
-    /// Reading through handles.
-    Reads,
-    /// Releases that leave the entry.
-    Releases,
-    /// Releases that remove the entry.
-    Removals,
-    /// Interning of slices that aren't stored.
-    FreshSlices,
-    /// Interning of slices that are stored.
-    SliceHits,
-    /// Reading of slices through references.
-    SliceReads,
-}
-
-impl Metric {
-    /// The metric's name in the report.
-    pub(crate) fn name(self) -> &'static str {
-        match self {
-            Metric::Fresh => "a",
-            Metric::Hits => "b",
-            Metric::Reads => "c",
-            Metric::Releases => "d0",
-            Metric::Removals => "d",
-            Metric::FreshSlices => "e1",
-            Metric::SliceHits => "e2",
-            Metric::SliceReads => "e3",
-        }
-    }
-}
-
 /// What was measured of one loop.
-#[derive(Clone, Copy, Debug, PartialEq, Eq)]
+#[derive(Clone, Copy)]
 pub(crate) struct Measurement {
-    pub(crate) metric: Metric,
+    /// The loop's name in the report.
+    pub(crate) metric: &'static str,
     /// How many calls the loop made.
     pub(crate) operations: usize,
     /// The time of the loop.
@@ -54,22 +18,11 @@ pub(crate) struct Measurement {
 }
 
 impl Measurement {
-    /// A measurement of the time alone.
-    pub(crate) fn of_time(metric: Metric, operations: usize, nanoseconds: u64) -> Measurement {
-        Measurement {
-            metric,
-            operations,
-            nanoseconds,
-            memory: 0,
-            check: 0,
-        }
-    }
-
     /// Prints the measurement as a line of values with tabs between.
     pub(crate) fn print(&self, rt: &impl Print, job: &Job<'_>) -> io::Result<()> {
         let name = job.name;
         let group = job.group.name();
-        let metric = self.metric.name();
+        let metric = self.metric;
         let entries = job.entries;
         let operations = self.operations;
         let nanoseconds = self.nanoseconds;

@@ -3,19 +3,13 @@
 //! Entries go only in a collection: this workload releases none, and the warm-up entry stays.
 ghost use Rattle.std.specs.Prelude.{true};
 
-use crate::arguments::Job;
-use crate::failure::Failure;
 use crate::numbers::Generator;
-use crate::report::Metric;
 use crate::storage::Storage;
-use crate::workload::Workload;
-use anyhow::Result;
 use ra_ap_intern::{InternSliceStorage, InternedSlice, InternedSliceRef, Refusal, SliceInternable};
 use std::alloc::{AllocError, Global};
-use std::rt::{Clock, Files};
 
 /// A header with its items.
-#[derive(Clone, Copy, Debug)]
+#[derive(Clone, Copy)]
 pub(crate) struct Row {
     header: u32,
     items: [u32; 4],
@@ -57,42 +51,32 @@ impl Storage for InternSliceStorage<Row> {
         self.len()
     }
 
-    fn intern(&mut self, input: &Row) -> Result<InternedSliceRef<Row>, Failure> {
-        let (handle, _) = InternedSlice::from_header_and_slice(
-            self,
-            input.header,
-            input.items.as_slice(),
-        )?;
-        Ok(handle)
+    fn intern(&mut self, input: &Row) -> Result<InternedSliceRef<Row>, Refusal> {
+        match InternedSlice::from_header_and_slice(self, input.header, input.items.as_slice()) {
+            Ok((handle, _)) => Ok(handle),
+            Err(refused) => Err(refused.why),
+        }
     }
 
     // A reference counts nothing, so it serves itself.
-    fn filler(&self, handle: &InternedSliceRef<Row>) -> Result<InternedSliceRef<Row>, Failure> {
+    fn filler(&self, handle: &InternedSliceRef<Row>) -> Result<InternedSliceRef<Row>, Refusal> {
         Ok(*handle)
     }
 
     // The header, the number of items, and the items.
-    fn read(&self, handle: &InternedSliceRef<Row>) -> Result<u64, Failure> {
-        let row = handle.get(self).ok_or(Refusal::Gone)?;
+    fn read(&self, handle: &InternedSliceRef<Row>) -> Result<u64, Refusal> {
+        let Some(row) = handle.get(self) else {
+            return Err(Refusal::Gone);
+        };
         let mut sum = u64::from(*row.header.header).wrapping_add(row.header.length as u64);
         for item in row.slice {
             sum = sum.wrapping_add(u64::from(*item));
         }
         Ok(sum)
     }
-}
 
-/// Measures the workload and prints a line for each loop.
-pub(crate) fn measure(
-    rt: &(impl Files + Clock + Print + AllocGlobal),
-    job: &Job<'_>,
-) -> Result<()> {
-    let (mut workload, _) = Workload::<InternSliceStorage<Row>>::prepare(rt.alloc(), job.entries)?;
-
-    workload
-        .intern_fresh(rt, Metric::FreshSlices)?
-        .print(rt, job)?;
-    workload.intern_hits(rt, Metric::SliceHits)?.print(rt, job)?;
-    workload.read(rt, Metric::SliceReads)?.print(rt, job)?;
-    Ok(())
+    // A reference counts nothing.
+    fn release(&mut self, _handle: InternedSliceRef<Row>) -> Result<(), Refusal> {
+        Ok(())
+    }
 }

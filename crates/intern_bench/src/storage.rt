@@ -1,6 +1,6 @@
 //! What the loops ask of a storage.
-use crate::failure::Failure;
 use crate::numbers::Generator;
+use ra_ap_intern::Refusal;
 use std::alloc::{AllocError, Global};
 
 /// What stores each equal input once.
@@ -25,11 +25,15 @@ pub(crate) trait Storage: Sized + Drop {
     fn entries(&self) -> usize;
 
     /// Stores an input if it isn't, and names its entry.
-    fn intern(&mut self, input: &Self::Input) -> Result<Self::Handle, Failure>;
+    fn intern(&mut self, input: &Self::Input) -> Result<Self::Handle, Refusal>;
 
     /// A handle that counts nothing, made beside one that was interned.
-    fn filler(&self, handle: &Self::Handle) -> Result<Self::Handle, Failure>;
+    fn filler(&self, handle: &Self::Handle) -> Result<Self::Handle, Refusal>;
 
     /// What the entry of a handle adds to the sum of all that is read.
-    fn read(&self, handle: &Self::Handle) -> Result<u64, Failure>;
+    fn read(&self, handle: &Self::Handle) -> Result<u64, Refusal>;
+
+    /// Counts an entry once less, and removes it with the last count. A handle that counts nothing
+    /// does nothing.
+    fn release(&mut self, handle: Self::Handle) -> Result<(), Refusal>;
 }

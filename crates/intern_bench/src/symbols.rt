@@ -1,6 +1,4 @@
 //! The workload `sym`: symbols of texts that are no presets.
-use crate::counted::Counted;
-use crate::failure::Failure;
 use crate::numbers::Generator;
 use crate::storage::Storage;
 use ra_ap_intern::{Refusal, Symbol, SymbolTable};
@@ -28,25 +26,27 @@ impl Storage for SymbolTable {
         self.len()
     }
 
-    fn intern(&mut self, input: &String) -> Result<Symbol, Failure> {
-        Ok(Symbol::intern(self, input.as_str())?)
+    fn intern(&mut self, input: &String) -> Result<Symbol, Refusal> {
+        Symbol::intern(self, input.as_str())
     }
 
-    fn filler(&self, _handle: &Symbol) -> Result<Symbol, Failure> {
+    fn filler(&self, _handle: &Symbol) -> Result<Symbol, Refusal> {
         Ok(Symbol::empty())
     }
 
     // The text's length and its last byte.
-    fn read(&self, handle: &Symbol) -> Result<u64, Failure> {
-        let text = handle.as_str(self).ok_or(Refusal::Gone)?;
+    fn read(&self, handle: &Symbol) -> Result<u64, Refusal> {
+        let Some(text) = handle.as_str(self) else {
+            return Err(Refusal::Gone);
+        };
         let last = text.as_bytes().last().copied().unwrap_or(0);
         Ok((text.len() as u64).wrapping_add(u64::from(last)))
     }
-}
 
-impl Counted for SymbolTable {
-    fn release(&mut self, handle: Symbol) -> Result<(), Failure> {
-        handle.release(self)?;
-        Ok(())
+    fn release(&mut self, handle: Symbol) -> Result<(), Refusal> {
+        match handle.release(self) {
+            Ok(()) => Ok(()),
+            Err(refused) => Err(refused.why),
+        }
     }
 }

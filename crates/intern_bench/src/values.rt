@@ -1,15 +1,13 @@
 //! The workload `val`: counted values of 64 bits.
 ghost use Rattle.std.specs.Prelude.{false};
 
-use crate::counted::Counted;
-use crate::failure::Failure;
 use crate::numbers::Generator;
 use crate::storage::Storage;
 use ra_ap_intern::{InternStorage, Internable, Interned, Refusal};
 use std::alloc::{AllocError, Global};
 
 /// A value that is stored.
-#[derive(Clone, Copy, Debug, PartialEq, Eq, Hash)]
+#[derive(Clone, Copy, PartialEq, Eq, Hash)]
 pub(crate) struct Number(u64);
 
 impl Internable for Number {
@@ -39,25 +37,29 @@ impl Storage for InternStorage<Number> {
         self.len()
     }
 
-    fn intern(&mut self, input: &Number) -> Result<Interned<Number>, Failure> {
-        let (handle, _) = Interned::new(self, *input)?;
-        Ok(handle)
+    fn intern(&mut self, input: &Number) -> Result<Interned<Number>, Refusal> {
+        match Interned::new(self, *input) {
+            Ok((handle, _)) => Ok(handle),
+            Err(refused) => Err(refused.why),
+        }
     }
 
-    fn filler(&self, handle: &Interned<Number>) -> Result<Interned<Number>, Failure> {
+    fn filler(&self, handle: &Interned<Number>) -> Result<Interned<Number>, Refusal> {
         let birth = handle.as_ref().as_raw();
-        Ok(Interned::from_raw(self, birth)?)
+        Interned::from_raw(self, birth)
     }
 
-    fn read(&self, handle: &Interned<Number>) -> Result<u64, Failure> {
-        let Number(value) = handle.get(self).ok_or(Refusal::Gone)?;
-        Ok(*value)
+    fn read(&self, handle: &Interned<Number>) -> Result<u64, Refusal> {
+        match handle.get(self) {
+            Some(Number(value)) => Ok(*value),
+            None => Err(Refusal::Gone),
+        }
     }
-}
 
-impl Counted for InternStorage<Number> {
-    fn release(&mut self, handle: Interned<Number>) -> Result<(), Failure> {
-        handle.release(self)?;
-        Ok(())
+    fn release(&mut self, handle: Interned<Number>) -> Result<(), Refusal> {
+        match handle.release(self) {
+            Ok(_) => Ok(()),
+            Err(refused) => Err(refused.why),
+        }
     }
 }
