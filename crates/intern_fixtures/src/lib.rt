@@ -4,5 +4,5 @@
 mod answers;
 mod values;
 
-pub use answers::{allowed, refusal, refused};
+pub use answers::{allowed, refusal};
 pub use values::{Unhashed, Word, make_word};

@@ -1,95 +1,126 @@
 //! Each public call, where it succeeds.
-use crate::kinds::{Term, Word, allowed, make_name, make_term, make_word};
+use crate::kinds::Term;
+use crate::steps::{count_down, has_count, has_len, has_name, is_empty, own, stored};
+use crate::{terms, words};
+use intern_fixtures::Word;
 use ra_ap_intern::{InternStorage, Interned, InternedRef, Limits, Refusal, laws};
+use std::alloc::Global;
 use std::collections::{HashMap, HashSet};
-use std::test::Fail;
+use std::process::Abort;
 
 #[test]
-fn storages(rt: HostRuntime) -> Result<(), Fail> {
+fn storages(rt: HostRuntime) {
     let alloc = rt.alloc();
     let mut storage = InternStorage::new(alloc, 7);
-    assert_eq!(rt; (storage.number(), storage.len()), (7, 0));
-    let (x, back) = Interned::new(&mut storage, make_word(alloc, "x")?)?;
-    assert_eq!(rt; back, None);
-    assert_eq!(rt; storage.len(), 1);
-    assert_eq!(rt; storage.count(x.as_ref()), Some(1));
+    is_empty(&rt, &storage, 7);
+    let x = words::intern_new(&rt, alloc, &mut storage, "x", 0);
+    has_len(&rt, &storage, 1);
+    has_count(&rt, &storage, x.as_ref(), 1);
+}
 
+#[test]
+fn limited_storages(rt: HostRuntime) {
+    let alloc = rt.alloc();
     let mut limited = InternStorage::with_limits(alloc, 8, Limits { top: 1, numbers: 1 });
-    assert_eq!(rt; (limited.number(), limited.len()), (8, 0));
-    let (y, back) = Interned::new_gc(&mut limited, make_term(alloc, "y")?)?;
-    assert_eq!(rt; back, None);
-    assert_eq!(rt; limited.len(), 1);
-    assert_eq!(rt; limited.count(y), Some(0));
-    Ok(())
+    is_empty(&rt, &limited, 8);
+    let y = terms::intern_new(&rt, alloc, &mut limited, "y", 0);
+    has_len(&rt, &limited, 1);
+    has_count(&rt, &limited, y, 0);
 }
 
 #[test]
-fn owned_handles(rt: HostRuntime) -> Result<(), Fail> {
+fn owned_handles(rt: HostRuntime) {
     let alloc = rt.alloc();
     let mut storage = InternStorage::new(alloc, 1);
-    let (x, _) = Interned::new(&mut storage, make_word(alloc, "x")?)?;
-    assert_eq!(rt; x.get(&storage).map(Word::text), Some("x"));
-    assert_eq!(rt; x.as_ref().name(), make_name(1, 0));
-    let second = x.clone(&mut storage)?;
-    assert!(rt; second == x);
-    assert_eq!(rt; storage.count(x.as_ref()), Some(2));
+    let x = words::intern_new(&rt, alloc, &mut storage, "x", 0);
+    words::reads(&rt, &storage, &x, "x");
+    has_name(&rt, x.as_ref(), (1, 0));
+    let second = words::clone(&rt, &mut storage, &x, 2);
     drop(second);
-    let taken = Interned::from_raw(&storage, 0)?;
-    assert!(rt; taken == x);
-    assert_eq!(rt; allowed(taken.release(&mut storage))?, None);
-    assert_eq!(rt; storage.count(x.as_ref()), Some(1));
-    assert_eq!(rt;
-        allowed(x.release(&mut storage))?,
-        Some(make_word(alloc, "x")?)
-    );
-    assert_eq!(rt; storage.len(), 0);
-    Ok(())
+    let taken = words::take_over(&rt, &storage, (0, 2));
+    words::equal(&rt, &taken, &x);
+    words::release(&rt, &mut storage, taken, 1);
+    words::frees(&rt, &mut storage, x, "x");
+    has_len(&rt, &storage, 0);
 }
 
 #[test]
-fn references(rt: HostRuntime) -> Result<(), Fail> {
+fn references(rt: HostRuntime) {
     let alloc = rt.alloc();
     let mut storage = InternStorage::new(alloc, 1);
-    let _ = Interned::new_gc(&mut storage, make_term(alloc, "x")?)?;
-    let (y, _) = Interned::new_gc(&mut storage, make_term(alloc, "y")?)?;
+    let _ = terms::intern_new(&rt, alloc, &mut storage, "x", 0);
+    let y = terms::intern_new(&rt, alloc, &mut storage, "y", 1);
     let copy = y;
     assert!(rt; copy == y);
-    assert_eq!(rt; y.as_raw(), 1);
-    assert_eq!(rt; y.name(), make_name(1, 1));
+    has_name(&rt, y, (1, 1));
     assert_eq!(rt; y.get(&storage).map(Term::text), Some("y"));
-    assert!(rt; InternedRef::from_raw(&storage, 1)? == y);
-    let owned = y.to_owned(&mut storage)?;
-    assert!(rt; owned.as_ref() == y);
-    assert_eq!(rt; storage.count(y), Some(1));
+    assert!(rt; stored(&rt, &storage, 1) == y);
+    let owned = own(&rt, &mut storage, y, 1);
     drop(owned);
-    assert_eq!(rt; y.decrement_refcount(&mut storage), Ok(()));
-    assert_eq!(rt; storage.count(y), Some(0));
-    Ok(())
+    count_down(&rt, &mut storage, y, 0);
 }
 
 #[test]
-fn handles_are_keys(rt: HostRuntime) -> Result<(), Fail> {
+fn a_set_of_references(rt: HostRuntime) {
     let alloc = rt.alloc();
     let mut storage = InternStorage::new(alloc, 1);
-    let (x, _) = Interned::new(&mut storage, make_word(alloc, "x")?)?;
-    let (y, _) = Interned::new(&mut storage, make_word(alloc, "y")?)?;
-    let (again, _) = Interned::new(&mut storage, make_word(alloc, "x")?)?;
-
+    let x = words::intern_new(&rt, alloc, &mut storage, "x", 0);
+    let y = words::intern_new(&rt, alloc, &mut storage, "y", 1);
+    let again = words::intern_again(&rt, alloc, &mut storage, "x", (0, 2));
     let mut references = HashSet::new(alloc);
-    assert_eq!(rt; references.insert(x.as_ref())?, true);
-    assert_eq!(rt; references.insert(again.as_ref())?, false);
-    assert_eq!(rt; references.contains(&again.as_ref()), true);
-    assert_eq!(rt; references.contains(&y.as_ref()), false);
+    insert(&rt, &mut references, x.as_ref(), true);
+    insert(&rt, &mut references, again.as_ref(), false);
+    contains(&rt, &references, again.as_ref(), true);
+    contains(&rt, &references, y.as_ref(), false);
+}
 
-    let mut owners = HashMap::new(alloc);
-    assert_eq!(rt; owners.insert(x, 5)?, None);
-    assert_eq!(rt; owners.get(&again).copied(), Some(5));
-    assert_eq!(rt; owners.get(&y).copied(), None);
-    Ok(())
+/// Inserts a reference, which is new or isn't.
+fn insert(
+    rt: &impl Abort,
+    references: &mut HashSet<InternedRef<Word>>,
+    reference: InternedRef<Word>,
+    new: bool,
+) {
+    let inserted: Result<_, _> = references.insert(reference);
+    assert_eq!(rt; inserted.expect(rt, "memory"), new);
+}
+
+/// The set has the reference, or hasn't.
+fn contains(
+    rt: &impl Abort,
+    references: &HashSet<InternedRef<Word>>,
+    reference: InternedRef<Word>,
+    found: bool,
+) {
+    assert_eq!(rt; references.contains(&reference), found);
 }
 
 #[test]
-fn refusals(rt: HostRuntime) -> Result<(), Fail> {
+fn a_map_by_owned_handles(rt: HostRuntime) {
+    let alloc = rt.alloc();
+    let mut storage = InternStorage::new(alloc, 1);
+    let x = words::intern_new(&rt, alloc, &mut storage, "x", 0);
+    let y = words::intern_new(&rt, alloc, &mut storage, "y", 1);
+    let again = words::intern_again(&rt, alloc, &mut storage, "x", (0, 2));
+    let mut owners = HashMap::new(alloc);
+    let before: Result<_, _> = owners.insert(x, 5);
+    assert_eq!(rt; before.expect(&rt, "memory"), None);
+    finds(&rt, &owners, &again, Some(5));
+    finds(&rt, &owners, &y, None);
+}
+
+/// The map has this value by a handle, or none.
+fn finds(
+    rt: &impl Abort,
+    owners: &HashMap<Interned<Word>, u64>,
+    owned: &Interned<Word>,
+    value: Option<u64>,
+) {
+    assert_eq!(rt; owners.get(owned).copied(), value);
+}
+
+#[test]
+fn refusals(rt: HostRuntime) {
     let alloc = rt.alloc();
     for (why, number, text) in [
         (Refusal::Foreign, 1, "the handle is of another storage"),
@@ -104,15 +135,22 @@ fn refusals(rt: HostRuntime) -> Result<(), Fail> {
         (Refusal::OutOfMemory, 6, "out of memory"),
     ] {
         assert_eq!(rt; why.number(), number);
-        assert_eq!(rt; format!(in alloc; "{why}")?.as_str(), text);
+        is_printed(&rt, alloc, why, text);
     }
-    Ok(())
+}
+
+/// The refusal is printed as this text.
+fn is_printed(rt: &impl Abort, alloc: Global, why: Refusal, text: &str) {
+    let printed: Result<_, _> = format!(in alloc; "{why}");
+    assert_eq!(rt; printed.expect(rt, "memory").as_str(), text);
 }
 
 #[test]
 fn laws_are_callable() {
     laws::names_tell_values::<Word>();
     laws::a_birth_is_given_once::<Word>();
+    laws::a_sweep_leaves_what_is_marked::<Word>();
+    laws::what_is_interned_is_read::<Word>();
     laws::what_is_stored_is_found::<Word>();
     laws::owned_handles_are_names::<Word>();
     laws::references_are_names::<Word>();

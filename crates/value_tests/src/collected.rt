@@ -1,45 +1,52 @@
 //! Storages in collected mode.
-use crate::kinds::{Node, Term, allowed, make_term, refusal, refused};
-use ra_ap_intern::{InternStorage, Interned, Limits};
-use std::test::Fail;
+use crate::kinds::Node;
+use crate::steps::{has_birth, has_count, has_len, not_found, not_owned, own};
+use crate::terms::{Terms, intern_again, intern_new, not_counted, not_interned, release};
+use intern_fixtures::allowed;
+use ra_ap_intern::{InternStorage, Interned, InternedRef, Limits, Refusal};
+use std::alloc::Global;
+use std::process::Abort;
 
 #[test]
-fn an_entry_stays_when_nothing_counts_it(rt: HostRuntime) -> Result<(), Fail> {
+fn an_entry_stays_when_nothing_counts_it(rt: HostRuntime) {
     let alloc = rt.alloc();
     let mut storage = InternStorage::new(alloc, 1);
-    let (a, back) = Interned::new_gc(&mut storage, make_term(alloc, "a")?)?;
-    assert_eq!(rt; (a.as_raw(), back), (0, None));
-    assert_eq!(rt; storage.count(a), Some(0));
-    let owned = a.to_owned(&mut storage)?;
-    assert_eq!(rt; storage.count(a), Some(1));
-    assert_eq!(rt; allowed(owned.release(&mut storage))?, None);
-    assert_eq!(rt; storage.len(), 1);
+    let a = intern_new(&rt, alloc, &mut storage, "a", 0);
+    let owned = own(&rt, &mut storage, a, 1);
+    release(&rt, &mut storage, owned, 0);
+    has_len(&rt, &storage, 1);
 
-    let (again, back) = Interned::new_gc(&mut storage, make_term(alloc, "a")?)?;
-    assert_eq!(rt; (again.as_raw(), back), (0, Some(make_term(alloc, "a")?)));
-    assert_eq!(rt; refusal(a.decrement_refcount(&mut storage)), Some(3));
-    assert_eq!(rt; refusal(Interned::from_raw(&storage, 0)), Some(3));
-    Ok(())
+    let again = intern_again(&rt, alloc, &mut storage, "a", 0);
+    assert!(rt; again == a);
+    not_counted(&rt, &mut storage, a);
 }
 
 #[test]
-fn a_stored_value_is_found_at_every_limit(rt: HostRuntime) -> Result<(), Fail> {
+fn a_stored_value_is_found_at_every_limit(rt: HostRuntime) {
     let alloc = rt.alloc();
     let mut storage = InternStorage::with_limits(alloc, 1, Limits { top: 1, numbers: 1 });
-    let (a, back) = Interned::new_gc(&mut storage, make_term(alloc, "a")?)?;
-    assert_eq!(rt; (a.as_raw(), back), (0, None));
-    let owned = a.to_owned(&mut storage)?;
+    let a = intern_new(&rt, alloc, &mut storage, "a", 0);
+    let owned = own(&rt, &mut storage, a, 1);
     assert!(rt; owned.as_ref() == a);
-    assert_eq!(rt; refusal(a.to_owned(&mut storage)), Some(4));
-    let (again, back) = Interned::new_gc(&mut storage, make_term(alloc, "a")?)?;
-    assert_eq!(rt; (again.as_raw(), back), (0, Some(make_term(alloc, "a")?)));
-    let b = Interned::new_gc(&mut storage, make_term(alloc, "b")?);
-    assert_eq!(rt; refused(b)?, (5, make_term(alloc, "b")?));
-    Ok(())
+    not_owned(&rt, &mut storage, a, Refusal::CountFull);
+    let again = intern_again(&rt, alloc, &mut storage, "a", 0);
+    assert!(rt; again == a);
+    not_interned(&rt, alloc, &mut storage, "b");
+    has_count(&rt, &storage, a, 1);
 }
 
 #[test]
-fn values_refer_to_values(rt: HostRuntime) -> Result<(), Fail> {
+fn a_storage_of_no_births_takes_nothing(rt: HostRuntime) {
+    let alloc = rt.alloc();
+    let mut storage: Terms = InternStorage::with_limits(alloc, 1, Limits { top: 1, numbers: 0 });
+    not_interned(&rt, alloc, &mut storage, "a");
+    not_interned(&rt, alloc, &mut storage, "");
+    has_len(&rt, &storage, 0);
+    not_found(&rt, &storage, 0);
+}
+
+#[test]
+fn values_refer_to_values(rt: HostRuntime) {
     let alloc = rt.alloc();
     let mut storage = InternStorage::new(alloc, 1);
     let leaf = Node {
@@ -47,26 +54,57 @@ fn values_refer_to_values(rt: HostRuntime) -> Result<(), Fail> {
         owned: Vec::new(alloc),
         label: 1,
     };
-    let (leaf, _) = allowed(Interned::new_gc(&mut storage, leaf))?;
-    let owned_leaf = leaf.to_owned(&mut storage)?;
+    let leaf = intern_node(&rt, &mut storage, leaf, 0);
+    let top = make_above(&rt, alloc, &mut storage, leaf, 2);
+    let top = intern_node(&rt, &mut storage, top, 1);
+    reads_above(&rt, &storage, top, (2, 1));
+    has_count(&rt, &storage, leaf, 1);
+}
+
+/// Reads a node with this label and with one child, which it also owns, with that label.
+fn reads_above(
+    rt: &impl Abort,
+    storage: &InternStorage<Node>,
+    top: InternedRef<Node>,
+    (label, child_label): (u64, u64),
+) {
+    let read = top.get(storage).expect(rt, "stored");
+    assert_eq!(rt; read.label, label);
+    let child = read.children.first().expect(rt, "a child");
+    assert_eq!(rt; child.get(storage).map(|n| n.label), Some(child_label));
+    let owned = read.owned.first().expect(rt, "an owned child");
+    assert_eq!(rt; owned.get(storage).map(|n| n.label), Some(child_label));
+}
+
+/// Interns a node, which gets this birth.
+fn intern_node(
+    rt: &impl Abort,
+    storage: &mut InternStorage<Node>,
+    node: Node,
+    birth: u64,
+) -> InternedRef<Node> {
+    let (node, _) = allowed(Interned::new_gc(storage, node)).expect(rt, "interned");
+    has_birth(rt, node, birth);
+    node
+}
+
+/// Makes a node with one child, which it also owns.
+fn make_above(
+    rt: &impl Abort,
+    alloc: Global,
+    storage: &mut InternStorage<Node>,
+    child: InternedRef<Node>,
+    label: u64,
+) -> Node {
     let mut children = Vec::new(alloc);
-    children.push(leaf)?;
+    let pushed: Result<_, _> = children.push(child);
+    pushed.expect(rt, "memory");
     let mut owned = Vec::new(alloc);
-    owned.push(owned_leaf)?;
-    let top = Node {
+    let pushed: Result<_, _> = owned.push(own(rt, storage, child, 1));
+    pushed.expect(rt, "memory");
+    Node {
         children,
         owned,
-        label: 2,
-    };
-    let (top, _) = allowed(Interned::new_gc(&mut storage, top))?;
-    assert_eq!(rt; (leaf.as_raw(), top.as_raw()), (0, 1));
-
-    let read = top.get(&storage).ok_or("the top is stored")?;
-    assert_eq!(rt; read.label, 2);
-    let child = read.children.first().ok_or("a child")?;
-    assert_eq!(rt; child.get(&storage).map(|n| n.label), Some(1));
-    let owned = read.owned.first().ok_or("an owned child")?;
-    assert_eq!(rt; owned.get(&storage).map(|n| n.label), Some(1));
-    assert_eq!(rt; storage.count(leaf), Some(1));
-    Ok(())
+        label,
+    }
 }

@@ -1,112 +1,92 @@
 //! Storages in counted mode.
-use crate::kinds::{Word, allowed, make_name, make_word, refusal, refused};
-use ra_ap_intern::{InternStorage, Interned, InternedRef, Limits};
-use std::test::Fail;
+use crate::steps::{
+    count_down, has_len, has_name, not_counted_down, not_found, not_owned, not_taken_over, stored,
+};
+use crate::words::{
+    Words, frees, intern_again, intern_new, not_cloned, not_interned, not_released, reads_nothing,
+    reference_reads_nothing, take_over,
+};
+use ra_ap_intern::{InternStorage, Limits, Refusal};
 
 #[test]
-fn a_count_lowered_to_zero_is_raised_again(rt: HostRuntime) -> Result<(), Fail> {
+fn a_count_lowered_to_zero_is_raised_again(rt: HostRuntime) {
     let alloc = rt.alloc();
     let mut storage = InternStorage::new(alloc, 1);
-    let (x, _) = Interned::new(&mut storage, make_word(alloc, "x")?)?;
-    assert_eq!(rt; x.as_ref().decrement_refcount(&mut storage), Ok(()));
-    let (number, x) = refused(x.release(&mut storage))?;
-    assert_eq!(rt; number, 3);
-    assert_eq!(rt; x.as_ref().name(), make_name(1, 0));
-    assert_eq!(rt; storage.len(), 1);
+    let x = intern_new(&rt, alloc, &mut storage, "x", 0);
+    count_down(&rt, &mut storage, x.as_ref(), 0);
+    let x = not_released(&rt, &mut storage, x, Refusal::CountZero);
+    has_name(&rt, x.as_ref(), (1, 0));
+    has_len(&rt, &storage, 1);
 
-    let (again, back) = Interned::new(&mut storage, make_word(alloc, "x")?)?;
-    assert_eq!(rt; again.as_ref().as_raw(), 0);
-    assert_eq!(rt; back, Some(make_word(alloc, "x")?));
-    assert_eq!(rt; storage.count(again.as_ref()), Some(1));
+    let again = intern_again(&rt, alloc, &mut storage, "x", (0, 1));
     assert!(rt; x == again);
-    Ok(())
 }
 
 #[test]
-fn a_full_count_and_used_up_births_refuse(rt: HostRuntime) -> Result<(), Fail> {
+fn a_full_count_and_used_up_births_refuse(rt: HostRuntime) {
     let alloc = rt.alloc();
     let mut storage = InternStorage::with_limits(alloc, 1, Limits { top: 2, numbers: 2 });
-    let (a, back) = Interned::new(&mut storage, make_word(alloc, "a")?)?;
-    assert_eq!(rt; (a.as_ref().as_raw(), back), (0, None));
-    let (a, back) = Interned::new(&mut storage, make_word(alloc, "a")?)?;
-    assert_eq!(rt;
-        (a.as_ref().as_raw(), back),
-        (0, Some(make_word(alloc, "a")?))
-    );
-    let third = Interned::new(&mut storage, make_word(alloc, "a")?);
-    assert_eq!(rt; refused(third)?, (4, make_word(alloc, "a")?));
+    let _ = intern_new(&rt, alloc, &mut storage, "a", 0);
+    let _ = intern_again(&rt, alloc, &mut storage, "a", (0, 2));
+    not_interned(&rt, alloc, &mut storage, "a", Refusal::CountFull);
 
-    let (b, back) = Interned::new(&mut storage, make_word(alloc, "b")?)?;
-    assert_eq!(rt; (b.as_ref().as_raw(), back), (1, None));
-    let c = Interned::new(&mut storage, make_word(alloc, "c")?);
-    assert_eq!(rt; refused(c)?, (5, make_word(alloc, "c")?));
-    assert_eq!(rt;
-        allowed(b.release(&mut storage))?,
-        Some(make_word(alloc, "b")?)
-    );
-    let b = Interned::new(&mut storage, make_word(alloc, "b")?);
-    assert_eq!(rt; refused(b)?, (5, make_word(alloc, "b")?));
-    Ok(())
+    let b = intern_new(&rt, alloc, &mut storage, "b", 1);
+    not_interned(&rt, alloc, &mut storage, "c", Refusal::NumbersUsedUp);
+    frees(&rt, &mut storage, b, "b");
+    not_interned(&rt, alloc, &mut storage, "b", Refusal::NumbersUsedUp);
 }
 
 #[test]
-fn a_freed_value_is_born_anew(rt: HostRuntime) -> Result<(), Fail> {
+fn a_storage_of_no_births_takes_nothing(rt: HostRuntime) {
+    let alloc = rt.alloc();
+    let mut storage: Words = InternStorage::with_limits(alloc, 1, Limits { top: 1, numbers: 0 });
+    not_interned(&rt, alloc, &mut storage, "a", Refusal::NumbersUsedUp);
+    not_interned(&rt, alloc, &mut storage, "", Refusal::NumbersUsedUp);
+    has_len(&rt, &storage, 0);
+    not_found(&rt, &storage, 0);
+}
+
+#[test]
+fn a_freed_value_is_born_anew(rt: HostRuntime) {
     let alloc = rt.alloc();
     let mut storage = InternStorage::new(alloc, 1);
-    let (v, _) = Interned::new(&mut storage, make_word(alloc, "v")?)?;
+    let v = intern_new(&rt, alloc, &mut storage, "v", 0);
     let reference = v.as_ref();
-    assert_eq!(rt; reference.as_raw(), 0);
-    assert_eq!(rt;
-        allowed(v.release(&mut storage))?,
-        Some(make_word(alloc, "v")?)
-    );
+    frees(&rt, &mut storage, v, "v");
 
-    let (again, back) = Interned::new(&mut storage, make_word(alloc, "v")?)?;
-    assert_eq!(rt; (again.as_ref().as_raw(), back), (1, None));
-    assert_eq!(rt; reference.get(&storage).map(Word::text), None);
-    assert_eq!(rt; refusal(reference.to_owned(&mut storage)), Some(2));
+    let again = intern_new(&rt, alloc, &mut storage, "v", 1);
+    reference_reads_nothing(&rt, &storage, reference);
+    not_owned(&rt, &mut storage, reference, Refusal::Gone);
     assert!(rt; reference != again.as_ref());
-    Ok(())
 }
 
 #[test]
-fn a_count_left_behind_is_taken_over(rt: HostRuntime) -> Result<(), Fail> {
+fn a_count_left_behind_is_taken_over(rt: HostRuntime) {
     let alloc = rt.alloc();
     let mut storage = InternStorage::new(alloc, 1);
-    let (k, _) = Interned::new(&mut storage, make_word(alloc, "k")?)?;
+    let k = intern_new(&rt, alloc, &mut storage, "k", 0);
     let reference = k.as_ref();
     drop(k);
-    let taken = Interned::from_raw(&storage, 0)?;
+    let taken = take_over(&rt, &storage, (0, 1));
     assert!(rt; taken.as_ref() == reference);
-    assert_eq!(rt; storage.count(reference), Some(1));
-    assert_eq!(rt; refusal(Interned::from_raw(&storage, 1)), Some(2));
+    not_taken_over(&rt, &storage, 1, Refusal::Gone);
 
-    assert_eq!(rt; reference.decrement_refcount(&mut storage), Ok(()));
-    assert_eq!(rt; refusal(Interned::from_raw(&storage, 0)), Some(3));
-    assert!(rt; InternedRef::from_raw(&storage, 0)? == reference);
-    Ok(())
+    count_down(&rt, &mut storage, reference, 0);
+    not_taken_over(&rt, &storage, 0, Refusal::CountZero);
+    assert!(rt; stored(&rt, &storage, 0) == reference);
 }
 
 #[test]
-fn a_handle_of_a_freed_value_is_refused(rt: HostRuntime) -> Result<(), Fail> {
+fn a_handle_of_a_freed_value_is_refused(rt: HostRuntime) {
     let alloc = rt.alloc();
     let mut storage = InternStorage::new(alloc, 1);
-    let (a, _) = Interned::new(&mut storage, make_word(alloc, "k")?)?;
-    let b = Interned::from_raw(&storage, 0)?;
-    assert_eq!(rt; storage.count(b.as_ref()), Some(1));
-    assert_eq!(rt;
-        allowed(a.release(&mut storage))?,
-        Some(make_word(alloc, "k")?)
-    );
+    let a = intern_new(&rt, alloc, &mut storage, "k", 0);
+    let b = take_over(&rt, &storage, (0, 1));
+    frees(&rt, &mut storage, a, "k");
 
-    let (number, b) = refused(b.release(&mut storage))?;
-    assert_eq!(rt; number, 2);
-    assert_eq!(rt; b.as_ref().name(), make_name(1, 0));
-    assert_eq!(rt; refusal(b.clone(&mut storage)), Some(2));
-    assert_eq!(rt; b.get(&storage).map(Word::text), None);
-    assert_eq!(rt;
-        refusal(b.as_ref().decrement_refcount(&mut storage)),
-        Some(2)
-    );
-    Ok(())
+    let b = not_released(&rt, &mut storage, b, Refusal::Gone);
+    has_name(&rt, b.as_ref(), (1, 0));
+    not_cloned(&rt, &mut storage, &b, Refusal::Gone);
+    reads_nothing(&rt, &storage, &b);
+    not_counted_down(&rt, &mut storage, b.as_ref(), Refusal::Gone);
 }

@@ -1,4 +1,5 @@
-//! Worked examples of storages, call by call, each with its expected answers.
+//! Tests of storages of values: worked examples with their expected answers, each public call,
+//! hostile use.
 #![tactic(auto)]
 
 #[cfg(test)]
@@ -17,3 +18,9 @@ mod large;
 mod ported;
 #[cfg(test)]
 mod readme;
+#[cfg(test)]
+mod steps;
+#[cfg(test)]
+mod terms;
+#[cfg(test)]
+mod words;

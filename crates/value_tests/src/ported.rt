@@ -1,54 +1,46 @@
 //! A test of the Rust crate, over values of one type.
-use crate::kinds::{Word, allowed, make_word};
-use ra_ap_intern::{InternStorage, Interned};
-use std::test::Fail;
+use crate::steps::{has_len, own};
+use crate::words::{clone, differ, equal, frees, intern_again, intern_new, reads, release};
+use ra_ap_intern::InternStorage;
 
 #[test]
-fn simple_interned_equality(rt: HostRuntime) -> Result<(), Fail> {
+fn simple_interned_equality(rt: HostRuntime) {
     let alloc = rt.alloc();
     let mut storage = InternStorage::new(alloc, 1);
-    let (a, _) = Interned::new(&mut storage, make_word(alloc, "abc")?)?;
-    let (b, _) = Interned::new(&mut storage, make_word(alloc, "abc")?)?;
-    assert!(rt; a == b);
-    assert!(rt; a.as_ref() == b.as_ref());
-    assert!(rt; a.as_ref() == a.as_ref());
-    let once = a.clone(&mut storage)?;
-    let twice = once.clone(&mut storage)?;
-    assert!(rt; a == once);
-    assert!(rt; a == twice);
-    assert!(rt; b.clone(&mut storage)? == twice);
-    assert!(rt; b.as_ref().to_owned(&mut storage)? == a);
+    let a = intern_new(&rt, alloc, &mut storage, "abc", 0);
+    let b = intern_again(&rt, alloc, &mut storage, "abc", (0, 2));
+    equal(&rt, &a, &b);
+    equal(&rt, &a, &a);
+    let once = clone(&rt, &mut storage, &a, 3);
+    let twice = clone(&rt, &mut storage, &once, 4);
+    equal(&rt, &a, &once);
+    equal(&rt, &a, &twice);
+    let third = clone(&rt, &mut storage, &b, 5);
+    equal(&rt, &third, &twice);
+    let owned = own(&rt, &mut storage, b.as_ref(), 6);
+    equal(&rt, &owned, &a);
 
-    let (c, _) = Interned::new(&mut storage, make_word(alloc, "def")?)?;
-    assert!(rt; a != c);
-    assert!(rt; b != c);
-    assert!(rt; b.as_ref() != c.as_ref());
-    Ok(())
+    let c = intern_new(&rt, alloc, &mut storage, "def", 1);
+    differ(&rt, &a, &c);
+    differ(&rt, &b, &c);
 }
 
 #[test]
-fn simple_interned_reads(rt: HostRuntime) -> Result<(), Fail> {
+fn simple_interned_reads(rt: HostRuntime) {
     let alloc = rt.alloc();
     let mut storage = InternStorage::new(alloc, 1);
-    let (a, _) = Interned::new(&mut storage, make_word(alloc, "abc")?)?;
-    let (b, _) = Interned::new(&mut storage, make_word(alloc, "abc")?)?;
-    assert_eq!(rt; a.get(&storage).map(Word::text), Some("abc"));
-    assert_eq!(rt; b.get(&storage).map(Word::text), Some("abc"));
-    let (c, _) = Interned::new(&mut storage, make_word(alloc, "def")?)?;
-    assert_eq!(rt; c.as_ref().get(&storage).map(Word::text), Some("def"));
+    let a = intern_new(&rt, alloc, &mut storage, "abc", 0);
+    let b = intern_again(&rt, alloc, &mut storage, "abc", (0, 2));
+    reads(&rt, &storage, &a, "abc");
+    reads(&rt, &storage, &b, "abc");
+    let c = intern_new(&rt, alloc, &mut storage, "def", 1);
+    reads(&rt, &storage, &c, "def");
 
-    assert_eq!(rt;
-        allowed(c.release(&mut storage))?,
-        Some(make_word(alloc, "def")?)
-    );
-    assert_eq!(rt; a.get(&storage).map(Word::text), Some("abc"));
-    assert_eq!(rt; b.get(&storage).map(Word::text), Some("abc"));
-    assert_eq!(rt; allowed(a.release(&mut storage))?, None);
-    assert_eq!(rt; b.get(&storage).map(Word::text), Some("abc"));
-    assert_eq!(rt;
-        allowed(b.release(&mut storage))?,
-        Some(make_word(alloc, "abc")?)
-    );
-    assert_eq!(rt; storage.len(), 0);
-    Ok(())
+    frees(&rt, &mut storage, c, "def");
+    reads(&rt, &storage, &a, "abc");
+    reads(&rt, &storage, &b, "abc");
+    release(&rt, &mut storage, a, 1);
+    reads(&rt, &storage, &b, "abc");
+    frees(&rt, &mut storage, b, "abc");
+    has_len(&rt, &storage, 0);
 }
