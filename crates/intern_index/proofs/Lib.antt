@@ -3,5 +3,6 @@ mod Finds
 mod Held
 mod Orders
 mod Probing
+mod Ranks
 mod Searching
 mod Sweeps

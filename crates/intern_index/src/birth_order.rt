@@ -1,6 +1,6 @@
 //! Places in the order of their births.
 ghost use Rattle.std.specs.Prelude.{◌≡◌, ◌<◌, vec_len, vec_capacity};
-ghost use Rattle.std.specs.List.{filter};
+ghost use Rattle.std.specs.List.{filter, slice_get};
 ghost use Rattle.slab.specs.Slab.{get};
 ghost use Rattle.intern_index.specs.Entries.{birth_at};
 ghost use Rattle.intern_index.specs.Ordered.{IsOrder, birth_or_zero, is_occupied};
@@ -40,6 +40,15 @@ fn keep_occupied<T, N: Copy>(places: &mut Vec<usize>, slots: &Slab<Entry<T, N>>)
     ensures { places.new.items ≡ filter (is_occupied slots.now) places.old.items }
 {
     places.retain(|place| is_occupied(slots, *place));
+}
+
+impl BirthOrder {
+    /// The place of the birth of this number in the order.
+    pub(crate) fn place(&self, at: usize) -> Option<usize>
+        ensures { result ≡ slice_get self.now.places.items at }
+    {
+        self.places.get(at).copied()
+    }
 }
 
 impl Births for BirthOrder {

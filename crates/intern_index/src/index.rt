@@ -1,9 +1,11 @@
 //! Values with payloads, each under a birth and a hash.
 ghost use Rattle.std.specs.Prelude.{◌≡◌, ℕ, ◌<◌, option_copied, IsSome, is_some, Some, None, IfOk, OnErr, IfErr, IfSome, IfNone, true, false};
 ghost use Rattle.std.specs.Option.{option_map};
+ghost use Rattle.std.specs.List.{slice_get};
 ghost use Rattle.std.specs.FinMap as map;
 ghost use Rattle.intern_index.specs.IndexEntry.{IndexEntry, has_hash, is_sought, with_payload};
 
+use crate::birth_order::BirthOrder;
 use crate::births::{Births, locate};
 use crate::buckets::PLACES;
 use crate::change::Change;
@@ -207,5 +209,22 @@ impl<T, N: Copy, B: Births> Index<T, N, B> {
     {
         keep_marked(&mut self.slots, marks);
         self.tables.births.forget(&self.slots);
+    }
+}
+
+impl<T, N: Copy> Index<T, N, BirthOrder> {
+    /// The entry of this number in the order of births.
+    pub fn spot(&self, at: usize) -> Option<Spot>
+        ensures birth { option_map (λ s. s.birth) result
+            ≡ option_map (λ e. e.0) (slice_get (map.entries self.now) at) }
+        ensures place { IfSome result (λ s.
+            option_map (λ e. e.place) (map.get self.now s.birth) ≡ Some s.place) }
+    {
+        let place = self.tables.births.place(at)?;
+        let entry = &self.slots[place];
+        Some(Spot {
+            birth: entry.birth,
+            place,
+        })
     }
 }

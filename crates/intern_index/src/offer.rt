@@ -13,3 +13,12 @@ pub trait Offer<T>: Sized {
         ensures ok { IfOk result (λ v. v ≡ value self) }
         ensures err { IfErr result (λ back. back ≡ self) };
 }
+
+// A value is offered as itself.
+impl<T> Offer<T> for T {
+    ghost value = { λ v. v };
+
+    fn into_value(self, _alloc: Global) -> Result<T, T> {
+        Ok(self)
+    }
+}

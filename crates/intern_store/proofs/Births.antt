@@ -1,7 +1,8 @@
 -- The birth of a value, as the map's entries give it and as look-ups do.
-use Rattle.std.proofs.Common.{◌≡◌, ◌≢◌, ℕ, Bool, true, false, cond, List, [], ◌∷◌, Option, Some, None, IfSome, IfNone, nat_eq, ◌&&◌, refl, sym, ap, subst, ◌∙◌, arith}
+use Rattle.std.proofs.Common.{◌≡◌, ◌≢◌, ℕ, Bool, true, false, cond, List, [], ◌∷◌, Option, Some, None, Result, Ok, Err, IfOk, OnErr, nat_eq, ◌&&◌, refl, sym, ap, subst, ◌∙◌, arith}
 use Rattle.std.specs.Prelude.{T}
 use Rattle.std.specs.Option.{option_map}
+use Rattle.std.specs.Result.{result_ok}
 use Rattle.std.specs.List.{find}
 use Rattle.std.specs.Ordering.{nat_cmp, eq_by_cmp, is_lt}
 use Rattle.std.specs.Cmp.{IsEquivalence}
@@ -90,12 +91,12 @@ module _ {V : Type 0} (eq : V → V → Bool) where
       go (Some k) hb e (Some l) hc f = ok.apart b c k l hb hc (sym (laws.congr v k.value l.value e) ∙ f)
 
   -- what a search finds is the birth of the value
-  pub birth_is : {X : Type 0} (birth : X → ℕ) → IsEquivalence eq → (s t : State V) → s ≡ t → IsState eq s → (v : V) (r : Option X)
-      → IfSome r (λ x. is_at eq v (get s.map (birth x)) ≡ true) → IfNone r ((b : ℕ) → is_at eq v (get s.map b) ≡ false) → option_map birth r ≡ birth_of eq t v
-  birth_is {X} birth laws s t view ok v r found none = go r (birth_of eq s v) refl found none ∙ ap (λ x. birth_of eq x v) view
+  pub birth_is : {X E : Type 0} (birth : X → ℕ) → IsEquivalence eq → (s t : State V) → s ≡ t → IsState eq s → (v : V) (r : Result X E)
+      → IfOk r (λ x. is_at eq v (get s.map (birth x)) ≡ true) → OnErr r ((b : ℕ) → is_at eq v (get s.map b) ≡ false) → option_map birth (result_ok r) ≡ birth_of eq t v
+  birth_is {X} {E} birth laws s t view ok v r found none = go r (birth_of eq s v) refl found none ∙ ap (λ x. birth_of eq x v) view
     where
-      go : (r : Option X) (o : Option ℕ) → birth_of eq s v ≡ o → IfSome r (λ x. is_at eq v (get s.map (birth x)) ≡ true) → IfNone r ((b : ℕ) → is_at eq v (get s.map b) ≡ false) → option_map birth r ≡ o
-      go None None is found none = refl
-      go None (Some c) is found none = let yes = is_stored s v c is in let no = none c in absurd (cc)
-      go (Some x) None is found none = let no = not_stored s v is (birth x) in absurd (cc)
-      go (Some x) (Some c) is found none = ap Some (one laws s ok v (birth x) c found (is_stored s v c is))
+      go : (r : Result X E) (o : Option ℕ) → birth_of eq s v ≡ o → IfOk r (λ x. is_at eq v (get s.map (birth x)) ≡ true) → OnErr r ((b : ℕ) → is_at eq v (get s.map b) ≡ false) → option_map birth (result_ok r) ≡ o
+      go (Err e) None is found none = refl
+      go (Err e) (Some c) is found none = let yes = is_stored s v c is in let no = none c in absurd (cc)
+      go (Ok x) None is found none = let no = not_stored s v is (birth x) in absurd (cc)
+      go (Ok x) (Some c) is found none = ap Some (one laws s ok v (birth x) c found (is_stored s v c is))

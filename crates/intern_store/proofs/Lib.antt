@@ -1,5 +1,6 @@
 pub mod Compared
 pub mod Later
+pub mod Maps
 pub mod States
 mod Births
 pub mod Reading

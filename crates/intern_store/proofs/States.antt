@@ -1,14 +1,14 @@
 -- What a storage keeps true of its entries.
-use Rattle.std.proofs.Common.{◌≡◌, ◌≢◌, inl, inr, ℕ, ◌+◌, ◌<◌, ◌≤◌, subst, Bool, true, false, cond, Option, Some, None, IsSome, is_some, nat_eq, refl, sym, ap, ◌∙◌, arith}
-use Rattle.std.specs.Option.{option_map}
+use Rattle.std.proofs.Common.{◌≡◌, ◌≢◌, inl, inr, ℕ, ◌+◌, ◌-◌, ◌==◌, not, ◌&&◌, ◌<◌, ◌≤◌, subst, Bool, true, false, cond, Option, Some, None, IsSome, is_some, nat_eq, refl, sym, ap, ◌∙◌, arith}
+use Rattle.std.specs.Option.{option_map, option_eq}
 use Rattle.std.specs.Ordering.{nat_cmp}
 use Rattle.std.specs.Cmp.{nat_cmp_total, IsEquivalence}
 use Rattle.std.specs.FinMap as map
 use Rattle.std.specs.FinMap.{FinMap, get-empty, same_map, nat_cmp-IsAntisymmetric}
-use Rattle.std.proofs.lemmas.Bool.{cases_eq, eq-eqb, ne_eqb}
+use Rattle.std.proofs.lemmas.Bool.{cases_eq, cases_lt, eq-eqb, ne_eqb, eqb-true, lt-ltb, le-ltb}
 use Rattle.std.proofs.lemmas.Option.{same_Some}
-use Rattle.intern_store.specs.Kept.{Kept, is_at}
-use Rattle.intern_store.specs.State.{State, IsState, entry_at, with_count, added, added_with, counted_up, birth_of, or_added, interned}
+use Rattle.intern_store.specs.Kept.{Kept, is_at, raised, recounted}
+use Rattle.intern_store.specs.State.{State, IsState, entry_at, count_at, is_last, freed, released, with_count, added, added_with, taken, counted_up, counted_down, birth_of, or_added, interned}
 use Rattle.intern_store.proofs.Compared.{get-inserted, get-removed, get-retained}
 
 module _ {T : Type 0} (eq : T → T → Bool) where
@@ -138,22 +138,92 @@ module _ {T : Type 0} (eq : T → T → Bool) where
           go None e some = absurd (cc)
           go (Some l) e some = ap is_some (was q l e).1
 
-  -- the same, where the count is all that is known of the entry
-  pub counted_state : (s t : State T) (b n c : ℕ) (m : FinMap nat_cmp (Kept T)) → s ≡ t → IsState eq s → option_map (λ k. k.count) (map.get s.map b) ≡ Some c → (c ≤ s.top → n ≤ s.top)
-      → ((k : Kept T) → map.get s.map b ≡ Some k → m ≡ map.insert s.map b (record k { count = n })) → IsState eq (record s { map = m })
-  counted_state s t b n c m view is counts fits recounted = go (map.get s.map b) refl counts
+  -- a count is within the limit
+  pub count_within : (s : State T) (b n : ℕ) → IsState eq s → option_map (λ k. k.count) (entry_at s b) ≡ Some n → n ≤ s.top
+  count_within s b n is counts = go (entry_at s b) refl counts
     where
-      go : (o : Option (Kept T)) → map.get s.map b ≡ o → option_map (λ k. k.count) o ≡ Some c → IsState eq (record s { map = m })
-      go None e counts = absurd (cc)
-      go (Some k) e counts =
-          let same : k.count ≡ c = cc in
-          recounted_state s b n k m is e (fits (subst (λ x. x ≤ s.top) same (is.counts b k e))) (recounted k e)
+      go : (o : Option (Kept T)) → entry_at s b ≡ o → option_map (λ k. k.count) o ≡ Some n → n ≤ s.top
+      go None had counts = absurd (cc)
+      go (Some k) had counts = subst (λ n. n ≤ s.top) (same_Some _ _ counts) (is.counts b k had)
+
+  -- the same of a count that a function changes, where there is an entry
+  pub changed_state : (f : ℕ → ℕ) (s : State T) (b : ℕ) (m : FinMap nat_cmp (Kept T)) → IsState eq s → ((n : ℕ) → n ≤ s.top → f n ≤ s.top)
+      → m ≡ recounted f s.map b (map.get s.map b) → IsState eq (record s { map = m })
+  changed_state f s b m is fits changed = go (map.get s.map b) refl changed
+    where
+      go : (o : Option (Kept T)) → map.get s.map b ≡ o → m ≡ recounted f s.map b o → IsState eq (record s { map = m })
+      go None had changed = subst (λ n. IsState eq (record s { map = n })) (sym changed) is
+      go (Some k) had changed = recounted_state s b (f k.count) k m is had (fits k.count (is.counts b k had)) changed
 
 shadowed : {A : Type 0} (b : Bool) (x y z : A) → cond b x (cond b y z) ≡ cond b x z
 shadowed true x y z = refl
 shadowed false x y z = refl
 
+-- a count that is raised
+pub raised_below : (top n : ℕ) → n < top → raised top n ≡ n + 1
+raised_below top n below = ap (λ b. cond b (n + 1) n) (lt-ltb n top below)
+
+-- and one at the limit
+pub raised_full : (top n : ℕ) → top ≤ n → raised top n ≡ n
+raised_full top n full = ap (λ b. cond b (n + 1) n) (le-ltb n top full)
+
+pub raised_within : (top n : ℕ) → n ≤ top → raised top n ≤ top
+raised_within top n fits =
+    elim (cases_lt n top) [
+      | inl below ↦ rw (raised_below top n below) (omega arith)
+      | inr full ↦ rw (raised_full top n full) fits
+    ]
+
 module _ {T : Type 0} where
+  -- a count that is changed as another function changes it
+  pub changed_count : (f g : ℕ → ℕ) (s : State T) (b : ℕ) (m : FinMap nat_cmp (Kept T)) → m ≡ recounted f s.map b (entry_at s b)
+      → ((n : ℕ) → option_map (λ k. k.count) (entry_at s b) ≡ Some n → f n ≡ g n) → record s { map = m } ≡ with_count g s b (entry_at s b)
+  changed_count f g s b m changed same = ap (λ m. record s { map = m }) changed ∙ go (entry_at s b) same
+    where
+      go : (o : Option (Kept T)) → ((n : ℕ) → option_map (λ k. k.count) o ≡ Some n → f n ≡ g n) → record s { map = recounted f s.map b o } ≡ with_count g s b o
+      go None same = refl
+      go (Some k) same = ap (λ n. record s { map = map.insert s.map b (record k { count = n }) }) (same k.count refl)
+
+  -- or that stays as it is
+  pub same_count : (f : ℕ → ℕ) (s : State T) (b : ℕ) (m : FinMap nat_cmp (Kept T)) → m ≡ recounted f s.map b (entry_at s b)
+      → ((n : ℕ) → option_map (λ k. k.count) (entry_at s b) ≡ Some n → f n ≡ n) → record s { map = m } ≡ s
+  same_count f s b m changed same = changed_count f (λ n. n) s b m changed same ∙ go (entry_at s b) refl
+    where
+      go : (o : Option (Kept T)) → entry_at s b ≡ o → with_count (λ n. n) s b o ≡ s
+      go None had = refl
+      go (Some k) had = ap (λ m. record s { map = m }) (same_map nat_cmp_total nat_cmp-IsAntisymmetric _ _ (λ q. get-inserted s.map b k q ∙ here q (nat_eq q b) refl))
+        where
+          here : (q : ℕ) (t : Bool) → nat_eq q b ≡ t → cond t (Some k) (entry_at s q) ≡ entry_at s q
+          here q true t = sym (ap (entry_at s) (eqb-true q b t) ∙ had)
+          here q false t = refl
+
+  module _ (stays : Bool) (s : State T) (b : ℕ) (goes : stays ≡ false) (one : count_at s b ≡ Some 1) where
+    is_the_last : is_last stays s b ≡ true
+    is_the_last = ap (λ t. not t && option_eq ◌==◌ (count_at s b) (Some 1)) goes ∙ ap (λ o. option_eq ◌==◌ o (Some 1)) one
+
+    -- an entry that is counted once less and taken out is taken out
+    pub last_released : taken (counted_down s b) b ≡ released stays s b
+    last_released = go (entry_at s b) ∙ ap (λ t. cond t (taken s b) (counted_down s b)) (sym is_the_last)
+      where
+        go : (o : Option (Kept T)) → taken (with_count (λ n. n - 1) s b o) b ≡ taken s b
+        go None = refl
+        go (Some k) = ap (λ m. record s { map = m }) (same_map nat_cmp_total nat_cmp-IsAntisymmetric _ _ (λ q.
+            get-removed (map.insert s.map b (record k { count = k.count - 1 })) b q
+            ∙ ap (cond (nat_eq q b) None) (get-inserted s.map b (record k { count = k.count - 1 }) q)
+            ∙ shadowed (nat_eq q b) None _ (map.get s.map q)
+            ∙ sym (get-removed s.map b q)))
+
+    -- and its value is freed
+    pub last_freed : option_map (λ k. k.value) (entry_at (counted_down s b) b) ≡ freed stays s b
+    last_freed = go (entry_at s b) refl ∙ ap (λ t. cond t (option_map (λ k. k.value) (entry_at s b)) None) (sym is_the_last)
+      where
+        go : (o : Option (Kept T)) → entry_at s b ≡ o → option_map (λ k. k.value) (entry_at (with_count (λ n. n - 1) s b o) b) ≡ option_map (λ k. k.value) (entry_at s b)
+        go None had = refl
+        go (Some k) had =
+            ap (option_map (λ k. k.value)) (get-inserted s.map b (record k { count = k.count - 1 }) b
+            ∙ ap (λ t. cond t (Some (record k { count = k.count - 1 })) (map.get s.map b)) (eq-eqb b b refl))
+            ∙ sym (ap (option_map (λ k. k.value)) had)
+
   -- a new entry that is counted once
   pub counted_up-added : (s : State T) (v : T) → counted_up (added s v) s.next ≡ added_with 1 s v
   counted_up-added s v = ap (with_count (λ n. n + 1) (added s v) s.next) entry ∙ ap (λ m. record s { next = s.next + 1; map = m }) twice

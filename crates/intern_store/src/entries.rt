@@ -1,10 +1,10 @@
 //! What a store asks of the table that keeps its entries.
-ghost use Rattle.std.specs.Prelude.{◌≡◌, ℕ, ◌<◌, Bool, nat_eq, IsSome, is_some, Some, None, OnOk, OnErr, IfErr, IfSome, IfNone, true, false};
+ghost use Rattle.std.specs.Prelude.{◌≡◌, ℕ, ◌<◌, ◌-◌, Bool, nat_eq, IsSome, is_some, Some, None, OnOk, OnErr, IfOk, IfErr, true, false};
 ghost use Rattle.std.specs.Option.{option_map};
 ghost use Rattle.std.specs.FinMap as map;
 ghost use Rattle.std.specs.Ordering.{nat_cmp};
 ghost use Rattle.std.specs.HashSet.{contains};
-ghost use Rattle.intern_store.specs.Kept.{Kept, is_at};
+ghost use Rattle.intern_store.specs.Kept.{Kept, is_at, raised, recounted};
 
 use crate::names::Spot;
 use std::alloc::Global;
@@ -35,18 +35,28 @@ pub trait Entries: Sized {
     fn count(&self, spot: Spot) -> Option<u64>
         ensures { result ≡ option_map (λ k. k.count) (map.get (entries self.now) spot.birth) };
 
-    /// Sets the count of an entry that is there.
-    fn set_count(&mut self, spot: Spot, count: u64)
-        requires { IsSome (map.get (entries self.old) spot.birth) }
-        ensures { (k : Kept Self.Value) → map.get (entries self.old) spot.birth ≡ Some k → entries self.new ≡ map.insert (entries self.old) spot.birth (record k { count = count }) };
+    /// Counts an entry once more, where it is counted less than this often. It gives the count before.
+    fn count_up(&mut self, spot: Spot, top: u64) -> Option<u64>
+        ensures count { result
+            ≡ option_map (λ k. k.count) (map.get (entries self.old) spot.birth) }
+        ensures state { entries self.new ≡ recounted (raised top)
+            (entries self.old) spot.birth (map.get (entries self.old) spot.birth) };
+
+    /// Counts an entry once less, where it is counted. It gives the count before.
+    fn count_down(&mut self, spot: Spot) -> Option<u64>
+        ensures count { result
+            ≡ option_map (λ k. k.count) (map.get (entries self.old) spot.birth) }
+        ensures state { entries self.new ≡ recounted (λ n. n - 1)
+            (entries self.old) spot.birth (map.get (entries self.old) spot.birth) };
 }
 
 /// A table that gives its entries out one by one.
 pub trait Removes: Entries {
-    /// Takes the entry of a birth out, and gives its value.
-    fn remove(&mut self, birth: u64) -> Option<Self::Value>
-        ensures value { result ≡ option_map (λ k. k.value) (map.get (Self.entries self.old) birth) }
-        ensures removed { Self.entries self.new ≡ map.remove (Self.entries self.old) birth };
+    /// Takes an entry out, and gives its value.
+    fn remove(&mut self, spot: Spot) -> Option<Self::Value>
+        ensures value { result
+            ≡ option_map (λ k. k.value) (map.get (Self.entries self.old) spot.birth) }
+        ensures removed { Self.entries self.new ≡ map.remove (Self.entries self.old) spot.birth };
 }
 
 /// A table that takes offers of this type.
@@ -54,16 +64,24 @@ pub trait Takes<O>: Entries {
     // The value that would be stored.
     ghost value: { O → Self.Value };
 
-    /// An entry whose value equals the one offered.
-    fn find(&self, offer: &O) -> Option<Spot>
-        ensures found { IfSome result (λ s. is_at Self.Value.eq (value offer.now) (map.get (Self.entries self.now) s.birth) ≡ true) }
-        ensures none { IfNone result ((b : ℕ) → is_at Self.Value.eq (value offer.now) (map.get (Self.entries self.now) b) ≡ false) };
+    // The hash under which it would be stored.
+    ghost hash_of: { O → ℕ };
 
-    /// Adds an entry under a birth above all others, and tells its place. Where there is no memory
-    /// the offer comes back.
-    fn insert(&mut self, birth: u64, offer: O, count: u64) -> Result<usize, O>
-        requires { (b : ℕ) → IsSome (map.get (Self.entries self.old) b) → b < birth }
-        ensures ok { OnOk result (Self.entries self.new ≡ map.insert (Self.entries self.old) birth (record { value = value offer; count = count })) }
+    /// An entry whose value equals the one offered, or else the offer's hash.
+    fn find(&self, offer: &O) -> Result<Spot, u64>
+        ensures found { IfOk result (λ s.
+            is_at Self.Value.eq (value offer.now) (map.get (Self.entries self.now) s.birth) ≡ true) }
+        ensures none { OnErr result ((b : ℕ) →
+            is_at Self.Value.eq (value offer.now) (map.get (Self.entries self.now) b) ≡ false) }
+        ensures hash { IfErr result (λ h. h ≡ hash_of offer.now) };
+
+    /// Adds an entry under its hash and a birth above all others, and tells its place. Where there
+    /// is no memory the offer comes back.
+    fn insert(&mut self, birth: u64, hash: u64, offer: O, count: u64) -> Result<usize, O>
+        requires above { (b : ℕ) → IsSome (map.get (Self.entries self.old) b) → b < birth }
+        requires hash { hash ≡ Self.hash_of offer }
+        ensures ok { OnOk result (Self.entries self.new
+            ≡ map.insert (Self.entries self.old) birth (record { value = value offer; count = count })) }
         ensures err { OnErr result (Self.entries self.new ≡ Self.entries self.old) }
         ensures back { IfErr result (λ back. back ≡ offer) };
 }

@@ -24,24 +24,24 @@ pub struct Name {
     pub birth: u64,
 }
 
-/// Where an entry is: its birth, and the place where it lay when it was found.
+/// Where an entry is: its birth, and the place where it was found.
 ///
-/// The birth alone decides. The place is a hint, which saves a look-up where it is right.
+/// The birth alone decides. The place saves a look-up, since an entry stays where it is.
 #[derive(Clone, Copy)]
 pub struct Spot {
     /// The entry's birth.
     pub birth: u64,
-    /// The hint.
+    /// The place where it was found.
     pub place: usize,
 }
 
-/// What a handle holds: the name of an entry, and a hint where it lies. The name alone is compared
-/// and hashed.
+/// What a handle holds: the name of an entry, and the place where it was found. The name alone is
+/// compared and hashed.
 #[derive_where(Clone, Copy, PartialEq, Eq, Hash)]
 pub struct Handle {
     /// The entry's name.
     pub name: Name,
-    /// The hint.
+    /// The place where it was found.
     #[derive_where(skip(EqHashOrd))]
     pub place: usize,
 }
@@ -78,7 +78,7 @@ pub enum Refusal {
     /// The value isn't stored, and the storage has given all its births.
     #[error("the storage has given all its numbers")]
     NumbersUsedUp,
-    /// A growth that the call needs was refused. A table doesn't grow past 2^32 - 2 entries.
+    /// A growth that the call needs was refused.
     #[error("out of memory")]
     OutOfMemory,
 }

@@ -1,5 +1,6 @@
 //! A table with a number, limits, counts and births: what every storage is.
 ghost use Rattle.std.specs.Prelude.{◌≡◌, ◌<◌, ◌≤◌, true, Some, None, IsSome, IfSome, IfNone, ◌≢◌, IfOk, IfErr, OnOk, is_ok, if◌then◌else◌};
+ghost use Rattle.std.specs.Result.{result_ok};
 ghost use Rattle.std.specs.FinMap as map;
 ghost use Rattle.std.specs.Option.{option_map};
 ghost use Rattle.intern_store.specs.State.{IsState, new_state, name_in, entry_at, count_at, counts, counted_up, counted_down, taken, added_with, birth_of, is_new, interned, offered_back, due, due_at, due_adding, due_interning, full, zero_count, any_count, IsWhy, freed, released, kept};
@@ -135,25 +136,30 @@ impl<E: Entries> Store<E> {
         ensures refused { IfErr result (λ why. due_at (entry_at self.now birth) zero_count ≡ Some why) }
     {
         let handle = self.entry(birth)?;
-        self.counted(handle)?;
+        if self.table.count(handle.spot()) == Some(0) {
+            return Err(Refusal::CountZero);
+        }
         Ok(handle)
     }
 
-    // An entry whose value equals the one offered.
-    fn find<O>(&self, offer: &O) -> Option<Spot>
+    // An entry whose value equals the one offered, or else the offer's hash.
+    fn find<O>(&self, offer: &O) -> Result<Spot, u64>
     where
         E: Takes<O>,
-        ensures birth { option_map (λ s. s.birth) result ≡ birth_of E.Value.eq self.now (E.value offer.now) }
-        ensures there { IfSome result (λ s. IsSome (entry_at self.now s.birth)) }
+        ensures birth { option_map (λ s. s.birth) (result_ok result)
+            ≡ birth_of E.Value.eq self.now (E.value offer.now) }
+        ensures there { IfOk result (λ s. IsSome (entry_at self.now s.birth)) }
+        ensures hash { IfErr result (λ h. h ≡ E.hash_of offer.now) }
     {
         let _next = self.next;
         self.table.find(offer)
     }
 
-    // Adds an entry with a count of its own.
-    fn add<O>(&mut self, offer: O, count: u64) -> Result<Handle, Refused<O>>
+    // Adds an entry under its hash, with a count of its own.
+    fn add<O>(&mut self, hash: u64, offer: O, count: u64) -> Result<Handle, Refused<O>>
     where
         E: Takes<O>,
+        requires hash { hash ≡ E.hash_of offer }
         requires fits { count ≤ self.old.top }
         requires fresh { birth_of E.Value.eq self.old (E.value offer) ≡ None }
         ensures ok { IfOk result (λ h. h.name ≡ name_in self.old self.old.next) }
@@ -169,7 +175,7 @@ impl<E: Entries> Store<E> {
             });
         }
         let birth = self.next;
-        match self.table.insert(birth, offer, count) {
+        match self.table.insert(birth, hash, offer, count) {
             Ok(place) => {
                 self.next = birth + 1;
                 Ok(self.handle(Spot { birth, place }))
@@ -187,39 +193,28 @@ impl<E: Entries> Store<E> {
         ensures refused { IfErr result (λ why. due_at (entry_at self.old spot.birth) (full self.old.top) ≡ Some why) }
         ensures state { self.new ≡ (if is_ok result then counted_up self.old spot.birth else self.old) }
     {
-        match self.table.count(spot) {
+        match self.table.count_up(spot, self.top) {
             None => Err(Refusal::Gone),
-            Some(count) => {
-                if count == self.top {
-                    return Err(Refusal::CountFull);
-                }
-                self.table.set_count(spot, count + 1);
-                Ok(())
-            }
+            Some(count) if count == self.top => Err(Refusal::CountFull),
+            Some(_) => Ok(()),
         }
     }
 
-    // The count of the entry of a handle, where it isn't zero.
-    fn counted(&self, handle: Handle) -> Result<u64, Refusal>
-        ensures ok { IfOk result (λ n. (0 < n) × (count_at self.now handle.name.birth ≡ Some n)) }
-        ensures allowed { OnOk result (due self.now handle.name zero_count ≡ None) }
-        ensures refused { IfErr result (λ why. due self.now handle.name zero_count ≡ Some why) }
+    // Lowers the count of an entry, and gives the count before.
+    fn lower(&mut self, spot: Spot) -> Result<u64, Refusal>
+        ensures ok { IfOk result (λ n. (0 < n) × (count_at self.old spot.birth ≡ Some n)) }
+        ensures allowed { OnOk result (due_at (entry_at self.old spot.birth) zero_count ≡ None) }
+        ensures refused { IfErr result (λ why.
+            due_at (entry_at self.old spot.birth) zero_count ≡ Some why) }
+        ensures state { self.new
+            ≡ (if is_ok result then counted_down self.old spot.birth else self.old) }
     {
-        match self.table.count(self.spot(handle)?) {
+        let _next = self.next;
+        match self.table.count_down(spot) {
             None => Err(Refusal::Gone),
             Some(0) => Err(Refusal::CountZero),
             Some(count) => Ok(count),
         }
-    }
-
-    // Lowers the count of an entry by one, from this one.
-    fn lower(&mut self, spot: Spot, count: u64)
-        requires positive { 0 < count }
-        requires at { count_at self.old spot.birth ≡ Some count }
-        ensures { self.new ≡ counted_down self.old spot.birth }
-    {
-        let _next = self.next;
-        self.table.set_count(spot, count - 1);
     }
 
     /// Stores what is offered with no count, or hands it back where an equal value is stored.
@@ -233,8 +228,8 @@ impl<E: Entries> Store<E> {
         ensures state { self.new ≡ (if is_ok result then (interned E.Value.eq self.old (E.value offer)).1 else self.old) }
     {
         match self.find(&offer) {
-            Some(spot) => Ok((self.handle(spot), Some(offer))),
-            None => Ok((self.add(offer, 0)?, None)),
+            Ok(spot) => Ok((self.handle(spot), Some(offer))),
+            Err(hash) => Ok((self.add(hash, offer, 0)?, None)),
         }
     }
 
@@ -250,11 +245,11 @@ impl<E: Entries> Store<E> {
     {
         let _top = self.top;
         match self.find(&offer) {
-            Some(spot) => match self.raise(spot) {
+            Ok(spot) => match self.raise(spot) {
                 Ok(()) => Ok((self.handle(spot), Some(offer))),
                 Err(why) => Err(Refused { why, back: offer }),
             },
-            None => Ok((self.add(offer, 1)?, None)),
+            Err(hash) => Ok((self.add(hash, offer, 1)?, None)),
         }
     }
 
@@ -274,19 +269,19 @@ impl<E: Entries> Store<E> {
         ensures refused { IfErr result (λ why. due self.old handle.name zero_count ≡ Some why) }
         ensures state { self.new ≡ (if is_ok result then counted_down self.old handle.name.birth else self.old) }
     {
-        let count = self.counted(handle)?;
-        self.lower(handle.spot(), count);
+        let spot = self.spot(handle)?;
+        self.lower(spot)?;
         Ok(())
     }
 }
 
 impl<E: Removes> Store<E> {
     // Takes an entry out.
-    fn take(&mut self, birth: u64) -> Option<E::Value>
-        ensures value { result ≡ option_map (λ k. k.value) (entry_at self.old birth) }
-        ensures state { self.new ≡ taken self.old birth }
+    fn take(&mut self, spot: Spot) -> Option<E::Value>
+        ensures value { result ≡ option_map (λ k. k.value) (entry_at self.old spot.birth) }
+        ensures state { self.new ≡ taken self.old spot.birth }
     {
-        self.table.remove(birth)
+        self.table.remove(spot)
     }
 
     /// Gives a count up. The last one takes the entry out and frees its value, unless entries stay.
@@ -296,11 +291,11 @@ impl<E: Removes> Store<E> {
         ensures refused { IfErr result (λ why. due self.old handle.name zero_count ≡ Some why) }
         ensures state { self.new ≡ (if is_ok result then released stays self.old handle.name.birth else self.old) }
     {
-        let count = self.counted(handle)?;
+        let spot = self.spot(handle)?;
+        let count = self.lower(spot)?;
         if count == 1 && !stays {
-            return Ok(self.take(handle.name.birth));
+            return Ok(self.take(spot));
         }
-        self.lower(handle.spot(), count);
         Ok(None)
     }
 }

@@ -1,4 +1,4 @@
--- The rows of a table of lists with its items, and the entries that they are seen as.
+-- What an index of slices has with the items of all, and the entries that it is seen as.
 use Rattle.std.proofs.Common.{◌≡◌, ◌⊎◌, inl, inr, ℕ, ◌+◌, ◌-◌, ◌<◌, ◌≤◌, Bool, true, false, cond, List, [], ◌++◌, length, take, drop, Option, Some, None, IsSome, is_some, refl, sym, ap, subst, ◌∙◌, arith, append_assoc, length-append, length-drop}
 use Rattle.std.proofs.Math.Seq.{take_at, drop_at}
 use Rattle.std.proofs.lemmas.List.{append-nil, length-take, take-append-le, take-append-drop}
@@ -10,17 +10,18 @@ use Rattle.std.specs.Cmp.{nat_cmp_total}
 use Rattle.std.specs.FinMap.{FinMap, empty, get, insert, retain_keys, get-empty, same_map, nat_cmp-IsAntisymmetric}
 use Rattle.std.proofs.lemmas.Bool.{cases_eq, and_parts}
 use Rattle.std.proofs.lemmas.Option.{same_Some}
-use Rattle.intern_store.specs.Kept.{Kept}
+use Rattle.intern_store.specs.Kept.{Kept, recounted}
 use Rattle.intern_store.proofs.Compared.{get-inserted, get-retained}
-use Rattle.intern_table.specs.Row.{Row}
-use Rattle.intern_table.specs.Rows.{map_values, IsHashed}
+use Rattle.intern_index.specs.IndexEntry.{IndexEntry, with_payload}
+use Rattle.intern_store.specs.Maps.{map_values}
+use Rattle.intern_table.specs.Seen.{IsHashed}
 use Rattle.intern_table.specs.Sliced.{Sliced, sliced_eq, sliced_input}
 use Rattle.intern_table.specs.Read.{shown}
-use Rattle.intern_table.specs.Joined.{end_of, read_row, sliced_row, IsLaid, IsJoined}
-use Rattle.intern_table.specs.declared.compact.SliceNote.{SliceNote}
+use Rattle.intern_table.specs.Joined.{end_of, read_entry, sliced_entry, IsLaid, IsJoined}
+use Rattle.intern_table.specs.declared.pool.SlicePayload.{SlicePayload}
 use Rattle.intern_table.proofs.Chosen.{here, away}
-use Rattle.intern_table.proofs.Counted.{read_seen, has_row, empty_hashed, retained_hashed, added_hashed, counted_hashed, counted_seen}
-use Rattle.intern_table.proofs.MapValues.{get-map_values, map_values-insert, map_values-retain, map_values-same}
+use Rattle.intern_table.proofs.Counted.{read_seen, empty_hashed, retained_hashed, added_hashed, changed_hashed, changed_seen}
+use Rattle.intern_store.proofs.Maps.{get-map_values, map_values-insert, map_values-retain, map_values-same}
 
 -- equal headers and lists feed a hasher the same
 pub sliced_input-same : {H S : Type 0} (h : H → List (List ℕ)) (s : S → List (List ℕ)) (eq : H → H → Bool) (item_eq : S → S → Bool) → ((x y : H) → eq x y ≡ true → h x ≡ h y) → ((x y : S) → item_eq x y ≡ true → s x ≡ s y)
@@ -54,150 +55,139 @@ module _ {S : Type 0} where
   pub cut_back : (start : ℕ) (xs ys longer shorter : List S) → longer ≡ xs ++ ys → start ≡ length xs → shorter ≡ take start longer → shorter ≡ xs
   cut_back start xs ys longer shorter more begins cut = cut ∙ ap (take start) more ∙ take_at xs ys start (sym begins)
 
-module _ {H : Type 0} where
-  -- a note is that of a row
-  noted : (o : Option (Row H SliceNote)) (n : SliceNote) → Some n ≡ option_map (λ r. r.note) o → (r : Row H SliceNote) × (o ≡ Some r)
-  noted None n e = absurd (cc)
-  noted (Some r) n e = (r, refl)
+-- a payload with another count
+abbrev pub recount : (ℕ → ℕ) → SlicePayload → SlicePayload
+recount g p = record p { count = g p.count }
 
+module _ {H : Type 0} where
   -- lists that lie where others did lie in order
-  laid_by : (m n : FinMap nat_cmp (Row H SliceNote)) (k : ℕ) → ((b : ℕ) (r : Row H SliceNote) → get n b ≡ Some r → (s : Row H SliceNote) × (get m b ≡ Some s) × (r.note.start ≡ s.note.start) × (r.note.length ≡ s.note.length))
+  laid_by : (m n : FinMap nat_cmp (IndexEntry H SlicePayload)) (k : ℕ) → ((b : ℕ) (r : IndexEntry H SlicePayload) → get n b ≡ Some r → (s : IndexEntry H SlicePayload) × (get m b ≡ Some s) × (r.payload.start ≡ s.payload.start) × (r.payload.length ≡ s.payload.length))
       → IsLaid m k → IsLaid n k
   laid_by m n k was is = record {
     within = λ b r at.
         let w = was b r at in
-        let starts : r.note.start ≡ w.0.note.start = w.2 in
-        let long : r.note.length ≡ w.0.note.length = w.3 in
-        let fits : w.0.note.start + w.0.note.length ≤ k = is.within b w.0 w.1 in
+        let starts : r.payload.start ≡ w.0.payload.start = w.2 in
+        let long : r.payload.length ≡ w.0.payload.length = w.3 in
+        let fits : w.0.payload.start + w.0.payload.length ≤ k = is.within b w.0 w.1 in
         omega arith;
     apart = λ b c r s below at its.
         let w = was b r at in
         let x = was c s its in
-        let starts : r.note.start ≡ w.0.note.start = w.2 in
-        let long : r.note.length ≡ w.0.note.length = w.3 in
-        let next : s.note.start ≡ x.0.note.start = x.2 in
-        let fits : w.0.note.start + w.0.note.length ≤ x.0.note.start = is.apart b c w.0 x.0 below w.1 x.1 in
+        let starts : r.payload.start ≡ w.0.payload.start = w.2 in
+        let long : r.payload.length ≡ w.0.payload.length = w.3 in
+        let next : s.payload.start ≡ x.0.payload.start = x.2 in
+        let fits : w.0.payload.start + w.0.payload.length ≤ x.0.payload.start = is.apart b c w.0 x.0 below w.1 x.1 in
         omega arith;
   }
 
   -- fewer lists lie in order
-  pub retained_laid : (m n : FinMap nat_cmp (Row H SliceNote)) (marked : ℕ → Bool) (k : ℕ) → IsLaid m k → n ≡ retain_keys m marked → IsLaid n k
+  pub retained_laid : (m n : FinMap nat_cmp (IndexEntry H SlicePayload)) (marked : ℕ → Bool) (k : ℕ) → IsLaid m k → n ≡ retain_keys m marked → IsLaid n k
   retained_laid m n marked k is retained = laid_by m n k (λ b r at. go (marked b) (get m b) r (sym (ap (λ x. get x b) retained ∙ get-retained m marked b) ∙ at)) is
     where
-      go : (t : Bool) (o : Option (Row H SliceNote)) (r : Row H SliceNote) → cond t o None ≡ Some r → (s : Row H SliceNote) × (o ≡ Some s) × (r.note.start ≡ s.note.start) × (r.note.length ≡ s.note.length)
+      go : (t : Bool) (o : Option (IndexEntry H SlicePayload)) (r : IndexEntry H SlicePayload) → cond t o None ≡ Some r → (s : IndexEntry H SlicePayload) × (o ≡ Some s) × (r.payload.start ≡ s.payload.start) × (r.payload.length ≡ s.payload.length)
       go true o r e = (r, e, refl, refl)
       go false o r e = absurd (cc)
 
 module _ {H S : Type 0} where
-  -- the count of an entry is that of its note
-  pub count_read : (index : FinMap nat_cmp (Row H SliceNote)) (xs : List S) (m : FinMap nat_cmp (Kept (Sliced H S))) → map_values (sliced_row xs) index ≡ m
-      → (b : ℕ) (n : Option SliceNote) → n ≡ option_map (λ r. r.note) (get index b) → option_map (λ n. n.count) n ≡ option_map (λ k. k.count) (get m b)
-  count_read index xs m view b n is = ap (option_map (λ n. n.count)) is ∙ go (get index b) ∙ read_seen (sliced_row xs) index m view (λ k. k.count) b
+  -- the count of an entry is that of its payload
+  pub count_read : (index : FinMap nat_cmp (IndexEntry H SlicePayload)) (xs : List S) (m : FinMap nat_cmp (Kept (Sliced H S))) → map_values (sliced_entry xs) index ≡ m
+      → (b : ℕ) (n : Option SlicePayload) → n ≡ option_map (λ r. r.payload) (get index b) → option_map (λ n. n.count) n ≡ option_map (λ k. k.count) (get m b)
+  count_read index xs m view b n is = ap (option_map (λ n. n.count)) is ∙ go (get index b) ∙ read_seen (sliced_entry xs) index m view (λ k. k.count) b
     where
-      go : (o : Option (Row H SliceNote)) → option_map (λ n. n.count) (option_map (λ r. r.note) o) ≡ option_map (λ r. (sliced_row xs r).count) o
+      go : (o : Option (IndexEntry H SlicePayload)) → option_map (λ n. n.count) (option_map (λ r. r.payload) o) ≡ option_map (λ r. (sliced_entry xs r).count) o
       go None = refl
       go (Some r) = refl
 
   -- a birth without a row shows nothing
-  pub unread : (index : FinMap nat_cmp (Row H SliceNote)) (xs : List S) (m : FinMap nat_cmp (Kept (Sliced H S))) → map_values (sliced_row xs) index ≡ m
-      → (b : ℕ) → None ≡ option_map (λ r. r.note) (get index b) → None ≡ option_map shown (get m b)
-  unread index xs m view b none = go (get index b) none ∙ read_seen (sliced_row xs) index m view shown b
+  pub unread : (index : FinMap nat_cmp (IndexEntry H SlicePayload)) (xs : List S) (m : FinMap nat_cmp (Kept (Sliced H S))) → map_values (sliced_entry xs) index ≡ m
+      → (b : ℕ) → None ≡ option_map (λ r. r.payload) (get index b) → None ≡ option_map shown (get m b)
+  unread index xs m view b none = go (get index b) none ∙ read_seen (sliced_entry xs) index m view shown b
     where
-      go : (o : Option (Row H SliceNote)) → None ≡ option_map (λ r. r.note) o → None ≡ option_map (λ r. shown (sliced_row xs r)) o
+      go : (o : Option (IndexEntry H SlicePayload)) → None ≡ option_map (λ r. r.payload) o → None ≡ option_map (λ r. shown (sliced_entry xs r)) o
       go None none = refl
       go (Some r) none = absurd (cc)
 
-  -- an entry has a note
-  pub has_note : (index : FinMap nat_cmp (Row H SliceNote)) (xs : List S) (m : FinMap nat_cmp (Kept (Sliced H S))) → map_values (sliced_row xs) index ≡ m
-      → (b : ℕ) (n : Option SliceNote) → n ≡ option_map (λ r. r.note) (get index b) → IsSome (get m b) → IsSome n
-  has_note index xs m view b n is some = ap is_some is ∙ go (get index b) (has_row (sliced_row xs) index m view b some)
-    where
-      go : (o : Option (Row H SliceNote)) → IsSome o → is_some (option_map (λ r. r.note) o) ≡ true
-      go None some = some
-      go (Some r) some = refl
-
-  pub still_seen : (index new : FinMap nat_cmp (Row H SliceNote)) (items items' : List S) (m : FinMap nat_cmp (Kept (Sliced H S))) → map_values (sliced_row items) index ≡ m → new ≡ index → items' ≡ items
-      → map_values (sliced_row items') new ≡ m
-  still_seen index new items items' m view same_index same_items = ap (map_values (sliced_row items')) same_index ∙ ap (λ xs. map_values (sliced_row xs) index) same_items ∙ view
+  pub still_seen : (index new : FinMap nat_cmp (IndexEntry H SlicePayload)) (items items' : List S) (m : FinMap nat_cmp (Kept (Sliced H S))) → map_values (sliced_entry items) index ≡ m → new ≡ index → items' ≡ items
+      → map_values (sliced_entry items') new ≡ m
+  still_seen index new items items' m view same_index same_items = ap (map_values (sliced_entry items')) same_index ∙ ap (λ xs. map_values (sliced_entry xs) index) same_items ∙ view
 
   module _ (hash : Sliced H S → ℕ) where
     -- where nothing has changed
-    pub still_joined : (index new : FinMap nat_cmp (Row H SliceNote)) (items items' : List S) → IsJoined hash index items → new ≡ index → items' ≡ items → IsJoined hash new items'
+    pub still_joined : (index new : FinMap nat_cmp (IndexEntry H SlicePayload)) (items items' : List S) → IsJoined hash index items → new ≡ index → items' ≡ items → IsJoined hash new items'
     still_joined index new items items' is same_index same_items = subst (λ m. IsJoined hash m items') (sym same_index) (subst (IsJoined hash index) (sym same_items) is)
 
     -- a table of nothing
-    pub empty_joined : (index : FinMap nat_cmp (Row H SliceNote)) (items : List S) → index ≡ empty → IsJoined hash index items
+    pub empty_joined : (index : FinMap nat_cmp (IndexEntry H SlicePayload)) (items : List S) → index ≡ empty → IsJoined hash index items
     empty_joined index items none =
         let gone : (b : ℕ) → get index b ≡ None = λ b. ap (λ m. get m b) none ∙ get-empty nat_cmp b in
         record {
           laid = record { within = λ b r at. let e = gone b in absurd (cc); apart = λ b c r s below at its. let e = gone b in absurd (cc) };
-          hashed = empty_hashed (sliced_row items) hash index none;
+          hashed = empty_hashed (sliced_entry items) hash index none;
         }
 
-    module _ (index : FinMap nat_cmp (Row H SliceNote)) (items : List S) (is : IsJoined hash index items) where
+    module _ (index : FinMap nat_cmp (IndexEntry H SlicePayload)) (items : List S) (is : IsJoined hash index items) where
       -- what is read of a row
-      pub reads : (b : ℕ) (v : H) (n : SliceNote) → Some v ≡ option_map (λ r. r.value) (get index b) → Some n ≡ option_map (λ r. r.note) (get index b)
-          → Some (record { header = v; items = take n.length (drop n.start items) }, n.length) ≡ option_map (λ r. shown (sliced_row items r)) (get index b)
-      reads b v n value note = go (get index b) refl value note
+      pub reads : (b : ℕ) (v : H) (n : SlicePayload) → Some v ≡ option_map (λ r. r.value) (get index b) → Some n ≡ option_map (λ r. r.payload) (get index b)
+          → Some (record { header = v; items = take n.length (drop n.start items) }, n.length) ≡ option_map (λ r. shown (sliced_entry items r)) (get index b)
+      reads b v n value payload = go (get index b) refl value payload
         where
-          go : (o : Option (Row H SliceNote)) → get index b ≡ o → Some v ≡ option_map (λ r. r.value) o → Some n ≡ option_map (λ r. r.note) o
-              → Some (record { header = v; items = take n.length (drop n.start items) }, n.length) ≡ option_map (λ r. shown (sliced_row items r)) o
-          go None at value note = absurd (cc)
-          go (Some r) at value note =
+          go : (o : Option (IndexEntry H SlicePayload)) → get index b ≡ o → Some v ≡ option_map (λ r. r.value) o → Some n ≡ option_map (λ r. r.payload) o
+              → Some (record { header = v; items = take n.length (drop n.start items) }, n.length) ≡ option_map (λ r. shown (sliced_entry items r)) o
+          go None at value payload = absurd (cc)
+          go (Some r) at value payload =
               let is_value : v ≡ r.value = same_Some _ _ value in
-              let is_note : n ≡ r.note = same_Some _ _ note in
-              let long : length (take r.note.length (drop r.note.start items)) ≡ r.note.length = part_length r.note.start r.note.length items (is.laid.within b r at) in
+              let is_payload : n ≡ r.payload = same_Some _ _ payload in
+              let long : length (take r.payload.length (drop r.payload.start items)) ≡ r.payload.length = part_length r.payload.start r.payload.length items (is.laid.within b r at) in
               ap (λ w. Some (record { header = w; items = take n.length (drop n.start items) }, n.length)) is_value
-              ∙ ap (λ (x : SliceNote). Some (record { header = r.value; items = take x.length (drop x.start items) }, x.length)) is_note
-              ∙ ap (λ k. Some (record { header = r.value; items = take r.note.length (drop r.note.start items) }, k)) (sym long)
+              ∙ ap (λ (x : SlicePayload). Some (record { header = r.value; items = take x.length (drop x.start items) }, x.length)) is_payload
+              ∙ ap (λ k. Some (record { header = r.value; items = take r.payload.length (drop r.payload.start items) }, k)) (sym long)
 
-      -- the count of a row is set
-      module _ (m : FinMap nat_cmp (Kept (Sliced H S))) (view : map_values (sliced_row items) index ≡ m) (b c : ℕ) (n : SliceNote) (has : Some n ≡ option_map (λ r. r.note) (get index b))
-          (index' : FinMap nat_cmp (Row H SliceNote)) (set : (r : Row H SliceNote) → get index b ≡ Some r → index' ≡ insert index b (record r { note = record n { count = c } }))
+      -- a count is changed
+      module _ (g : ℕ → ℕ) (m : FinMap nat_cmp (Kept (Sliced H S))) (view : map_values (sliced_entry items) index ≡ m) (b : ℕ)
+          (index' : FinMap nat_cmp (IndexEntry H SlicePayload)) (changed : index' ≡ with_payload (recount g) index b (get index b))
         where
-          abbrev renoted : Row H SliceNote → Row H SliceNote
-          renoted r = record r { note = record r.note { count = c } }
+          was : (q : ℕ) (y : IndexEntry H SlicePayload) → get index' q ≡ Some y → (x : IndexEntry H SlicePayload) × (get index q ≡ Some x) × (y.payload.start ≡ x.payload.start) × (y.payload.length ≡ x.payload.length)
+          was q y at = go (get index b) refl changed
+            where
+              go : (o : Option (IndexEntry H SlicePayload)) → get index b ≡ o → index' ≡ with_payload (recount g) index b o
+                  → (x : IndexEntry H SlicePayload) × (get index q ≡ Some x) × (y.payload.start ≡ x.payload.start) × (y.payload.length ≡ x.payload.length)
+              go None had changed = (y, sym (ap (λ n. get n q) changed) ∙ at, refl, refl)
+              go (Some r) had changed =
+                  let new : IndexEntry H SlicePayload = record r { payload = recount g r.payload } in
+                  let now = ap (λ n. get n q) changed ∙ get-inserted index b new q in
+                  elim (cases_eq q b) [
+                    | inl e ↦
+                        let same : new ≡ y = same_Some _ _ (sym (now ∙ here q b _ _ e) ∙ at) in
+                        (r, ap (get index) e ∙ had, ap (λ x. x.payload.start) (sym same), ap (λ x. x.payload.length) (sym same))
+                    | inr differs ↦ (y, sym (now ∙ away q b _ _ differs) ∙ at, refl, refl)
+                  ]
 
-          recounts : (r : Row H SliceNote) → get index b ≡ Some r → index' ≡ insert index b (renoted r)
-          recounts r at = set r at ∙ ap (λ (x : SliceNote). insert index b (record r { note = record x { count = c } })) (same_Some _ _ (has ∙ ap (option_map (λ r. r.note)) at))
-
-          was : (q : ℕ) (y : Row H SliceNote) → get index' q ≡ Some y → (x : Row H SliceNote) × (get index q ≡ Some x) × (y.note.start ≡ x.note.start) × (y.note.length ≡ x.note.length)
-          was q y at =
-              let r = noted (get index b) n has in
-              let now = ap (λ x. get x q) (recounts r.0 r.1) ∙ get-inserted index b (renoted r.0) q in
-              elim (cases_eq q b) [
-                | inl e ↦
-                    let same : renoted r.0 ≡ y = same_Some _ _ (sym (now ∙ here q b _ _ e) ∙ at) in
-                    (r.0, ap (get index) e ∙ r.1, ap (λ x. x.note.start) (sym same), ap (λ x. x.note.length) (sym same))
-                | inr differs ↦ (y, sym (now ∙ away q b _ _ differs) ∙ at, refl, refl)
-              ]
-
-          pub counts_joined : IsSome (get m b) → IsJoined hash index' items
-          counts_joined some = record {
+          pub changes_joined : IsJoined hash index' items
+          changes_joined = record {
             laid = laid_by index index' (length items) was is.laid;
-            hashed = counted_hashed (sliced_row items) hash index index' m b c is.hashed view renoted recounts (λ r. refl) (λ r. refl) some;
+            hashed = changed_hashed (sliced_entry items) hash (recount g) g (λ r. refl) index index' m b view changed is.hashed;
           }
 
-          pub counts_seen : (e : Kept (Sliced H S)) → get m b ≡ Some e → map_values (sliced_row items) index' ≡ insert m b (record e { count = c })
-          counts_seen = counted_seen (sliced_row items) hash index index' m b c is.hashed view renoted recounts (λ r. refl) (λ r. refl)
+          pub changes_seen : map_values (sliced_entry items) index' ≡ recounted g m b (get m b)
+          changes_seen = changed_seen (sliced_entry items) hash (recount g) g (λ r. refl) index index' m b view changed
 
       -- a list is added behind all others
-      module _ (b : ℕ) (above : (c : ℕ) → IsSome (get index c) → c < b) (index' : FinMap nat_cmp (Row H SliceNote)) (items' : List S) (r : Row H SliceNote) (xs : List S)
+      module _ (b : ℕ) (above : (c : ℕ) → IsSome (get index c) → c < b) (index' : FinMap nat_cmp (IndexEntry H SlicePayload)) (items' : List S) (r : IndexEntry H SlicePayload) (xs : List S)
           (more : items' ≡ items ++ xs) (added : index' ≡ insert index b r)
-          (begins : r.note.start ≡ length items) (long : r.note.length ≡ length xs)
+          (begins : r.payload.start ≡ length items) (long : r.payload.length ≡ length xs)
         where
           -- the entries before it stay
-          stays : (c : ℕ) (y : Row H SliceNote) → get index c ≡ Some y → sliced_row items' y ≡ sliced_row items y
+          stays : (c : ℕ) (y : IndexEntry H SlicePayload) → get index c ≡ Some y → sliced_entry items' y ≡ sliced_entry items y
           stays c y at =
-              ap (λ zs. sliced_row zs y) more
-              ∙ ap (λ zs. record { value = record { header = y.value; items = zs }; count = y.note.count }) (same_part y.note.start y.note.length items xs (is.laid.within c y at))
+              ap (λ zs. sliced_entry zs y) more
+              ∙ ap (λ zs. record { value = record { header = y.value; items = zs }; count = y.payload.count }) (same_part y.payload.start y.payload.length items xs (is.laid.within c y at))
 
-          enters : sliced_row items' r ≡ record { value = record { header = r.value; items = xs }; count = r.note.count }
+          enters : sliced_entry items' r ≡ record { value = record { header = r.value; items = xs }; count = r.payload.count }
           enters =
-              ap (λ zs. sliced_row zs r) more
-              ∙ ap (λ zs. record { value = record { header = r.value; items = zs }; count = r.note.count }) (last_part r.note.start r.note.length items xs begins long)
+              ap (λ zs. sliced_entry zs r) more
+              ∙ ap (λ zs. record { value = record { header = r.value; items = zs }; count = r.payload.count }) (last_part r.payload.start r.payload.length items xs begins long)
 
-          either : (c : ℕ) (y : Row H SliceNote) → get index' c ≡ Some y → ((c ≡ b) × (r ≡ y)) ⊎ ((c < b) × (get index c ≡ Some y))
+          either : (c : ℕ) (y : IndexEntry H SlicePayload) → get index' c ≡ Some y → ((c ≡ b) × (r ≡ y)) ⊎ ((c < b) × (get index c ≡ Some y))
           either c y at =
               let now = ap (λ n. get n c) added ∙ get-inserted index b r c in
               elim (cases_eq c b) [
@@ -232,7 +222,7 @@ module _ {H S : Type 0} where
                       elim (either d z its) [
                         | inl new ↦
                             let fits : end_of y ≤ length items = is.laid.within c y old.1 in
-                            let starts : r.note.start ≡ z.note.start = ap (λ x. x.note.start) new.1 in
+                            let starts : r.payload.start ≡ z.payload.start = ap (λ x. x.payload.start) new.1 in
                             omega arith
                         | inr also ↦ is.laid.apart c d y z below old.1 also.1
                       ]
@@ -243,26 +233,26 @@ module _ {H S : Type 0} where
           adds_joined hashes = record {
             laid = adds_laid;
             hashed =
-                added_hashed (sliced_row items') hash index index' b r
+                added_hashed (sliced_entry items') hash index index' b r
                 (record { hashed = λ c y at. is.hashed.hashed c y at ∙ ap (λ e. hash e.value) (sym (stays c y at)) })
                 (hashes ∙ ap (λ e. hash e.value) (sym enters)) added;
           }
 
-          pub adds_seen : (m : FinMap nat_cmp (Kept (Sliced H S))) → map_values (sliced_row items) index ≡ m
-              → map_values (sliced_row items') index' ≡ insert m b (record { value = record { header = r.value; items = xs }; count = r.note.count })
+          pub adds_seen : (m : FinMap nat_cmp (Kept (Sliced H S))) → map_values (sliced_entry items) index ≡ m
+              → map_values (sliced_entry items') index' ≡ insert m b (record { value = record { header = r.value; items = xs }; count = r.payload.count })
           adds_seen m view =
-              map_values-insert (sliced_row items') index index' b r added
-              ∙ ap (λ n. insert n b (sliced_row items' r)) (map_values-same (sliced_row items') (sliced_row items) index stays ∙ view)
+              map_values-insert (sliced_entry items') index index' b r added
+              ∙ ap (λ n. insert n b (sliced_entry items' r)) (map_values-same (sliced_entry items') (sliced_entry items) index stays ∙ view)
               ∙ ap (insert m b) enters
 
       -- the lists of the births that are marked are moved down
-      module _ (marked : ℕ → Bool) (kept new : FinMap nat_cmp (Row H SliceNote)) (items' : List S) (keeps : kept ≡ retain_keys index marked) (laid : IsLaid new (length items'))
-          (same : (b : ℕ) → option_map (read_row items') (get new b) ≡ option_map (read_row items) (get kept b))
+      module _ (marked : ℕ → Bool) (kept new : FinMap nat_cmp (IndexEntry H SlicePayload)) (items' : List S) (keeps : kept ≡ retain_keys index marked) (laid : IsLaid new (length items'))
+          (same : (b : ℕ) → option_map (read_entry items') (get new b) ≡ option_map (read_entry items) (get kept b))
         where
-          kept_hashed : IsHashed (sliced_row items) hash kept
-          kept_hashed = retained_hashed (sliced_row items) hash index kept marked is.hashed keeps
+          kept_hashed : IsHashed (sliced_entry items) hash kept
+          kept_hashed = retained_hashed (sliced_entry items) hash index kept marked is.hashed keeps
 
-          row_before : (o : Option (Row H SliceNote)) (y : Row H SliceNote) → Some (read_row items' y) ≡ option_map (read_row items) o → (x : Row H SliceNote) × (o ≡ Some x) × (read_row items' y ≡ read_row items x)
+          row_before : (o : Option (IndexEntry H SlicePayload)) (y : IndexEntry H SlicePayload) → Some (read_entry items' y) ≡ option_map (read_entry items) o → (x : IndexEntry H SlicePayload) × (o ≡ Some x) × (read_entry items' y ≡ read_entry items x)
           row_before None y e = absurd (cc)
           row_before (Some x) y e = (x, refl, same_Some _ _ e)
 
@@ -271,20 +261,20 @@ module _ {H S : Type 0} where
             laid = laid;
             hashed = record {
               hashed = λ b y at.
-                  let w = row_before (get kept b) y (sym (ap (option_map (read_row items')) at) ∙ same b) in
+                  let w = row_before (get kept b) y (sym (ap (option_map (read_entry items')) at) ∙ same b) in
                   ap (λ p. p.0) w.2 ∙ kept_hashed.hashed b w.0 w.1 ∙ ap (λ p. hash p.1.value) (sym w.2);
             };
           }
 
-          entries_same : (o p : Option (Row H SliceNote)) → option_map (read_row items') o ≡ option_map (read_row items) p → option_map (sliced_row items') o ≡ option_map (sliced_row items) p
+          entries_same : (o p : Option (IndexEntry H SlicePayload)) → option_map (read_entry items') o ≡ option_map (read_entry items) p → option_map (sliced_entry items') o ≡ option_map (sliced_entry items) p
           entries_same None None e = refl
           entries_same None (Some x) e = absurd (cc)
           entries_same (Some y) None e = absurd (cc)
-          entries_same (Some y) (Some x) e = ap (λ p. Some p.1) (same_Some (read_row items' y) (read_row items x) e)
+          entries_same (Some y) (Some x) e = ap (λ p. Some p.1) (same_Some (read_entry items' y) (read_entry items x) e)
 
-          pub keeps_seen : (m : FinMap nat_cmp (Kept (Sliced H S))) → map_values (sliced_row items) index ≡ m → map_values (sliced_row items') new ≡ retain_keys m marked
+          pub keeps_seen : (m : FinMap nat_cmp (Kept (Sliced H S))) → map_values (sliced_entry items) index ≡ m → map_values (sliced_entry items') new ≡ retain_keys m marked
           keeps_seen m view =
               same_map nat_cmp_total nat_cmp-IsAntisymmetric _ _ (λ b.
-              get-map_values (sliced_row items') new b ∙ entries_same (get new b) (get kept b) (same b) ∙ sym (get-map_values (sliced_row items) kept b))
-              ∙ map_values-retain (sliced_row items) index kept marked keeps
+              get-map_values (sliced_entry items') new b ∙ entries_same (get new b) (get kept b) (same b) ∙ sym (get-map_values (sliced_entry items) kept b))
+              ∙ map_values-retain (sliced_entry items) index kept marked keeps
               ∙ ap (λ n. retain_keys n marked) view

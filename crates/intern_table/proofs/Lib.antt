@@ -1,10 +1,4 @@
 mod Chosen
 mod Counted
 mod Joins
-mod MapValues
 mod Moves
-mod Ordered
-mod Probing
-mod Rooms
-mod Searches
-mod Tied

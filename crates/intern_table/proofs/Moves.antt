@@ -1,441 +1,343 @@
--- The lists of entries, moved down entry by entry.
-use Rattle.std.proofs.Common.{◌≡◌, ◌≢◌, ◌⊎◌, inl, inr, ℕ, zero, suc, ◌+◌, ◌-◌, ◌^◌, ◌<◌, ◌≤◌, Bool, true, false, cond, List, [], ◌∷◌, ◌++◌, length, map, take, drop, set, get_or, Option, Some, None, is_some, nat_eq, refl, sym, ap, subst, ◌∙◌, arith, length-drop}
-use Rattle.std.specs.Prelude.{slice_get, slice_index}
-use Rattle.std.proofs.Math.Seq.{take_at, drop_at, paste}
-use Rattle.std.proofs.lemmas.List.{length-take, length-map, take-take, drop-take, drop-drop}
-use Rattle.std.proofs.lemmas.List.Edits.{take-paste, drop-paste, length-paste}
-use Rattle.std.proofs.lemmas.Bool.{cases_eq, cases_lt}
-use Rattle.std.proofs.lemmas.Option.{same_Some, slice_get_within, slice_get-get_or, slice_get-map}
+-- The slices of entries, moved down one by one in the order of births.
+use Rattle.std.proofs.Common.{◌≡◌, ◌≢◌, ◌⊎◌, inl, inr, ℕ, zero, suc, ◌+◌, ◌-◌, ◌<◌, ◌≤◌, Bool, true, false, ◌&&◌, cond, List, [], ◌∷◌, ◌++◌, length, take, drop, Option, Some, None, IsSome, is_some, Equal, Greater, nat_eq, refl, sym, ap, subst, ◌∙◌, arith, append_assoc, length-append, length-drop}
+use Rattle.std.specs.Prelude.{T}
+use Rattle.std.specs.List.{slice_get, copy_within}
 use Rattle.std.specs.Option.{option_map}
-use Rattle.std.specs.Cmp.{nat_cmp_total}
-use Rattle.std.specs.FinMap.{get, len, same_map, nat_cmp-IsAntisymmetric}
-use Rattle.intern_store.specs.Kept.{Kept}
-use Rattle.intern_table.specs.Row.{Row}
-use Rattle.intern_table.specs.Probed.{leads}
-use Rattle.intern_table.specs.Rows.{map_values}
-use Rattle.intern_table.specs.Sliced.{Sliced}
-use Rattle.intern_table.specs.Joined.{end_of, read_row, IsLaid, IsCovered}
-use Rattle.intern_table.specs.Ordered.{births, held, is_live, row_of, IsRising, IsTied}
-use Rattle.intern_table.specs.declared.compact.SliceNote.{SliceNote}
-use Rattle.intern_table.specs.declared.index.Entry.{Entry}
-use Rattle.intern_table.specs.declared.probes.Probes.{Probes}
-use Rattle.intern_table.proofs.Ordered.{row_at, get-held, birth_there, row_at-there, row_from}
-use Rattle.intern_table.proofs.MapValues.{get-map_values, len-map_values}
+use Rattle.std.specs.Ordering.{nat_cmp, eq_by_cmp, is_lt}
+use Rattle.std.specs.Cmp.{nat_cmp_total, nat_cmp_is}
+use Rattle.std.specs.FinMap.{FinMap, get, insert, entries, entries_sorted, entries-insert, get-entries, len, len-entries, find, put, is_sorted}
+use Rattle.std.specs.FinMap.Entries.{below_all, by_order}
+use Rattle.std.proofs.Math.Seq.{take_at, drop_at, paste}
+use Rattle.std.proofs.lemmas.Bool.{eqb-true, cases_lt}
+use Rattle.std.proofs.lemmas.Grind.{common_steps}
+use Rattle.std.proofs.lemmas.List.{append-nil, length-take, drop-drop}
+use Rattle.std.proofs.lemmas.Option.{same_Some, slice_get_cases}
+use Rattle.intern_store.proofs.Compared.{tied}
+use Rattle.intern_index.specs.IndexEntry.{IndexEntry, with_payload}
+use Rattle.intern_table.specs.Joined.{end_of, read_entry, IsLaid, IsCovered}
+use Rattle.intern_table.specs.declared.pool.SlicePayload.{SlicePayload}
+use Rattle.intern_table.proofs.Chosen.{here, away}
 
-module _ {T N : Type 0} where
-  -- entries lie in the order of their births
-  in_order : (es : List (Entry T N)) → IsRising (births es) → (p q : ℕ) (e f : Entry T N) → slice_get es p ≡ Some e → slice_get es q ≡ Some f → e.birth < f.birth → p < q
-  in_order es rising p q e f at its below =
-      let first = birth_there es p e at in
-      let second = birth_there es q f its in
-      elim (cases_lt p q) [
-        | inl before ↦ before
+parts : (a b : Bool) → T (a && b) → T a × T b
+parts true b both = (tt, both)
+parts false b both = absurd both
+
+less : (x y : ℕ) → T (is_lt (nat_cmp x y)) → x < y
+less x y is = grind (arith, common_steps)
+
+read_either : {X Y : Type 0} (f g : X → Y) (t : Bool) (x y : X) (o p : Option X) → f x ≡ g y → option_map f o ≡ option_map g p → option_map f (cond t (Some x) o) ≡ option_map g (cond t (Some y) p)
+read_either f g true x y o p same rest = ap Some same
+read_either f g false x y o p same rest = rest
+
+some_too : {X Y Z : Type 0} (f : X → Z) (g : Y → Z) (o : Option X) (p : Option Y) → option_map f o ≡ option_map g p → IsSome p → IsSome o
+some_too f g (Some x) p same some = refl
+some_too f g None None same some = some
+some_too f g None (Some y) same some = absurd (cc)
+
+-- entries in the order of their births
+module _ {X : Type 0} where
+  at_head : (e : ℕ × X) (es : List (ℕ × X)) → find nat_cmp e.0 (e ∷ es) ≡ Some e.1
+  at_head e es = ap (λ t. cond t (Some e.1) (find nat_cmp e.0 es)) (tied e.0 e.0) ∙ here e.0 e.0 (Some e.1) (find nat_cmp e.0 es) refl
+
+  behind_head : (b : ℕ) (e : ℕ × X) (es : List (ℕ × X)) → e.0 < b → find nat_cmp b (e ∷ es) ≡ find nat_cmp b es
+  behind_head b e es above = ap (λ t. cond t (Some e.1) (find nat_cmp b es)) (tied b e.0) ∙ away b e.0 (Some e.1) (find nat_cmp b es) (let differs : b ≢ e.0 = omega arith in differs)
+
+  put_at_head : (e : ℕ × X) (y : X) (es : List (ℕ × X)) → put nat_cmp e.0 y (e ∷ es) ≡ (e.0, y) ∷ es
+  put_at_head e y es = ap (λ o. by_order o ((e.0, y) ∷ e ∷ es) ((e.0, y) ∷ es) (e ∷ put nat_cmp e.0 y es)) (sym (nat_cmp_is e.0 e.0 Equal refl))
+
+  put_behind : (b : ℕ) (y : X) (e : ℕ × X) (es : List (ℕ × X)) → e.0 < b → put nat_cmp b y (e ∷ es) ≡ e ∷ put nat_cmp b y es
+  put_behind b y e es above = ap (λ o. by_order o ((b, y) ∷ e ∷ es) ((e.0, y) ∷ es) (e ∷ put nat_cmp b y es)) (sym (nat_cmp_is b e.0 Greater above))
+
+  found : (b : ℕ) (x : X) (e : ℕ × X) (es : List (ℕ × X)) → find nat_cmp b (e ∷ es) ≡ Some x → ((b ≡ e.0) × (e.1 ≡ x)) ⊎ (find nat_cmp b es ≡ Some x)
+  found b x e es is = go (eq_by_cmp nat_cmp b e.0) (tied b e.0) is
+    where
+      go : (t : Bool) → t ≡ nat_eq b e.0 → cond t (Some e.1) (find nat_cmp b es) ≡ Some x → ((b ≡ e.0) × (e.1 ≡ x)) ⊎ (find nat_cmp b es ≡ Some x)
+      go true same is = inl (eqb-true b e.0 (sym same), same_Some _ _ is)
+      go false same is = inr is
+
+  above_all : (a b : ℕ) (x : X) (es : List (ℕ × X)) → T (below_all nat_cmp a es) → find nat_cmp b es ≡ Some x → a < b
+  above_all a b x [] below is = absurd (cc)
+  above_all a b x (e ∷ es) below is =
+      let under = parts _ _ below in
+      elim (found b x e es is) [
+        | inl first ↦ let head = less a e.0 under.0 in omega (arith, first.0)
+        | inr later ↦ above_all a b x es under.1 later
+      ]
+
+  -- what is found behind the head
+  later : (b : ℕ) (x : X) (e : ℕ × X) (es : List (ℕ × X)) → T (below_all nat_cmp e.0 es) → find nat_cmp b es ≡ Some x → find nat_cmp b (e ∷ es) ≡ Some x
+  later b x e es below is = behind_head b e es (above_all e.0 b x es below is) ∙ is
+
+abbrev pub Row : Type 0 → Type 0
+Row H = IndexEntry H SlicePayload
+
+abbrev pub Rows : Type 0 → Type 0
+Rows H = List (ℕ × Row H)
+
+module _ {H : Type 0} where
+  abbrev pub started : Row H → ℕ → Row H
+  started r n = record r { payload = record r.payload { start = n } }
+
+  -- where the first n slices end, once each starts where the one before ends
+  abbrev pub end_at : ℕ → ℕ → Rows H → ℕ
+  end_at zero lo es = lo
+  end_at (suc n) lo [] = lo
+  end_at (suc n) lo (e ∷ es) = end_at n (lo + e.1.payload.length) es
+
+  -- and the rows then
+  abbrev pub moved : ℕ → ℕ → Rows H → Rows H
+  moved zero lo es = es
+  moved (suc n) lo [] = []
+  moved (suc n) lo (e ∷ es) = (e.0, started e.1 lo) ∷ moved n (lo + e.1.payload.length) es
+
+  nth_moved : (n lo : ℕ) (es : Rows H) → slice_get (moved n lo es) n ≡ slice_get es n
+  nth_moved zero lo es = refl
+  nth_moved (suc n) lo [] = refl
+  nth_moved (suc n) lo (e ∷ es) = nth_moved n (lo + e.1.payload.length) es
+
+  -- the slices lie in this order from lo on, each so behind the one before, and the last so before n
+  abbrev pub Chain : (ℕ → ℕ → Type 0) → ℕ → Rows H → ℕ → Type 0
+  Chain R lo [] n = R lo n
+  Chain R lo (e ∷ es) n = R lo e.1.payload.start × Chain R (end_of e.1) es n
+
+  abbrev Lies : ℕ → Rows H → ℕ → Type 0
+  Lies = Chain (λ x y. x ≤ y)
+
+  chained : (n lo : ℕ) (es : Rows H) → T (is_sorted nat_cmp es) → lo ≤ n → ((b : ℕ) (r : Row H) → find nat_cmp b es ≡ Some r → (lo ≤ r.payload.start) × (end_of r ≤ n))
+      → ((b c : ℕ) (r s : Row H) → b < c → find nat_cmp b es ≡ Some r → find nat_cmp c es ≡ Some s → end_of r ≤ s.payload.start) → Lies lo es n
+  chained n lo [] sorted fits within apart = fits
+  chained n lo (e ∷ es) sorted fits within apart =
+      let rest = parts _ _ sorted in
+      let first = at_head e es in (
+        (within e.0 e.1 first).0,
+        chained n (end_of e.1) es rest.1 (within e.0 e.1 first).1
+            (λ b r is. (apart e.0 b e.1 r (above_all e.0 b r es rest.0 is) first (later b r e es rest.0 is), (within b r (later b r e es rest.0 is)).1))
+            (λ b c r s below is its. apart b c r s below (later b r e es rest.0 is) (later c s e es rest.0 its)),
+      )
+
+  lies_within : (lo n : ℕ) (es : Rows H) → Lies lo es n → lo ≤ n
+  lies_within lo n [] lies = lies
+  lies_within lo n (e ∷ es) lies = let rest = lies_within (end_of e.1) n es lies.1 in omega (arith, lies.0)
+
+  found_lies : (b lo n : ℕ) (r : Row H) (es : Rows H) → Lies lo es n → find nat_cmp b es ≡ Some r → (lo ≤ r.payload.start) × (end_of r ≤ n)
+  found_lies b lo n r [] lies is = absurd (cc)
+  found_lies b lo n r (e ∷ es) lies is =
+      elim (found b r e es is) [
+        | inl first ↦ subst (λ (x : Row H). (lo ≤ x.payload.start) × (end_of x ≤ n)) first.1 (lies.0, lies_within (end_of e.1) n es lies.1)
+        | inr behind ↦ let rest = found_lies b (end_of e.1) n r es lies.1 behind in (omega (arith, lies.0, rest.0), rest.1)
+      ]
+
+  lies_apart : (b c lo n : ℕ) (r s : Row H) (es : Rows H) → T (is_sorted nat_cmp es) → Lies lo es n → b < c → find nat_cmp b es ≡ Some r → find nat_cmp c es ≡ Some s → end_of r ≤ s.payload.start
+  lies_apart b c lo n r s [] sorted lies below is its = absurd (cc)
+  lies_apart b c lo n r s (e ∷ es) sorted lies below is its =
+      let rest = parts _ _ sorted in
+      elim (found c s e es its) [
+        | inl first ↦
+            elim (found b r e es is) [
+              | inl same ↦ absurd (omega (arith, first.0, same.0))
+              | inr behind ↦ let above = above_all e.0 b r es rest.0 behind in absurd (omega (arith, first.0))
+            ]
         | inr after ↦
-            elim (cases_eq p q) [
-              | inl same ↦ let e : slice_index (births es) p ≡ slice_index (births es) q = ap (slice_index (births es)) same in absurd (omega (arith, first.has_birth, second.has_birth))
-              | inr differs ↦ let back : slice_index (births es) q < slice_index (births es) p = rising q p (omega arith) first.in_range in absurd (omega (arith, first.has_birth, second.has_birth))
+            elim (found b r e es is) [
+              | inl same ↦ subst (λ (x : Row H). end_of x ≤ s.payload.start) same.1 (found_lies c (end_of e.1) n s es lies.1 after).0
+              | inr behind ↦ lies_apart b c (end_of e.1) n r s es rest.1 lies.1 below behind after
             ]
       ]
 
-  -- an entry whose value is there has a row with its note
-  row_is : (e : Entry T N) → is_live e ≡ true → (r : Row T N) × (row_of e ≡ Some r) × (r.note ≡ e.note)
-  row_is e live = go e.value live
-    where
-      go : (o : Option T) → is_some o ≡ true → (r : Row T N) × (option_map (λ v. record { hash = e.hash; value = v; note = e.note }) o ≡ Some r) × (r.note ≡ e.note)
-      go None live = absurd (cc)
-      go (Some v) live = (record { hash = e.hash; value = v; note = e.note }, refl, refl)
+  -- slices that are moved lie without gaps
+  moved_chain : (R : ℕ → ℕ → Type 0) → ((x : ℕ) → R x x) → (lo : ℕ) (es : Rows H) → Chain R lo (moved (length es) lo es) (end_at (length es) lo es)
+  moved_chain R same lo [] = same lo
+  moved_chain R same lo (e ∷ es) = (same lo, moved_chain R same (lo + e.1.payload.length) es)
 
-  live_row : (e : Entry T N) (r : Row T N) → row_of e ≡ Some r → (is_live e ≡ true) × (e.note ≡ r.note)
-  live_row e r has = go e.value has
-    where
-      go : (o : Option T) → option_map (λ v. record { hash = e.hash; value = v; note = e.note }) o ≡ Some r → (is_some o ≡ true) × (e.note ≡ r.note)
-      go None has = absurd (cc)
-      go (Some v) has = (refl, ap (λ x. x.note) (same_Some _ _ has))
-
-module _ {A : Type 0} where
-  -- the entries after one is written
-  written : (xs : List A) (i : ℕ) (y : A) (p : ℕ) (x : A) → slice_get (set xs i y) p ≡ Some x → ((p ≡ i) × (y ≡ x)) ⊎ ((p ≢ i) × (slice_get xs p ≡ Some x))
-  written [] i y p x at = absurd (cc)
-  written (z ∷ xs) zero y zero x at = inl (refl, same_Some _ _ at)
-  written (z ∷ xs) zero y (suc p) x at = inr (let differs : suc p ≢ 0 = omega arith in differs, at)
-  written (z ∷ xs) (suc i) y zero x at = inr (let differs : 0 ≢ suc i = omega arith in differs, at)
-  written (z ∷ xs) (suc i) y (suc p) x at =
-      elim (written xs i y p x at) [
-        | inl new ↦ inl (ap suc new.0, new.1)
-        | inr old ↦ inr (let other : p ≢ i = old.0 in let differs : suc p ≢ suc i = omega arith in differs, old.1)
+  covered : (lo n k : ℕ) (es : Rows H) → T (is_sorted nat_cmp es) → Chain (λ x y. x ≡ y) lo es n → lo ≤ k → k < n → (b : ℕ) × (r : Row H) × (find nat_cmp b es ≡ Some r) × (r.payload.start ≤ k) × (k < end_of r)
+  covered lo n k [] sorted chain from below = absurd (omega (arith, chain))
+  covered lo n k (e ∷ es) sorted chain from below =
+      elim (cases_lt k (end_of e.1)) [
+        | inl inside ↦ (e.0, e.1, at_head e es, omega (arith, chain.0), inside)
+        | inr outside ↦
+            let rest = parts _ _ sorted in
+            let w = covered (end_of e.1) n k es rest.1 chain.1 (omega arith) below in
+            (w.0, w.1, later w.0 w.1 e es rest.0 w.2, w.3, w.4)
       ]
 
-  -- the entry that is written, and the others
-  written_there : (xs : List A) (i : ℕ) (y : A) → i < length xs → slice_get (set xs i y) i ≡ Some y
-  written_there [] i y inside = absurd (omega arith)
-  written_there (x ∷ xs) zero y inside = refl
-  written_there (x ∷ xs) (suc i) y inside = written_there xs i y (omega arith)
+-- what is behind the items that were written is as it was
+module _ {S : Type 0} (xs ys first : List S) (end : ℕ) (is : ys ≡ first ++ drop end xs) (long : length first ≡ end) where
+  behind : (k : ℕ) → end ≤ k → drop k ys ≡ drop k xs
+  behind k after =
+      let split : k ≡ end + (k - end) = omega arith in
+      ap (λ j. drop j ys) split ∙ sym (drop-drop (k - end) end ys)
+      ∙ ap (drop (k - end)) (ap (drop end) is ∙ drop_at first (drop end xs) end long)
+      ∙ drop-drop (k - end) end xs ∙ sym (ap (λ j. drop j xs) split)
 
-  written_other : (xs : List A) (i : ℕ) (y : A) (p : ℕ) → p ≢ i → slice_get (set xs i y) p ≡ slice_get xs p
-  written_other [] i y p differs = refl
-  written_other (x ∷ xs) zero y zero differs = absurd (differs refl)
-  written_other (x ∷ xs) zero y (suc p) differs = refl
-  written_other (x ∷ xs) (suc i) y zero differs = refl
-  written_other (x ∷ xs) (suc i) y (suc p) differs = written_other xs i y p (omega arith)
-
-  -- what a vector has once its items were written in place
-  pub refilled : (n : ℕ) (old first xs : List A) → n ≡ length old → first ≡ old → length xs ≡ length first → take n (xs ++ drop (length xs) old) ≡ xs
-  refilled n old first xs counted is long = let same : length first ≡ length old = ap length is in take_at xs (drop (length xs) old) n (omega arith)
-
-  module _ {B : Type 0} (f g : A → B) where
-    map_alike : (xs : List A) → ((p : ℕ) (x : A) → slice_get xs p ≡ Some x → f x ≡ g x) → map f xs ≡ map g xs
-    map_alike [] alike = refl
-    map_alike (x ∷ xs) alike = ap (λ y. y ∷ map f xs) (alike 0 x refl) ∙ ap (λ ys. g x ∷ ys) (map_alike xs (λ p. alike (suc p)))
-
-    -- what f sees after one is written is what g saw
-    map_written : (xs : List A) (i : ℕ) (y : A) → ((p : ℕ) (x : A) → p ≢ i → slice_get xs p ≡ Some x → f x ≡ g x) → ((x : A) → slice_get xs i ≡ Some x → f y ≡ g x) → map f (set xs i y) ≡ map g xs
-    map_written [] i y others it = refl
-    map_written (x ∷ xs) zero y others it = ap (λ z. z ∷ map f xs) (it x refl) ∙ ap (λ ys. g x ∷ ys) (map_alike xs (λ p z. others (suc p) z (let differs : suc p ≢ 0 = omega arith in differs)))
-    map_written (x ∷ xs) (suc i) y others it =
-        ap (λ z. z ∷ map f (set xs i y)) (others 0 x (let differs : 0 ≢ suc i = omega arith in differs) refl)
-        ∙ ap (λ ys. g x ∷ ys) (map_written xs i y (λ p z other. others (suc p) z (let differs : suc p ≢ suc i = omega arith in differs)) it)
-
-module _ {S : Type 0} where
-  -- a part that ends within the first items is read from these
-  part_of_first : (xs : List S) (a k n : ℕ) → a + k ≤ n → take k (drop a (take n xs)) ≡ take k (drop a xs)
-  part_of_first xs a k n fits = sym (drop-take a k (take n xs)) ∙ ap (drop a) (take-take (a + k) n xs fits) ∙ drop-take a k xs
-
-  -- a part that starts behind other items is read behind these
-  part_behind : (xs : List S) (a k n : ℕ) → n ≤ a → take k (drop a xs) ≡ take k (drop (a - n) (drop n xs))
-  part_behind xs a k n after = ap (λ m. take k (drop m xs)) (let e : a ≡ n + (a - n) = omega arith in e) ∙ ap (take k) (sym (drop-drop (a - n) n xs))
-
-  -- a part is copied down
-  module _ (xs : List S) (start n to : ℕ) (down : to ≤ start) (fits : start + n ≤ length xs) where
-    abbrev copied : List S
-    copied = paste xs to (drop start xs) n
-
-    room : to ≤ length xs
-    room = omega arith
-
-    long : n ≤ length (drop start xs)
-    long = rw (length-drop start xs) (omega arith)
-
-    first : length (take to xs) ≡ to
-    first = rw (length-take to xs) (omega arith)
-
-    copied_length : length copied ≡ length xs
-    copied_length = length-paste xs to (drop start xs) n (omega arith) long
-
-    begins : take (to + n) copied ≡ take to xs ++ take n (drop start xs)
-    begins = take-paste xs to (drop start xs) n room long
-
-    copied_part : take n (drop to copied) ≡ take n (drop start xs)
-    copied_part = sym (drop-take to n copied) ∙ ap (drop to) begins ∙ drop_at (take to xs) (take n (drop start xs)) to first
-
-    copied_before : (a k : ℕ) → a + k ≤ to → take k (drop a copied) ≡ take k (drop a xs)
-    copied_before a k ends =
-        sym (part_of_first copied a k (to + n) (omega arith))
-        ∙ ap (λ zs. take k (drop a zs)) begins
-        ∙ sym (part_of_first (take to xs ++ take n (drop start xs)) a k to ends)
-        ∙ ap (λ zs. take k (drop a zs)) (take_at (take to xs) (take n (drop start xs)) to first)
-        ∙ part_of_first xs a k to ends
-
-    copied_behind : (a k : ℕ) → to + n ≤ a → take k (drop a copied) ≡ take k (drop a xs)
-    copied_behind a k after =
-        part_behind copied a k (to + n) after
-        ∙ ap (λ zs. take k (drop (a - (to + n)) zs)) (drop-paste xs to (drop start xs) n room long)
-        ∙ sym (part_behind xs a k (to + n) after)
-
-module _ {H : Type 0} where
-  -- where the list of an entry ends
-  abbrev pub ends : Entry H SliceNote → ℕ
-  ends e = e.note.start + e.note.length
-
-  -- with another start
-  abbrev pub started : Entry H SliceNote → ℕ → Entry H SliceNote
-  started e n = record e { note = record e.note { start = n } }
-
-  -- the lists of live entries lie among so many items, in the order of the entries
-  pub record IsLaidOut (es : List (Entry H SliceNote)) (n : ℕ) : Type 0 where
-    pub within : (p : ℕ) (e : Entry H SliceNote) → slice_get es p ≡ Some e → is_live e ≡ true → ends e ≤ n
-    pub apart : (p q : ℕ) (e f : Entry H SliceNote) → p < q → slice_get es p ≡ Some e → slice_get es q ≡ Some f → is_live e ≡ true → is_live f ≡ true → ends e ≤ f.note.start
-
-  -- the list of a live entry before a place has the item of this number
-  pub record IsTaken (es : List (Entry H SliceNote)) (i k : ℕ) : Type 0 where
-    pub place : ℕ
-    pub entry : Entry H SliceNote
-    pub early : place < i
-    pub there : slice_get es place ≡ Some entry
-    pub live : is_live entry ≡ true
-    pub from : entry.note.start ≤ k
-    pub below : k < ends entry
-
-  module _ (es : List (Entry H SliceNote)) (n : ℕ) (rising : IsRising (births es)) where
-    -- the row of a live entry
-    live_at : (p : ℕ) (e : Entry H SliceNote) → slice_get es p ≡ Some e → is_live e ≡ true → (r : Row H SliceNote) × (get (held es) e.birth ≡ Some r) × (r.note ≡ e.note)
-    live_at p e at live = let w = row_is e live in (w.0, get-held es e.birth ∙ row_at-there es rising p e at ∙ w.1, w.2)
-
-    -- such an item is one of a row
-    pub covered_in : (i k : ℕ) → IsTaken es i k → IsCovered (held es) k
-    covered_in i k w =
-        let r = live_at w.place w.entry w.there w.live in
-        record {
-          birth = w.entry.birth;
-          row = r.0;
-          there = r.1;
-          from = subst (λ (x : SliceNote). x.start ≤ k) (sym r.2) w.from;
-          below = subst (λ (x : SliceNote). k < x.start + x.length) (sym r.2) w.below;
-        }
-
-    birth_below : (p q : ℕ) (e f : Entry H SliceNote) → p < q → slice_get es p ≡ Some e → slice_get es q ≡ Some f → e.birth < f.birth
-    birth_below p q e f below at its =
-        let first = birth_there es p e at in
-        let second = birth_there es q f its in
-        let rises = rising p q below second.in_range in
-        omega (arith, first.has_birth, second.has_birth)
-
-    -- lists that lie in the order of births lie in the order of entries
-    pub laid_out : IsLaid (held es) n → IsLaidOut es n
-    laid_out is = record {
-      within = λ p e at live.
-          let w = live_at p e at live in
-          let fits : end_of w.0 ≤ n = is.within e.birth w.0 w.1 in
-          subst (λ (x : SliceNote). x.start + x.length ≤ n) w.2 fits;
-      apart = λ p q e f below at its live also.
-          let w = live_at p e at live in
-          let x = live_at q f its also in
-          let fits : end_of w.0 ≤ x.0.note.start = is.apart e.birth f.birth w.0 x.0 (birth_below p q e f below at its) w.1 x.1 in
-          subst (λ (y : SliceNote). y.start + y.length ≤ f.note.start) w.2 (subst (λ (y : SliceNote). end_of w.0 ≤ y.start) x.2 fits);
-    }
-
-    -- and the other way round
-    pub laid_in : IsLaidOut es n → IsLaid (held es) n
-    laid_in is = record {
-      within = λ b r at.
-          let w = row_from es b r (sym (get-held es b) ∙ at) in
-          let l = live_row w.entry r w.row in
-          subst (λ (x : SliceNote). x.start + x.length ≤ n) l.1 (is.within w.place w.entry w.there l.0);
-      apart = λ b c r s below at its.
-          let w = row_from es b r (sym (get-held es b) ∙ at) in
-          let x = row_from es c s (sym (get-held es c) ∙ its) in
-          let l = live_row w.entry r w.row in
-          let k = live_row x.entry s x.row in
-          let earlier : w.place < x.place = in_order es rising w.place x.place w.entry x.entry w.there x.there (omega (arith, w.birth, x.birth)) in
-          let fits : ends w.entry ≤ x.entry.note.start = is.apart w.place x.place w.entry x.entry earlier w.there x.there l.0 k.0 in
-          subst (λ (y : SliceNote). y.start + y.length ≤ s.note.start) l.1 (subst (λ (y : SliceNote). ends w.entry ≤ y.start) k.1 fits);
-    }
+  copied : (start n : ℕ) → end ≤ start → paste ys end (drop start ys) n ≡ (first ++ take n (drop start xs)) ++ drop (end + n) xs
+  copied start n down =
+      ap (λ zs. (zs ++ take n (drop start ys)) ++ drop (end + n) ys) (ap (take end) is ∙ take_at first (drop end xs) end long)
+      ∙ ap (λ zs. (first ++ take n zs) ++ drop (end + n) ys) (behind start down)
+      ∙ ap (λ zs. (first ++ take n (drop start xs)) ++ zs) (behind (end + n) (omega arith))
 
 module _ {H S : Type 0} where
-  -- what stays of an entry while its list moves: birth and hash, and what its row reads
-  abbrev pub sight : List S → Entry H SliceNote → ℕ × (ℕ × Option (ℕ × Kept (Sliced H S)))
-  sight xs e = (e.birth, (e.hash, option_map (read_row xs) (row_of e)))
+  abbrev slice : List S → Row H → List S
+  slice xs r = take r.payload.length (drop r.payload.start xs)
 
-  -- an entry is seen alike where its list reads alike
-  seen_alike : (e : Entry H SliceNote) (n : ℕ) (xs ys : List S) → (is_live e ≡ true → take e.note.length (drop n ys) ≡ take e.note.length (drop e.note.start xs)) → sight ys (started e n) ≡ sight xs e
-  seen_alike e n xs ys alike = ap (λ o. (e.birth, (e.hash, o))) (go e.value alike)
-    where
-      go : (o : Option H) → (is_some o ≡ true → take e.note.length (drop n ys) ≡ take e.note.length (drop e.note.start xs))
-          → option_map (read_row ys) (option_map (λ v. record { hash = e.hash; value = v; note = record e.note { start = n } }) o) ≡ option_map (read_row xs) (option_map (λ v. record { hash = e.hash; value = v; note = e.note }) o)
-      go None alike = refl
-      go (Some v) alike = ap (λ zs. Some (e.hash, record { value = record { header = v; items = zs }; count = e.note.count })) (alike refl)
+  -- the items of the first n slices
+  abbrev pub gathered : List S → ℕ → Rows H → List S
+  gathered xs zero es = []
+  gathered xs (suc n) [] = []
+  gathered xs (suc n) (e ∷ es) = slice xs e.1 ++ gathered xs n es
 
-  births-sight : (xs : List S) (es : List (Entry H SliceNote)) → map (λ s. s.0) (map (sight xs) es) ≡ births es
-  births-sight xs [] = refl
-  births-sight xs (e ∷ es) = ap (λ bs. e.birth ∷ bs) (births-sight xs es)
+  slice_length : (xs : List S) (r : Row H) → end_of r ≤ length xs → length (slice xs r) ≡ r.payload.length
+  slice_length xs r fits = let long = length-drop r.payload.start xs in rw (length-take r.payload.length (drop r.payload.start xs)) (omega arith)
 
-  -- what is read at a birth, sought among what is seen
-  look : List (ℕ × (ℕ × Option (ℕ × Kept (Sliced H S)))) → ℕ → Option (ℕ × Kept (Sliced H S))
-  look [] q = None
-  look (s ∷ ss) q = cond (nat_eq q s.0) s.1.1 (look ss q)
+  gathered_length : (xs : List S) (n lo hi : ℕ) (es : Rows H) → Lies hi es (length xs) → lo + length (gathered xs n es) ≡ end_at n lo es
+  gathered_length xs zero lo hi es lies = omega arith
+  gathered_length xs (suc n) lo hi [] lies = omega arith
+  gathered_length xs (suc n) lo hi (e ∷ es) lies =
+      let long = slice_length xs e.1 (lies_within (end_of e.1) (length xs) es lies.1) in
+      let rest = gathered_length xs n (lo + e.1.payload.length) (end_of e.1) es lies.1 in
+      omega (arith, long, rest, length-append (slice xs e.1) (gathered xs n es))
 
-  look-sight : (xs : List S) (es : List (Entry H SliceNote)) (q : ℕ) → option_map (read_row xs) (row_at es q) ≡ look (map (sight xs) es) q
-  unfolding look
-  look-sight xs [] q = refl
-  look-sight xs (e ∷ es) q = go (nat_eq q e.birth) ∙ ap (cond (nat_eq q e.birth) (option_map (read_row xs) (row_of e))) (look-sight xs es q)
-    where
-      go : (t : Bool) → option_map (read_row xs) (cond t (row_of e) (row_at es q)) ≡ cond t (option_map (read_row xs) (row_of e)) (option_map (read_row xs) (row_at es q))
-      go true = refl
-      go false = refl
+  -- the row of number n, and its move
+  record IsNext (xs : List S) (n lo : ℕ) (e : ℕ × Row H) (es : Rows H) : Type 0 where
+    was : find nat_cmp e.0 es ≡ Some e.1
+    here : find nat_cmp e.0 (moved n lo es) ≡ Some e.1
+    set : put nat_cmp e.0 (started e.1 (end_at n lo es)) (moved n lo es) ≡ moved (suc n) lo es
+    more : gathered xs (suc n) es ≡ gathered xs n es ++ slice xs e.1
+    ends : end_at (suc n) lo es ≡ end_at n lo es + e.1.payload.length
+    down : end_at n lo es ≤ e.1.payload.start
+    fits : end_of e.1 ≤ length xs
 
-  -- entries that are seen alike make maps that read alike
-  module _ (es' : List (Entry H SliceNote)) (xs' : List S) (es : List (Entry H SliceNote)) (xs : List S) (alike : map (sight xs) es ≡ map (sight xs') es') where
-    pub same_births : births es ≡ births es'
-    same_births = sym (births-sight xs es) ∙ ap (map (λ s. s.0)) alike ∙ births-sight xs' es'
+  next_at : (xs : List S) (n lo hi : ℕ) (e : ℕ × Row H) (es : Rows H) → T (is_sorted nat_cmp es) → Lies hi es (length xs) → lo ≤ hi → slice_get es n ≡ Some e → IsNext xs n lo e es
+  next_at xs n lo hi e [] sorted lies low at = absurd (cc)
+  next_at xs zero lo hi e (f ∷ es) sorted lies low at =
+      subst (λ (x : ℕ × Row H). IsNext xs 0 lo x (f ∷ es)) (same_Some f e at) (record {
+        was = at_head f es;
+        here = at_head f es;
+        set = put_at_head f (started f.1 lo) es;
+        more = append-nil (slice xs f.1);
+        ends = refl;
+        down = omega (arith, lies.0);
+        fits = lies_within (end_of f.1) (length xs) es lies.1;
+      })
+  next_at xs (suc n) lo hi e (f ∷ es) sorted lies low at =
+      let rest = parts _ _ sorted in
+      let w = next_at xs n (lo + f.1.payload.length) (end_of f.1) e es rest.1 lies.1 (omega (arith, lies.0)) at in
+      let above = above_all f.0 e.0 e.1 es rest.0 w.was in
+      record {
+        was = behind_head e.0 f es above ∙ w.was;
+        here = behind_head e.0 (f.0, started f.1 lo) _ above ∙ w.here;
+        set = put_behind e.0 _ (f.0, started f.1 lo) _ above ∙ ap (λ gs. (f.0, started f.1 lo) ∷ gs) w.set;
+        more = ap (λ ys. slice xs f.1 ++ ys) w.more ∙ sym (append_assoc (slice xs f.1) (gathered xs n es) (slice xs e.1));
+        ends = w.ends;
+        down = w.down;
+        fits = w.fits;
+      }
 
-    pub same_rows : (b : ℕ) → option_map (read_row xs) (get (held es) b) ≡ option_map (read_row xs') (get (held es') b)
-    same_rows b = ap (option_map (read_row xs)) (get-held es b) ∙ look-sight xs es b ∙ ap (λ ss. look ss b) alike ∙ sym (look-sight xs' es' b) ∙ sym (ap (option_map (read_row xs')) (get-held es' b))
+  -- all rows read their slices as before
+  read_moved : (xs before : List S) (lo hi : ℕ) (es : Rows H) → length before ≡ lo → Lies hi es (length xs) → (b : ℕ)
+      → option_map (read_entry (before ++ gathered xs (length es) es)) (find nat_cmp b (moved (length es) lo es)) ≡ option_map (read_entry xs) (find nat_cmp b es)
+  read_moved xs before lo hi [] begins lies b = refl
+  read_moved xs before lo hi (e ∷ es) begins lies b =
+      let n = e.1.payload.length in
+      let first = slice xs e.1 in
+      let rest = gathered xs (length es) es in
+      let long = slice_length xs e.1 (lies_within (end_of e.1) (length xs) es lies.1) in
+      let head = ap (take n) (drop_at before (first ++ rest) lo begins) ∙ take_at first rest n long in
+      read_either (read_entry (before ++ (first ++ rest))) (read_entry xs) (eq_by_cmp nat_cmp b e.0) (started e.1 lo) e.1 (find nat_cmp b (moved (length es) (lo + n) es)) (find nat_cmp b es)
+      (ap (λ zs. (e.1.hash, record { value = record { header = e.1.value; items = zs }; count = e.1.payload.count })) head)
+      (ap (λ ys. option_map (read_entry ys) (find nat_cmp b (moved (length es) (lo + n) es))) (sym (append_assoc before first rest))
+      ∙ read_moved xs (before ++ first) (lo + n) (end_of e.1) es (omega (arith, length-append before first, begins, long)) lies.1 b)
 
-    same_len : len (held es) ≡ len (held es')
-    same_len =
-        sym (len-map_values (read_row xs) (held es))
-        ∙ ap len (same_map nat_cmp_total nat_cmp-IsAntisymmetric (map_values (read_row xs) (held es)) (map_values (read_row xs') (held es')) (λ b.
-        get-map_values (read_row xs) (held es) b ∙ same_rows b ∙ sym (get-map_values (read_row xs') (held es') b)))
-        ∙ len-map_values (read_row xs') (held es')
+  -- what the loop keeps: the first n slices lie one behind the other, and what is behind them is as it was
+  pub record IsMoved (m : FinMap nat_cmp (Row H)) (xs : List S) (now : FinMap nat_cmp (Row H)) (ys : List S) (n end : ℕ) : Type 0 where
+    pub rows : entries now ≡ moved n 0 (entries m)
+    pub items : ys ≡ gathered xs n (entries m) ++ drop end xs
+    pub ends : end ≡ end_at n 0 (entries m)
 
-    hash_at : (p : ℕ) (e : Entry H SliceNote) → slice_get es p ≡ Some e → (f : Entry H SliceNote) × (slice_get es' p ≡ Some f) × (e.hash ≡ f.hash)
-    hash_at p e at =
-        go (slice_get es' p) refl (
-        sym (ap (option_map (sight xs)) at) ∙ sym (slice_get-map (sight xs) es p) ∙ ap (λ ss. slice_get ss p) alike ∙ slice_get-map (sight xs') es' p)
+  module _ (m : FinMap nat_cmp (Row H)) (xs : List S) (now : FinMap nat_cmp (Row H)) (ys : List S) (n end : ℕ) (laid : IsLaid m (length xs)) (is : IsMoved m xs now ys n end) where
+    lies : Lies 0 (entries m) (length xs)
+    lies =
+        chained (length xs) 0 (entries m) (entries_sorted m) (omega arith)
+        (λ b r at. (omega arith, laid.within b r (get-entries m b ∙ at)))
+        (λ b c r s below at its. laid.apart b c r s below (get-entries m b ∙ at) (get-entries m c ∙ its))
+
+    long : length (gathered xs n (entries m)) ≡ end
+    long = omega (arith, gathered_length xs n 0 0 (entries m) lies, is.ends)
+
+    nth : slice_get (entries now) n ≡ slice_get (entries m) n
+    nth = ap (λ es. slice_get es n) is.rows ∙ nth_moved n 0 (entries m)
+
+    pub is_left : n < len m → {X : Type 0} (f : X → ℕ) (o : Option X) → option_map f o ≡ option_map (λ e. e.0) (slice_get (entries now) n) → IsSome o
+    is_left inside f o same =
+        elim (slice_get_cases (entries m) n).1 [
+          | inl w ↦ some_too f (λ e. e.0) o (slice_get (entries now) n) same (ap is_some (nth ∙ w.2))
+          | inr past ↦ absurd (omega (arith, past.0, inside, len-entries m))
+        ]
+
+    -- the slice of a row fits, and is moved
+    abbrev Moves : ℕ → SlicePayload → Option (Row H) → Type 0
+    Moves b p o = (end ≤ p.start) × (p.start + p.length ≤ length ys) × IsMoved m xs (with_payload (λ q. record q { start = end }) now b o) (copy_within ys p.start (p.start + p.length) end) (n + 1) (end + p.length)
+
+    -- that of the next is
+    pub next : (b : ℕ) (p : SlicePayload) → Some b ≡ option_map (λ e. e.0) (slice_get (entries now) n) → option_map (λ e. e.payload) (get now b) ≡ Some p → Moves b p (get now b)
+    next b p its_birth had = go (slice_get (entries m) n) refl
       where
-        go : (o : Option (Entry H SliceNote)) → slice_get es' p ≡ o → Some (sight xs e) ≡ option_map (sight xs') o → (f : Entry H SliceNote) × (slice_get es' p ≡ Some f) × (e.hash ≡ f.hash)
-        go None its same = absurd (cc)
-        go (Some f) its same = (f, its, ap (λ s. s.1.0) (same_Some (sight xs e) (sight xs' f) same))
+        go : (o : Option (ℕ × Row H)) → slice_get (entries m) n ≡ o → Moves b p (get now b)
+        go None at = let none = ap (option_map (λ (e : ℕ × Row H). e.0)) (nth ∙ at) in absurd (cc)
+        go (Some e) at =
+            let w = next_at xs n 0 0 e (entries m) (entries_sorted m) lies (omega arith) at in
+            let start = e.1.payload.start in
+            let k = e.1.payload.length in
+            let down : end ≤ start = omega (arith, w.down, is.ends) in
+            let exact : start + k - start ≡ k = omega arith in
+            let more : suc n ≡ n + 1 = omega arith in
+            let b_is : b ≡ e.0 = same_Some _ _ (its_birth ∙ ap (option_map (λ (f : ℕ × Row H). f.0)) (nth ∙ at)) in
+            let row : get now e.0 ≡ Some e.1 = get-entries now e.0 ∙ ap (find nat_cmp e.0) is.rows ∙ w.here in
+            let p_is : p ≡ e.1.payload = same_Some _ _ (sym had ∙ ap (λ c. option_map (λ (r : Row H). r.payload) (get now c)) b_is ∙ ap (option_map (λ (r : Row H). r.payload)) row) in
+            let room : end_of e.1 ≤ length ys = omega (arith, ap length is.items, length-append (gathered xs n (entries m)) (drop end xs), length-drop end xs, long, w.fits, down) in
+            rw (p_is, b_is, row) (
+              down,
+              room,
+              subst (λ i. IsMoved m xs (insert now e.0 (started e.1 end)) (copy_within ys start (start + k) end) i (end + k)) more (record {
+                rows = entries-insert nat_cmp_total now e.0 (started e.1 end) ∙ ap (put nat_cmp e.0 (started e.1 end)) is.rows
+                    ∙ ap (λ i. put nat_cmp e.0 (started e.1 i) (moved n 0 (entries m))) is.ends ∙ w.set;
+                items = ap (paste ys end (drop start ys)) exact ∙ copied xs ys (gathered xs n (entries m)) end is.items long start k down
+                    ∙ ap (λ zs. zs ++ drop (end + k) xs) (sym w.more);
+                ends = ap (λ i. i + k) is.ends ∙ sym w.ends;
+              }),
+            )
 
-    pub still_tied : (live : ℕ) (a : Probes) → IsTied live es' a → IsTied live es a
-    still_tied live a is = record {
-      ordered = record {
-        rising = subst IsRising (sym same_births) is.ordered.rising;
-        small = let size : length es ≡ length es' = sym (length-map es (λ e. e.birth)) ∙ ap length same_births ∙ length-map es' (λ e. e.birth) in subst (λ n. n < 2 ^ 32) (sym size) is.ordered.small;
-      };
-      counted = is.counted ∙ sym same_len;
-      homes = is.homes;
-      led = λ p e at. let w = hash_at p e at in ap (λ h. leads a h p) w.2 ∙ is.led p w.0 w.1;
-    }
+    -- all are moved, and what is behind them is cut
+    module _ (every : n ≡ len m) (zs : List S) (cut : zs ≡ take end ys) where
+      all : n ≡ length (entries m)
+      all = every ∙ len-entries m
 
-  -- what the loop keeps: all lists lie in order and read as before, those before the place up to an end, with no gap, and the others from there on
-  pub record IsMoved (es' : List (Entry H SliceNote)) (xs' : List S) (es : List (Entry H SliceNote)) (xs : List S) (i end : ℕ) : Type 0 where
-    pub laid : IsLaidOut es (length xs)
-    pub alike : map (sight xs) es ≡ map (sight xs') es'
-    pub before : (p : ℕ) (e : Entry H SliceNote) → p < i → slice_get es p ≡ Some e → is_live e ≡ true → ends e ≤ end
-    pub behind : (p : ℕ) (e : Entry H SliceNote) → i ≤ p → slice_get es p ≡ Some e → is_live e ≡ true → end ≤ e.note.start
-    pub fits : end ≤ length xs
-    pub covered : (k : ℕ) → k < end → IsTaken es i k
+      whole : zs ≡ gathered xs (length (entries m)) (entries m)
+      whole = cut ∙ ap (take end) is.items ∙ take_at (gathered xs n (entries m)) (drop end xs) end long ∙ ap (λ k. gathered xs k (entries m)) all
 
-  pub unmoved : (es : List (Entry H SliceNote)) (xs : List S) → IsLaidOut es (length xs) → IsMoved es xs es xs 0 0
-  unmoved es xs laid = record {
-    laid = laid;
-    alike = refl;
-    before = λ p e below at live. absurd (omega arith);
-    behind = λ p e above at live. omega arith;
-    fits = omega arith;
-    covered = λ k below. absurd (omega arith);
-  }
+      rows : entries now ≡ moved (length (entries m)) 0 (entries m)
+      rows = is.rows ∙ ap (λ k. moved k 0 (entries m)) all
 
-  module _ (es' : List (Entry H SliceNote)) (xs' : List S) (es : List (Entry H SliceNote)) (xs : List S) (i end : ℕ) (is : IsMoved es' xs' es xs i end) where
-    -- an entry that is taken out is passed
-    pub passed : (d : Entry H SliceNote) → i < length es → is_live (get_or es i d) ≡ false → IsMoved es' xs' es xs (i + 1) end
-    passed d inside out = record {
-      laid = is.laid;
-      alike = is.alike;
-      before = λ p f below its live.
-          elim (cases_eq p i) [
-            | inl same ↦
-                let is_it : f ≡ get_or es i d = same_Some _ _ (sym its ∙ ap (slice_get es) same ∙ slice_get-get_or es i d inside) in
-                let dead : is_live f ≡ false = ap is_live is_it ∙ out in
-                absurd (cc)
-            | inr differs ↦ is.before p f (omega arith) its live
-          ];
-      behind = λ p f above its live. is.behind p f (omega arith) its live;
-      fits = is.fits;
-      covered = λ k below. let w = is.covered k below in record { place = w.place; entry = w.entry; early = omega (arith, w.early); there = w.there; live = w.live; from = w.from; below = w.below };
-    }
+      chain : (R : ℕ → ℕ → Type 0) → ((x : ℕ) → R x x) → Chain R 0 (entries now) (length zs)
+      chain R same =
+          let size : end_at (length (entries m)) 0 (entries m) ≡ length zs = omega (arith, ap length whole, gathered_length xs (length (entries m)) 0 0 (entries m) lies) in
+          subst (λ k. Chain R 0 (entries now) k) size (subst (λ es. Chain R 0 es (end_at (length (entries m)) 0 (entries m))) (sym rows) (moved_chain R same 0 (entries m)))
 
-    -- the list of an entry is moved down
-    module _ (d : Entry H SliceNote) (inside : i < length es) (live : is_live (get_or es i d) ≡ true) where
-      abbrev e : Entry H SliceNote
-      e = get_or es i d
+      lies_now : Lies 0 (entries now) (length zs)
+      lies_now = chain (λ x y. x ≤ y) (λ x. omega arith)
 
-      at : slice_get es i ≡ Some e
-      at = slice_get-get_or es i d inside
+      pub laid_now : IsLaid now (length zs)
+      laid_now = record {
+        within = λ b r at. (found_lies b 0 (length zs) r (entries now) lies_now (sym (get-entries now b) ∙ at)).1;
+        apart = λ b c r s below at its. lies_apart b c 0 (length zs) r s (entries now) (entries_sorted now) lies_now below (sym (get-entries now b) ∙ at) (sym (get-entries now c) ∙ its);
+      }
 
-      pub starts_behind : end ≤ e.note.start
-      starts_behind = is.behind i e (omega arith) at live
+      pub same_now : (b : ℕ) → option_map (read_entry zs) (get now b) ≡ option_map (read_entry xs) (get m b)
+      same_now b =
+          ap (λ ys. option_map (read_entry ys) (get now b)) whole
+          ∙ ap (option_map (read_entry (gathered xs (length (entries m)) (entries m)))) (get-entries now b ∙ ap (find nat_cmp b) rows)
+          ∙ read_moved xs [] 0 0 (entries m) refl lies b ∙ ap (option_map (read_entry xs)) (sym (get-entries m b))
 
-      pub ends_within : ends e ≤ length xs
-      ends_within = is.laid.within i e at live
-
-      abbrev n : ℕ
-      n = e.note.length
-
-      abbrev ys : List S
-      ys = paste xs end (drop e.note.start xs) n
-
-      size : length ys ≡ length xs
-      size = copied_length xs e.note.start n end starts_behind ends_within
-
-      -- the other lists read as before
-      reads_on : (p : ℕ) (f : Entry H SliceNote) → p ≢ i → slice_get es p ≡ Some f → is_live f ≡ true → take f.note.length (drop f.note.start ys) ≡ take f.note.length (drop f.note.start xs)
-      reads_on p f differs its also =
-          elim (cases_lt p i) [
-            | inl below ↦ copied_before xs e.note.start n end starts_behind ends_within f.note.start f.note.length (is.before p f below its also)
-            | inr above ↦
-                let later : i < p = omega arith in
-                let fits : ends e ≤ f.note.start = is.laid.apart i p e f later at its live also in
-                let down = starts_behind in
-                copied_behind xs e.note.start n end starts_behind ends_within f.note.start f.note.length (omega arith)
-          ]
-
-      pub moved : IsMoved es' xs' (set es i (started e end)) ys (i + 1) (end + n)
-      moved =
-          let down : end ≤ e.note.start = starts_behind in
-          let room : e.note.start + n ≤ length xs = ends_within in
-          let same : length ys ≡ length xs = size in
-          record {
-            laid = record {
-              within = λ p f its also.
-                  elim (written es i (started e end) p f its) [
-                    | inl new ↦ subst (λ (x : Entry H SliceNote). ends x ≤ length ys) new.1 (let fits : end + n ≤ length ys = omega arith in fits)
-                    | inr old ↦ let fits : ends f ≤ length xs = is.laid.within p f old.1 also in omega arith
-                  ];
-              apart = λ p q f g below its this also too.
-                  elim (written es i (started e end) p f its) [
-                    | inl new ↦
-                        elim (written es i (started e end) q g this) [
-                          | inl again ↦ let first : p ≡ i = new.0 in let second : q ≡ i = again.0 in absurd (omega arith)
-                          | inr old ↦
-                              let first : p ≡ i = new.0 in
-                              let fits : ends e ≤ g.note.start = is.laid.apart i q e g (omega arith) at old.1 live too in
-                              subst (λ (x : Entry H SliceNote). ends x ≤ g.note.start) new.1 (let early : end + n ≤ g.note.start = omega arith in early)
-                        ]
-                    | inr old ↦
-                        elim (written es i (started e end) q g this) [
-                          | inl new ↦
-                              let second : q ≡ i = new.0 in
-                              let early : ends f ≤ end = is.before p f (omega arith) old.1 also in
-                              subst (λ (x : Entry H SliceNote). ends f ≤ x.note.start) new.1 early
-                          | inr older ↦ is.laid.apart p q f g below old.1 older.1 also too
-                        ]
-                  ];
-            };
-            alike =
-                map_written (sight ys) (sight xs) es i (started e end)
-                (λ p f differs its. seen_alike f f.note.start xs ys (reads_on p f differs its))
-                (λ f its. ap (λ x. sight ys (started x end)) (same_Some _ _ (sym at ∙ its)) ∙ seen_alike f end xs ys (λ also.
-                subst (λ (x : Entry H SliceNote). take x.note.length (drop end ys) ≡ take x.note.length (drop x.note.start xs)) (same_Some e f (sym at ∙ its)) (copied_part xs e.note.start n end starts_behind ends_within)))
-                ∙ is.alike;
-            before = λ p f below its also.
-                elim (written es i (started e end) p f its) [
-                  | inl new ↦ subst (λ (x : Entry H SliceNote). ends x ≤ end + n) new.1 (let last : end + n ≤ end + n = omega arith in last)
-                  | inr old ↦ let differs : p ≢ i = old.0 in let early : ends f ≤ end = is.before p f (omega arith) old.1 also in omega arith
-                ];
-            behind = λ p f above its also.
-                elim (written es i (started e end) p f its) [
-                  | inl new ↦ let first : p ≡ i = new.0 in absurd (omega arith)
-                  | inr old ↦ let fits : ends e ≤ f.note.start = is.laid.apart i p e f (omega arith) at old.1 live also in omega arith
-                ];
-            fits = omega arith;
-            covered = λ k below.
-                elim (cases_lt k end) [
-                  | inl first ↦
-                      let w = is.covered k first in
-                      let differs : w.place ≢ i = let before = w.early in omega arith in
-                      record { place = w.place; entry = w.entry; early = omega (arith, w.early); there = written_other es i (started e end) w.place differs ∙ w.there; live = w.live; from = w.from; below = w.below }
-                  | inr last ↦ record { place = i; entry = started e end; early = omega arith; there = written_there es i (started e end) inside; live = live; from = omega arith; below = below }
-                ];
-          }
-
-    -- at the end no item up to the end is left that no list has
-    pub cut_covered : IsRising (births es) → (k : ℕ) → k < length (take end xs) → IsCovered (held es) k
-    cut_covered rising k below =
-        let size : length (take end xs) ≡ end = let fits = is.fits in rw (length-take end xs) (omega arith) in
-        covered_in es 0 rising i k (is.covered k (omega arith))
-
-    -- at the end what is behind all lists is cut
-    module _ (all : length es ≤ i) where
-      early : (p : ℕ) (e : Entry H SliceNote) → slice_get es p ≡ Some e → is_live e ≡ true → ends e ≤ end
-      early p e at live = let inside : p < length es = slice_get_within es p e at in is.before p e (omega arith) at live
-
-      pub cut_laid : IsLaidOut es (length (take end xs))
-      cut_laid =
-          let size : length (take end xs) ≡ end = let fits = is.fits in rw (length-take end xs) (omega arith) in
-          record { within = λ p e at live. let fits : ends e ≤ end = early p e at live in omega arith; apart = is.laid.apart }
-
-      pub cut_alike : map (sight (take end xs)) es ≡ map (sight xs') es'
-      cut_alike =
-          map_alike (sight (take end xs)) (sight xs) es (λ p e at. seen_alike e e.note.start xs (take end xs) (λ live. part_of_first xs e.note.start e.note.length end (early p e at live)))
-          ∙ is.alike
+      pub covered_now : (k : ℕ) → k < length zs → IsCovered now k
+      covered_now k below =
+          let w = covered 0 (length zs) k (entries now) (entries_sorted now) (chain (λ x y. x ≡ y) (λ x. refl)) (omega arith) below in
+          record { birth = w.0; row = w.1; there = get-entries now w.0 ∙ w.2; from = w.3; below = w.4 }

@@ -1,9 +1,6 @@
 pub mod Forms
 pub mod Hashes
 pub mod Joined
-pub mod Ordered
-pub mod Probed
 pub mod Read
-pub mod Row
-pub mod Rows
+pub mod Seen
 pub mod Sliced

@@ -2,7 +2,7 @@
 use Rattle.std.specs.Prelude.{ℕ, length}
 use Rattle.intern_store.specs.Kept.{Kept}
 use Rattle.intern_table.specs.Sliced.{Sliced}
-use Rattle.intern_table.specs.declared.parts.HeaderSlice.{HeaderSlice}
+use Rattle.intern_table.specs.declared.slice.HeaderSlice.{HeaderSlice}
 
 -- the header with its list, and the length that is told
 abbrev pub read : {H S : Type 0} → HeaderSlice H S → Sliced H S × ℕ

@@ -1,26 +1,17 @@
-//! How the entries of a storage are kept: in the order of their births, under an index of hashes,
-//! and for lists of items with one vector of all items.
+//! How a storage keeps its entries: in an index, and those of slices with one vector of all items.
 #![tactic(auto)]
 
-mod births;
-mod compact;
-mod hashing;
-mod index;
-mod offer;
-mod parts;
-mod probes;
-mod room;
+mod counts;
+mod equivalent;
+mod pool;
+mod slice;
 mod slice_table;
-mod slice_value;
-mod sought;
-mod sweep;
 mod table;
 mod text;
 
-pub use offer::Offer;
-pub use parts::{HeaderSlice, HeaderWithLength};
+pub use equivalent::Equivalent;
+pub use slice::{HeaderSlice, HeaderWithLength, SliceValue};
 pub use slice_table::SliceTable;
-pub use slice_value::SliceValue;
 pub use table::Table;
 pub use text::Text;
 

@@ -2,23 +2,23 @@
 ghost use Rattle.std.specs.Prelude.{◌≡◌, option_copied};
 ghost use Rattle.std.specs.Option.{option_map};
 ghost use Rattle.std.specs.FinMap as map;
+ghost use Rattle.intern_table.specs.Hashes.{hash_of};
 
-use crate::index::Index;
-use crate::offer::Offer;
-use crate::sought::Sought;
+use crate::counts::{Lower, Raise};
+use crate::equivalent::Equivalent;
+use intern_index::{BirthTable, Index, Query};
 use intern_store::{Entries, Marks, Removes, Spot, Sweeps, Takes};
 use std::alloc::Global;
 use std::cmp::Eq;
-use std::hash::{BuildHasherDefault, FoldHasher, Hash};
+use std::hash::Hash;
 use std::marker::Model;
 
-/// The table of values: an index whose notes are the counts.
+/// The table of values: an index whose payloads are the counts.
 ///
 /// A search compares only values of one hash. Only an insertion takes memory.
 #[derive(Drop)]
 pub struct Table<T: Hash + Eq> {
-    hasher: BuildHasherDefault<FoldHasher>,
-    index: Index<T, u64>,
+    index: Index<T, u64, BirthTable>,
 }
 
 impl<T: Hash + Eq> Model for Table<T> {
@@ -31,24 +31,25 @@ impl<T: Hash + Eq> Model for Table<T> {
 
     ghost coded = { map.code coded_ℕ (kept_code T.code) };
 
-    ghost use Rattle.intern_table.specs.Rows.{map_values, kept_row, IsHashed};
-    ghost use Rattle.intern_table.specs.Hashes.{hash_by};
+    ghost use Rattle.intern_store.specs.Maps.{map_values};
+    ghost use Rattle.intern_table.specs.Seen.{kept_entry, IsHashed};
+    ghost use Rattle.intern_table.specs.Hashes.{hash_of};
 
-    ghost view = { λ a. map_values kept_row a.index };
+    ghost view = { λ a. map_values kept_entry a.index };
 
-    ghost invariant = { λ a. IsHashed kept_row (λ v. hash_by a.hasher (T.hash_input v)) a.index };
+    ghost invariant = { λ a. IsHashed kept_entry (λ v. hash_of (T.hash_input v)) a.index };
 }
 
-// A value that equals the one offered is sought.
+// A value that equals the one offered.
 #[derive_where(Clone, Copy)]
 struct Equal<'a, O> {
     offer: &'a O,
 }
 
-impl<T: Hash + Eq, O: Offer<T>> Sought<T, u64> for Equal<'_, O> {
-    ghost fits = { λ s v _. T.eq (O.value s.offer.now) v };
+impl<T: Hash + Eq, O: Equivalent<T>> Query<T, u64> for Equal<'_, O> {
+    ghost fits = { λ q v _. T.eq (O.value q.offer.now) v };
 
-    fn fits(&self, value: &T, _note: u64) -> bool {
+    fn fits(&self, value: &T, _count: u64) -> bool {
         self.offer.equals(value)
     }
 }
@@ -69,7 +70,6 @@ impl<T: Hash + Eq> Entries for Table<T> {
 
     fn new(alloc: Global) -> Table<T> {
         Table {
-            hasher: BuildHasherDefault::new(),
             index: Index::new(alloc),
         }
     }
@@ -83,30 +83,35 @@ impl<T: Hash + Eq> Entries for Table<T> {
     }
 
     fn count(&self, spot: Spot) -> Option<u64> {
-        self.index.note(spot)
+        self.index.payload(spot)
     }
 
-    fn set_count(&mut self, spot: Spot, count: u64) {
-        self.index.set_note(spot, count)
+    fn count_up(&mut self, spot: Spot, top: u64) -> Option<u64> {
+        self.index.change(spot, &Raise { top })
+    }
+
+    fn count_down(&mut self, spot: Spot) -> Option<u64> {
+        self.index.change(spot, &Lower)
     }
 }
 
 impl<T: Hash + Eq> Removes for Table<T> {
-    fn remove(&mut self, birth: u64) -> Option<T> {
-        self.index.remove(birth)
+    fn remove(&mut self, spot: Spot) -> Option<T> {
+        self.index.remove(spot)
     }
 }
 
-impl<T: Hash + Eq, O: Offer<T>> Takes<O> for Table<T> {
+impl<T: Hash + Eq, O: Equivalent<T>> Takes<O> for Table<T> {
     ghost value = { O.value };
 
-    fn find(&self, offer: &O) -> Option<Spot> {
-        self.index
-            .find(offer.hash_in(&self.hasher), &Equal { offer })
+    ghost hash_of = { λ o. hash_of (T.hash_input (O.value o)) };
+
+    fn find(&self, offer: &O) -> Result<Spot, u64> {
+        let hash = offer.hashed();
+        self.index.find(hash, &Equal { offer }).ok_or(hash)
     }
 
-    fn insert(&mut self, birth: u64, offer: O, count: u64) -> Result<usize, O> {
-        let hash = offer.hash_in(&self.hasher);
+    fn insert(&mut self, birth: u64, hash: u64, offer: O, count: u64) -> Result<usize, O> {
         self.index.insert(birth, hash, offer, count)
     }
 }

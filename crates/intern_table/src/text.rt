@@ -5,12 +5,12 @@ ghost use Rattle.std.specs.Cmp.Rules.{comparing, hashing};
 ghost use Rattle.std.specs.Hash as fed;
 ghost use Rattle.std.proofs.Common.{rules};
 
-use crate::hashing::hash_value;
-use crate::offer::Offer;
+use crate::equivalent::{Equivalent, hash_value};
 use arrayvec::ArrayString;
+use intern_index::Offer;
 use std::alloc::Global;
 use std::cmp::Eq;
-use std::hash::{BuildHasherDefault, FoldHasher, Hash, Hasher};
+use std::hash::{Hash, Hasher};
 use std::marker::Model;
 
 /// How many bytes a short text has at most.
@@ -78,17 +78,9 @@ impl Text {
     }
 }
 
-// A text is sought as what is borrowed, and copied once it is stored.
+// What is borrowed is copied once it is stored.
 impl<'a> Offer<Text> for &'a str {
     ghost value = { λ s. s.now };
-
-    fn equals(&self, stored: &Text) -> bool {
-        *self == stored.as_str()
-    }
-
-    fn hash_in(&self, hasher: &BuildHasherDefault<FoldHasher>) -> u64 {
-        hash_value(hasher, self)
-    }
 
     fn into_value(self, alloc: Global) -> Result<Text, &'a str> {
         if let Ok(text) = ArrayString::from(self) {
@@ -102,5 +94,15 @@ impl<'a> Offer<Text> for &'a str {
             }),
             Err(_) => Err(self),
         }
+    }
+}
+
+impl Equivalent<Text> for &str {
+    fn equals(&self, stored: &Text) -> bool {
+        *self == stored.as_str()
+    }
+
+    fn hashed(&self) -> u64 {
+        hash_value(self)
     }
 }

@@ -12,5 +12,5 @@ pub use Rattle.intern_store.specs.declared.names.Refusal
 pub use Rattle.intern_store.specs.declared.names.Refused
 pub use Rattle.intern_table.specs.Read
 pub use Rattle.intern_table.specs.Sliced
-pub use Rattle.intern_table.specs.declared.parts.HeaderSlice
-pub use Rattle.intern_table.specs.declared.parts.HeaderWithLength
+pub use Rattle.intern_table.specs.declared.slice.HeaderSlice
+pub use Rattle.intern_table.specs.declared.slice.HeaderWithLength

@@ -50,8 +50,8 @@ impl<T: Internable> Model for InternStorage<T> {
 /// An owned handle, which counts one.
 ///
 /// Handles are compared and hashed by their names alone, so two of one storage are equal exactly
-/// if the values that they read are. Beside the name a handle holds a hint where its entry lies:
-/// 24 bytes in all.
+/// if the values that they read are. Beside the name a handle holds the place of its entry: 24 bytes
+/// in all.
 #[derive(Drop)]
 #[derive_where(PartialEq, Eq, Hash)]
 pub struct Interned<T> {

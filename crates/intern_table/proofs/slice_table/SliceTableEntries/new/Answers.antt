@@ -1,10 +1,10 @@
-use Rattle.intern_table.specs.Joined.{sliced_row}
+use Rattle.intern_table.specs.Joined.{sliced_entry}
 use Rattle.intern_table.proofs.Joins.{empty_joined}
-use Rattle.intern_table.proofs.MapValues.{map_values-empty}
+use Rattle.intern_store.proofs.Maps.{map_values-empty}
 use Rattle.intern_table.proofs.slice_table.SliceTableEntries.new.Goals as goal
 
 pub invariant_of-result : goal.invariant_of-result
-invariant_of-result g c = empty_joined _ _ _ c.new-2.ensures
+invariant_of-result g c = empty_joined _ _ _ c.new.ensures
 
 pub returns : goal.returns
-returns g c = map_values-empty (sliced_row c.new-3.result.items) _ c.new-2.ensures
+returns g c = map_values-empty (sliced_entry c.new-2.result.items) _ c.new.ensures

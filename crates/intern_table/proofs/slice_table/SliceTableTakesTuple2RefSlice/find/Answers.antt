@@ -1,6 +1,6 @@
 use Rattle.std.proofs.Common.{ap, take, drop}
-use Rattle.intern_table.specs.Hashes.{hash_by}
-use Rattle.intern_table.specs.Joined.{sliced_row}
+use Rattle.intern_table.specs.Hashes.{hash_of}
+use Rattle.intern_table.specs.Joined.{sliced_entry}
 use Rattle.intern_table.specs.Sliced.{Sliced, sliced_eq, sliced_input}
 use Rattle.intern_table.proofs.Counted.{finds, finds_none}
 use Rattle.intern_table.proofs.Joins.{sliced_input-same}
@@ -11,17 +11,17 @@ returns-clause-found g c =
     let input = sliced_input g.H.Hash.hash_input g.S.Hash.hash_input in
     let eq = sliced_eq g.H.PartialEq.eq g.S.PartialEq.eq in
     let v : Sliced g.row.H.Denot g.row.S.Denot = record { header = c.args.offer.now.0; items = c.args.offer.now.1.now } in
-    finds (sliced_row c.self.inside.items.items) (λ v. hash_by c.self.inside.hasher (input v)) _ eq v
-    (λ r. ap (λ xs. eq v (record { header = r.value; items = take r.note.length (drop r.note.start xs) })) c.as_slice.ensures.value)
-    (λ w e. ap (hash_by c.self.inside.hasher) (sliced_input-same g.H.Hash.hash_input g.S.Hash.hash_input g.H.PartialEq.eq g.S.PartialEq.eq g.met.H.Hash.respects_eq g.met.S.Hash.respects_eq v w e))
-    _ _ c.self.invariant.hashed c.self.view_is c.find.result c.find.ensures.found
+    rw c.ok_or.ensures.value (finds (sliced_entry c.self.inside.items.items) (λ v. hash_of (input v)) _ eq v
+    (λ r. ap (λ xs. eq v (record { header = r.value; items = take r.payload.length (drop r.payload.start xs) })) c.as_slice.ensures.value)
+    (λ w e. ap (hash_of) (sliced_input-same g.H.Hash.hash_input g.S.Hash.hash_input g.H.PartialEq.eq g.S.PartialEq.eq g.met.H.Hash.respects_eq g.met.S.Hash.respects_eq v w e))
+    _ _ c.self.invariant.hashed c.self.view_is c.find.result c.hash_value-hash.result c.find.ensures.found)
 
 pub returns-clause-none : goal.returns-clause-none
 returns-clause-none g c =
     let input = sliced_input g.H.Hash.hash_input g.S.Hash.hash_input in
     let eq = sliced_eq g.H.PartialEq.eq g.S.PartialEq.eq in
     let v : Sliced g.row.H.Denot g.row.S.Denot = record { header = c.args.offer.now.0; items = c.args.offer.now.1.now } in
-    finds_none (sliced_row c.self.inside.items.items) (λ v. hash_by c.self.inside.hasher (input v)) _ eq v
-    (λ r. ap (λ xs. eq v (record { header = r.value; items = take r.note.length (drop r.note.start xs) })) c.as_slice.ensures.value)
-    (λ w e. ap (hash_by c.self.inside.hasher) (sliced_input-same g.H.Hash.hash_input g.S.Hash.hash_input g.H.PartialEq.eq g.S.PartialEq.eq g.met.H.Hash.respects_eq g.met.S.Hash.respects_eq v w e))
-    _ _ c.self.invariant.hashed c.self.view_is c.find.result c.hash_value.result c.hash_value.ensures c.find.ensures.none
+    rw c.ok_or.ensures.value (finds_none (sliced_entry c.self.inside.items.items) (λ v. hash_of (input v)) _ eq v
+    (λ r. ap (λ xs. eq v (record { header = r.value; items = take r.payload.length (drop r.payload.start xs) })) c.as_slice.ensures.value)
+    (λ w e. ap (hash_of) (sliced_input-same g.H.Hash.hash_input g.S.Hash.hash_input g.H.PartialEq.eq g.S.PartialEq.eq g.met.H.Hash.respects_eq g.met.S.Hash.respects_eq v w e))
+    _ _ c.self.invariant.hashed c.self.view_is c.find.result c.hash_value-hash.result c.hash_value-hash.ensures c.find.ensures.none)

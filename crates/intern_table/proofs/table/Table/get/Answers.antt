@@ -1,7 +1,7 @@
 use Rattle.std.proofs.Common.{◌∙◌}
-use Rattle.intern_table.specs.Rows.{kept_row}
+use Rattle.intern_table.specs.Seen.{kept_entry}
 use Rattle.intern_table.proofs.Counted.{read_seen}
 use Rattle.intern_table.proofs.table.Table.get.Goals as goal
 
 pub returns : goal.returns
-returns g c = c.get.ensures ∙ read_seen kept_row _ _ c.self.view_is (λ e. e.value) c.args.spot.birth
+returns g c = c.get.ensures ∙ read_seen kept_entry _ _ c.self.view_is (λ e. e.value) c.args.spot.birth

@@ -1,7 +1,7 @@
 use Rattle.std.proofs.Common.{◌∙◌}
-use Rattle.intern_table.specs.Rows.{kept_row}
+use Rattle.intern_table.specs.Seen.{kept_entry}
 use Rattle.intern_table.proofs.Counted.{read_seen}
 use Rattle.intern_table.proofs.table.TableEntries.count.Goals as goal
 
 pub returns : goal.returns
-returns g c = c.note.ensures ∙ read_seen kept_row _ _ c.self.view_is (λ e. e.count) c.args.spot.birth
+returns g c = c.payload.ensures ∙ read_seen kept_entry _ _ c.self.view_is (λ e. e.count) c.args.spot.birth

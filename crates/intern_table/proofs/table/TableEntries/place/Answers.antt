@@ -1,7 +1,7 @@
-use Rattle.std.proofs.Common.{◌∙◌}
-use Rattle.intern_table.specs.Rows.{kept_row}
-use Rattle.intern_table.proofs.Counted.{is_some_seen}
+use Rattle.std.proofs.Common.{ap, is_some, ◌∙◌}
+use Rattle.intern_table.specs.Seen.{kept_entry}
+use Rattle.intern_table.proofs.Counted.{is_some_seen, placed}
 use Rattle.intern_table.proofs.table.TableEntries.place.Goals as goal
 
 pub returns : goal.returns
-returns g c = c.place.ensures ∙ is_some_seen kept_row _ _ c.self.view_is c.args.birth
+returns g c = ap is_some c.place.ensures ∙ placed kept_entry _ _ c.self.view_is c.args.birth

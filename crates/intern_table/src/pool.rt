@@ -1,0 +1,64 @@
+//! The items of all slices, in one vector.
+ghost use Rattle.std.specs.Prelude.{◌≡◌, ◌<◌, ℕ, length, take, drop};
+ghost use Rattle.std.specs.Option.{option_map};
+ghost use Rattle.std.specs.FinMap.{get};
+ghost use Rattle.intern_table.specs.Joined.{read_entry, IsLaid, IsCovered};
+
+use intern_index::{BirthOrder, Change, Index};
+
+/// Where the items of an entry lie among all, and the entry's count.
+#[derive(Clone, Copy)]
+pub(crate) struct SlicePayload {
+    pub(crate) start: usize,
+    pub(crate) length: usize,
+    pub(crate) count: u64,
+}
+
+/// So many items from a start on, as far as there are any.
+pub(crate) fn part<S>(items: &[S], start: usize, count: usize) -> &[S]
+    ensures { result.now ≡ take count (drop start items.now) }
+{
+    let from = &items[start.min(items.len())..];
+    &from[..count.min(from.len())]
+}
+
+// Another start.
+#[derive(Clone, Copy)]
+struct MoveTo {
+    start: usize,
+}
+
+impl Change<SlicePayload> for MoveTo {
+    ghost changed = { λ c p. record p { start = c.start } };
+
+    fn changed(&self, payload: SlicePayload) -> SlicePayload {
+        SlicePayload {
+            start: self.start,
+            ..payload
+        }
+    }
+}
+
+/// Moves the slices of all entries down to the first items, in the order of births, and cuts the
+/// rest. It takes no memory.
+pub(crate) fn compact<H, S: Copy>(
+    index: &mut Index<H, SlicePayload, BirthOrder>,
+    items: &mut Vec<S>,
+)
+    requires { IsLaid index.old (length items.old.items) }
+    ensures laid { IsLaid index.new (length items.new.items) }
+    ensures same { (b : ℕ) → option_map (read_entry items.new.items) (get index.new b)
+        ≡ option_map (read_entry items.old.items) (get index.old b) }
+    ensures full { (i : ℕ) → i < length items.new.items → IsCovered index.new i }
+{
+    let mut end = 0;
+    for at in 0..index.len() {
+        let spot = index.spot(at).unwrap();
+        let SlicePayload { start, length, .. } = index
+            .change(spot, &MoveTo { start: end })
+            .unwrap();
+        items.copy_within(start..start + length, end);
+        end += length;
+    }
+    items.truncate(end);
+}
