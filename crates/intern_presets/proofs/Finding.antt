@@ -36,7 +36,7 @@ module _ (test : ℕ → Bool) where
           ]
 
 -- the test of a place is whether the text stands there
-stands_at : (o : Option (List ℕ)) (t : List ℕ) → option_eq bytes_eq o (Some t) ≡ true → o ≡ Some t
+pub stands_at : (o : Option (List ℕ)) (t : List ℕ) → option_eq bytes_eq o (Some t) ≡ true → o ≡ Some t
 stands_at None t e = absurd (true≢false (sym e))
 stands_at (Some u) t e = ap Some ((bytes_eq-Decides u t).0 e)
 

@@ -5,16 +5,14 @@ use Rattle.std.specs.Cmp.Lexicographic.{slice_cmp}
 use Rattle.std.specs.Ordering.{nat_cmp}
 use Rattle.std.proofs.lemmas.Bool.{and_parts, cases_lt, lt-ltb, le-ltb}
 use Rattle.std.proofs.lemmas.Fmt.{decimal_injective}
-use Rattle.std.proofs.lemmas.List.Elements.{All-get_or}
-use Rattle.std.proofs.lemmas.List.Sums.{AllPass-from_list_all}
-use Rattle.std.proofs.lemmas.Option.{slice_get_within, slice_get-get_or, get_or_from_slice_get}
+use Rattle.std.proofs.lemmas.Option.{slice_get_within, slice_get-get_or}
 use Rattle.std.proofs.lemmas.Cmp.{nat_list_cmp_total}
 use Rattle.intern_presets.specs.Numbers.{number_value}
 use Rattle.intern_presets.specs.Table.{table}
 use Rattle.intern_presets.specs.Presets.{generated_text, preset_text}
 use Rattle.intern_presets.proofs.Parsed.{number_value-decimal}
 use Rattle.intern_presets.proofs.Rising.{one_index}
-use Rattle.intern_presets.proofs.Computed.{starts_generated, constant_test, all_pass, table_rises, length_of_table}
+use Rattle.intern_presets.proofs.Computed.{passes_at, starts_generated, constant_test, all_pass, table_rises, length_of_table}
 
 -- which text stands at a place
 pub at_low : (p : ℕ) → p < 256 → preset_text p ≡ Some (decimal p)
@@ -33,14 +31,10 @@ at_high p le =
     ap (λ b. cond b (Some (decimal p)) (cond (nat_lt p 512) (Some (generated_text (p - 256))) (slice_get table (p - 512)))) (le-ltb p 256 (omega (arith, le)))
     ∙ ap (λ b. cond b (Some (generated_text (p - 256))) (slice_get table (p - 512))) (le-ltb p 512 le)
 
--- each text of the table passes the computed test
-passed : (i : ℕ) (t : List ℕ) → slice_get table i ≡ Some t → constant_test t ≡ true
-passed i t e =
-    subst (λ u. constant_test u ≡ true) (get_or_from_slice_get table i t t e) (All-get_or (λ u. constant_test u ≡ true) table i t (slice_get_within table i t e) (AllPass-from_list_all constant_test table all_pass))
-
+-- what was computed of each text of the table
 of_table : (i : ℕ) (t : List ℕ) → slice_get table i ≡ Some t → (is_none (number_value t) ≡ true) × (not (starts_generated t) ≡ true)
 unfolding constant_test
-of_table i t e = and_parts (is_none (number_value t)) (not (starts_generated t)) (passed i t e)
+of_table i t e = and_parts (is_none (number_value t)) (not (starts_generated t)) (passes_at constant_test table all_pass i t e)
 
 none_from : (o : Option ℕ) → is_none o ≡ true → o ≡ None
 none_from None h = refl
@@ -97,7 +91,11 @@ middle_is_not_high ds i t is e = absurd (true≢false (sym (of_table i t e).1 �
 pub generated_injective : (m : ℕ) (ds : List ℕ) → codes "<ra@gennew>" ++ ds ≡ generated_text m → ds ≡ decimal m
 generated_injective m ds e = ap (drop 11) e
 
--- no text stands at two places
+-- no text stands at two indices of the table
+one_index_of_table : (i j : ℕ) (t : List ℕ) → slice_get table i ≡ Some t → slice_get table j ≡ Some t → i ≡ j
+one_index_of_table i j t = one_index (slice_cmp nat_cmp) nat_list_cmp_total table table_rises t i j
+
+-- and none at two places
 pub one_place : (p q : ℕ) (t : List ℕ) → preset_text p ≡ Some t → preset_text q ≡ Some t → p ≡ q
 one_place p q t at_p at_q = by (stands p t at_p) (stands q t at_q)
   where
@@ -113,12 +111,19 @@ one_place p q t at_p at_q = by (stands p t at_p) (stands q t at_q)
     by (inr (inl a)) (inr (inr b)) = absurd (middle_is_not_high (decimal a.0) b.0 t a.3 b.2)
     by (inr (inr a)) (inr (inl b)) = absurd (middle_is_not_high (decimal b.0) a.0 t b.3 a.2)
     by (inr (inr a)) (inr (inr b)) =
-        let same = one_index (slice_cmp nat_cmp) nat_list_cmp_total table table_rises t a.0 b.0 a.2 b.2 in
+        let same = one_index_of_table a.0 b.0 t a.2 b.2 in
         omega (arith, same, a.1, b.1)
 
 -- where a text stands at n, it stands there alone
+module _ (text_at : ℕ → Option (List ℕ)) (one : (i j : ℕ) (t : List ℕ) → text_at i ≡ Some t → text_at j ≡ Some t → i ≡ j) where
+  alone_at : (n p : ℕ) (t : List ℕ) → text_at n ≡ Some t → (Some n ≡ Some p) ↔ (text_at p ≡ Some t)
+  alone_at n p t at = (λ e. let same : n ≡ p = cc e in subst (λ k. text_at k ≡ Some t) same at, λ e. ap Some (one n p t at e))
+
 pub alone : (n p : ℕ) (t : List ℕ) → preset_text n ≡ Some t → (Some n ≡ Some p) ↔ (preset_text p ≡ Some t)
-alone n p t at = (λ e. let same : n ≡ p = cc e in subst (λ k. preset_text k ≡ Some t) same at, λ e. ap Some (one_place n p t at e))
+alone = alone_at preset_text one_place
+
+pub alone_in_table : (i j : ℕ) (t : List ℕ) → slice_get table i ≡ Some t → (Some i ≡ Some j) ↔ (slice_get table j ≡ Some t)
+alone_in_table = alone_at (slice_get table) one_index_of_table
 
 -- a text that is in none of the three lists stands nowhere
 pub nowhere : (p : ℕ) (t : List ℕ) → ((n : ℕ) → n < 256 → t ≢ decimal n) → ((m : ℕ) → m < 256 → t ≢ generated_text m) → ((i : ℕ) → slice_get table i ≢ Some t) → preset_text p ≡ Some t → ⊥

@@ -1,3 +1,4 @@
 pub mod Numbers
 pub mod Presets
+pub mod Slots
 pub mod Table

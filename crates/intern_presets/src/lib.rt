@@ -7,6 +7,7 @@
 pub mod laws;
 mod numbers;
 mod places;
+mod slots;
 mod texts;
 
 pub use numbers::{digits, generated, number};

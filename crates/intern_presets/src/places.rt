@@ -1,9 +1,12 @@
 //! The text at a place, and the place of a text.
 ghost use Rattle.std.specs.Prelude.{◌≡◌, ◌<◌, ℕ, ◌↔◌, slice_get, map, Some, decimal};
-ghost use Rattle.std.specs.Option.{option_map};
-ghost use Rattle.intern_presets.specs.Presets.{Rises, preset_text, place_of};
+ghost use Rattle.std.specs.Option.{option_eq, option_map};
+ghost use Rattle.std.specs.Str.{bytes_eq};
+ghost use Rattle.intern_presets.specs.Presets.{preset_text, place_of};
+ghost use Rattle.intern_presets.specs.Table.{table};
 
 use crate::numbers::PREFIX;
+use crate::slots::candidates;
 use crate::texts::{generated_texts, integer_texts, table_texts};
 use itoa::Buffer;
 
@@ -43,8 +46,8 @@ pub fn place(text: &str) -> Option<u16>
             None => None,
         };
     }
-    match index_of(table_texts(), text) {
-        Some(index) => Some(index as u16 + FIRST_CONSTANT),
+    match index_of(text) {
+        Some(index) => Some(index + FIRST_CONSTANT),
         None => None,
     }
 }
@@ -56,15 +59,25 @@ fn text_at<'a>(texts: &[&'a str], index: u16) -> Option<&'a str>
     texts.get(index as usize).copied()
 }
 
-/// Where a text stands among texts that rise.
-fn index_of(texts: &[&str], text: &str) -> Option<usize>
-    requires { Rises (map (λ t. t.now) texts.now) }
-    ensures { (i : ℕ) → (result ≡ Some i) ↔ (slice_get (map (λ t. t.now) texts.now) i ≡ Some text.now) }
+/// Where a text stands among those of the constants.
+fn index_of(text: &str) -> Option<u16>
+    ensures { (i : ℕ) → (result ≡ Some i) ↔ (slice_get table i ≡ Some text.now) }
 {
-    match texts.binary_search(&text) {
-        Ok(index) => Some(index),
-        Err(_) => None,
+    let (first, second) = candidates(text);
+    if stands_at(text, first) {
+        Some(first)
+    } else if stands_at(text, second) {
+        Some(second)
+    } else {
+        None
     }
+}
+
+/// Whether a text is that of the constant at an index.
+fn stands_at(text: &str, index: u16) -> bool
+    ensures { result ≡ option_eq bytes_eq (slice_get table index) (Some text.now) }
+{
+    text_at(table_texts(), index) == Some(text)
 }
 
 /// The number below 256 whose digits the text is.

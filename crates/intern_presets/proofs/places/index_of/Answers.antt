@@ -1,14 +1,7 @@
-use Rattle.std.specs.Ordering.{nat_cmp}
-use Rattle.std.specs.Cmp.Lexicographic.{slice_cmp}
-use Rattle.std.proofs.lemmas.Cmp.{nat_list_cmp_total}
-use Rattle.std.proofs.lemmas.Map.Lookups.{exact_bytes}
-use Rattle.intern_presets.proofs.Rising.{found_at, found_nowhere}
+use Rattle.std.proofs.Common.{sym, ◌∙◌}
+use Rattle.intern_presets.proofs.Standing.{alone_in_table}
+use Rattle.intern_presets.proofs.Finding.{stands_at}
 use Rattle.intern_presets.proofs.places.index_of.Goals as goal
 
-pub returns-in-Ok : goal.returns-in-Ok
-returns-in-Ok c =
-    found_at (slice_cmp nat_cmp) nat_list_cmp_total (λ t. t.now) c.args.texts.now c.requires exact_bytes c.args.text.now c.in-Ok.index c.in-Ok.ensures.bound c.in-Ok.ensures.ok
-
-pub returns-in-Err : goal.returns-in-Err
-returns-in-Err c =
-    found_nowhere (slice_cmp nat_cmp) nat_list_cmp_total (λ t. t.now) c.args.texts.now c.requires exact_bytes c.args.text.now c.in-Err.field-0 c.in-Err.ensures.position
+pub returns-then-stands_at : goal.returns-then-stands_at
+returns-then-stands_at c i = alone_in_table _ i _ (stands_at _ _ (sym c.stands_at.ensures ∙ c.if-stands_at.true))

@@ -1,8 +1,7 @@
-use Rattle.std.proofs.Common.{◌≡◌, ◌<◌, ◌+◌, ◌++◌, Some, codes, slice_get, decimal, refl, sym, ◌∙◌, ap, subst, arith, inl, inr}
+use Rattle.std.proofs.Common.{◌≡◌, ◌<◌, ◌+◌, ◌++◌, codes, decimal, refl, sym, ◌∙◌, ap, subst, arith, inl, inr}
 use Rattle.std.proofs.lemmas.Option.{none-some, slice_get_within}
 use Rattle.intern_presets.specs.Table.{table}
-use Rattle.intern_presets.specs.Presets.{Rises}
-use Rattle.intern_presets.proofs.Computed.{table_rises, length_of_table}
+use Rattle.intern_presets.proofs.Computed.{length_of_table}
 use Rattle.intern_presets.proofs.Standing.{alone, is_preset, generated_injective, nowhere, middle_is_not_high}
 use Rattle.intern_presets.proofs.Finding.{determined}
 use Rattle.intern_presets.proofs.places.place.Goals as goal
@@ -33,24 +32,15 @@ returns-in-None c =
           e),
     ))
 
-pub index_of-requires : goal.index_of-requires
-index_of-requires c = subst Rises (sym c.table_texts.ensures) table_rises
-
--- the place that the index_of finds is in the table
-within : (c : goal.In-Some-index_of) → c.in-Some-index_of.index < 535
-within c =
-    let is : slice_get table c.in-Some-index_of.index ≡ Some c.args.text.now = subst (λ ts. slice_get ts c.in-Some-index_of.index ≡ Some c.args.text.now) c.table_texts.ensures ((c.in-Some-index_of.ensures c.in-Some-index_of.index).0 refl) in
-    subst (λ n. c.in-Some-index_of.index < n) length_of_table (slice_get_within table c.in-Some-index_of.index c.args.text.now is)
-
-pub overflow_cast-result-in-Some-index_of : goal.overflow_cast-result-in-Some-index_of
-overflow_cast-result-in-Some-index_of c = omega (arith, within c)
-
 pub overflow_add-result-in-Some-index_of : goal.overflow_add-result-in-Some-index_of
-overflow_add-result-in-Some-index_of c = omega (arith, within c)
+overflow_add-result-in-Some-index_of c =
+    let is = (c.in-Some-index_of.ensures c.in-Some-index_of.index).0 refl in
+    let within : c.in-Some-index_of.index < 535 = subst (λ n. c.in-Some-index_of.index < n) length_of_table (slice_get_within table c.in-Some-index_of.index c.args.text.now is) in
+    omega (arith, within)
 
 pub returns-in-Some-index_of : goal.returns-in-Some-index_of
 returns-in-Some-index_of c =
-    let is : slice_get table c.in-Some-index_of.index ≡ Some c.args.text.now = subst (λ ts. slice_get ts c.in-Some-index_of.index ≡ Some c.args.text.now) c.table_texts.ensures ((c.in-Some-index_of.ensures c.in-Some-index_of.index).0 refl) in
+    let is = (c.in-Some-index_of.ensures c.in-Some-index_of.index).0 refl in
     determined c.args.text.now _ (λ p. alone (c.in-Some-index_of.index + 512) p c.args.text.now (is_preset _ _ (inr (inr (c.in-Some-index_of.index, refl, is)))))
 
 pub returns-in-None-index_of : goal.returns-in-None-index_of
@@ -61,6 +51,6 @@ returns-in-None-index_of c =
       λ e. absurd (nowhere p t
           (λ n lt is. absurd (cc ((c.small_number.ensures n).1 (lt, is), c.in_default.is)))
           (λ m lt is. c.in_default-strip_prefix.ensures.cases (decimal m) is)
-          (λ i at. none-some i ((c.in-None-index_of.ensures i).1 (subst (λ ts. slice_get ts i ≡ Some t) (sym c.table_texts.ensures) at)))
+          (λ i at. none-some i ((c.in-None-index_of.ensures i).1 at))
           e),
     ))
