@@ -4,15 +4,18 @@ use anyhow::{Result, bail, ensure};
 
 /// How the program is called.
 pub(crate) const USAGE: &str =
-    "usage: intern_bench NAME GROUP N, where GROUP is sym, val or slice and N is a number of entries";
+    "usage: intern_bench NAME GROUP N, where GROUP is sym, val, churn or slice \
+     and N is a number of entries";
 
-/// What is stored.
+/// What is stored, and what happens to it.
 #[derive(Clone, Copy)]
 pub(crate) enum Group {
     /// Symbols of texts.
     Symbols,
     /// Counted values of 64 bits.
     Values,
+    /// Such values, which come and go.
+    Churn,
     /// Collected slices of four items.
     Slices,
 }
@@ -22,17 +25,9 @@ impl Group {
         match name {
             "sym" => Ok(Group::Symbols),
             "val" => Ok(Group::Values),
+            "churn" => Ok(Group::Churn),
             "slice" => Ok(Group::Slices),
             _ => bail!("no group {name:?}"),
-        }
-    }
-
-    /// The group's name on the command line and in the report.
-    pub(crate) fn name(self) -> &'static str {
-        match self {
-            Group::Symbols => "sym",
-            Group::Values => "val",
-            Group::Slices => "slice",
         }
     }
 }
@@ -42,6 +37,8 @@ impl Group {
 pub(crate) struct Job<'a> {
     /// What the report calls the library.
     pub(crate) name: &'a str,
+    /// What it calls the group.
+    pub(crate) group_name: &'a str,
     /// What is stored.
     pub(crate) group: Group,
     /// How many entries there are.
@@ -51,7 +48,7 @@ pub(crate) struct Job<'a> {
 impl<'a> Job<'a> {
     /// Reads the arguments, the first of which is the program's name.
     pub(crate) fn parse(words: &'a [String]) -> Result<Job<'a>> {
-        let [_, name, group, entries] = words else {
+        let [_, name, group_name, entries] = words else {
             bail!(
                 "{} arguments in the place of 3",
                 words.len().saturating_sub(1)
@@ -59,7 +56,8 @@ impl<'a> Job<'a> {
         };
         Ok(Job {
             name: name.as_str(),
-            group: Group::parse(group.as_str())?,
+            group_name: group_name.as_str(),
+            group: Group::parse(group_name.as_str())?,
             entries: parse_entries(entries.as_str())?,
         })
     }

@@ -2,7 +2,9 @@
 #![tactic(auto)]
 
 mod arguments;
-mod measure;
+mod churn;
+mod loops;
+mod memory;
 mod numbers;
 mod report;
 mod slices;
@@ -13,7 +15,7 @@ mod workload;
 
 use anyhow::Result;
 use arguments::{Group, Job, USAGE};
-use measure::Memory;
+use memory::Memory;
 use ra_ap_intern::{InternSliceStorage, InternStorage, SymbolTable};
 use slices::Row;
 use std::alloc::Global;
@@ -28,9 +30,10 @@ const WRONG_ARGUMENTS: u8 = 2;
 
 fn measure_group(rt: &(impl Clock + Memory + Print), alloc: Global, job: &Job<'_>) -> Result<()> {
     match job.group {
-        Group::Symbols => workload::measure::<SymbolTable>(rt, alloc, job, &COUNTED),
-        Group::Values => workload::measure::<InternStorage<Number>>(rt, alloc, job, &COUNTED),
-        Group::Slices => workload::measure::<InternSliceStorage<Row>>(rt, alloc, job, &SLICES),
+        Group::Symbols => workload::measure_all::<SymbolTable>(rt, alloc, job, &COUNTED),
+        Group::Values => workload::measure_all::<InternStorage<Number>>(rt, alloc, job, &COUNTED),
+        Group::Churn => churn::measure_all::<InternStorage<Number>>(rt, alloc, job),
+        Group::Slices => workload::measure_all::<InternSliceStorage<Row>>(rt, alloc, job, &SLICES),
     }
 }
 

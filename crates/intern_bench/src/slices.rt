@@ -58,11 +58,6 @@ impl Storage for InternSliceStorage<Row> {
         }
     }
 
-    // A reference counts nothing, so it serves itself.
-    fn filler(&self, handle: &InternedSliceRef<Row>) -> Result<InternedSliceRef<Row>, Refusal> {
-        Ok(*handle)
-    }
-
     // The header, the number of items, and the items.
     fn read(&self, handle: &InternedSliceRef<Row>) -> Result<u64, Refusal> {
         let Some(row) = handle.get(self) else {

@@ -27,9 +27,6 @@ pub(crate) trait Storage: Sized + Drop {
     /// Stores an input if it isn't, and names its entry.
     fn intern(&mut self, input: &Self::Input) -> Result<Self::Handle, Refusal>;
 
-    /// A handle that counts nothing, made beside one that was interned.
-    fn filler(&self, handle: &Self::Handle) -> Result<Self::Handle, Refusal>;
-
     /// What the entry of a handle adds to the sum of all that is read.
     fn read(&self, handle: &Self::Handle) -> Result<u64, Refusal>;
 

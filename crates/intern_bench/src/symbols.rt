@@ -30,10 +30,6 @@ impl Storage for SymbolTable {
         Symbol::intern(self, input.as_str())
     }
 
-    fn filler(&self, _handle: &Symbol) -> Result<Symbol, Refusal> {
-        Ok(Symbol::empty())
-    }
-
     // The text's length and its last byte.
     fn read(&self, handle: &Symbol) -> Result<u64, Refusal> {
         let Some(text) = handle.as_str(self) else {

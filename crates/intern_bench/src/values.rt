@@ -44,11 +44,6 @@ impl Storage for InternStorage<Number> {
         }
     }
 
-    fn filler(&self, handle: &Interned<Number>) -> Result<Interned<Number>, Refusal> {
-        let birth = handle.as_ref().as_raw();
-        Interned::from_raw(self, birth)
-    }
-
     fn read(&self, handle: &Interned<Number>) -> Result<u64, Refusal> {
         match handle.get(self) {
             Some(Number(value)) => Ok(*value),

@@ -1,14 +1,17 @@
-//! The loops that are timed, over any storage.
+//! The workloads in which entries are stored, read and released.
 use crate::arguments::Job;
-use crate::measure::{Memory, Start};
-use crate::numbers::{Generator, scatter};
+use crate::loops::{
+    check_entries, draw_inputs, intern_all, intern_at, make_room, release_all, sum_at,
+};
+use crate::memory::Memory;
+use crate::numbers::{Generator, scattered};
 use crate::report::Measurement;
 use crate::storage::Storage;
-use anyhow::{Result, ensure};
-use ra_ap_intern::Refusal;
+use anyhow::Result;
 use std::alloc::{AllocError, Global};
 use std::mem;
 use std::rt::Clock;
+use std::time::Instant;
 
 /// One of the loops that are timed.
 #[derive(Clone, Copy)]
@@ -42,16 +45,15 @@ pub(crate) const SLICES: [(&str, Step); 3] = [
 ];
 
 /// Measures the steps over a storage, and prints a line for each.
-pub(crate) fn measure<S: Storage>(
+pub(crate) fn measure_all<S: Storage>(
     rt: &(impl Clock + Memory + Print),
     alloc: Global,
     job: &Job<'_>,
     steps: &[(&'static str, Step)],
 ) -> Result<()> {
-    let mut workload = Workload::<S>::new(alloc);
-    workload.prepare(alloc, job.entries)?;
+    let mut workload = Workload::<S>::prepare(alloc, job.entries)?;
     for (metric, step) in steps {
-        workload.arrange(*step);
+        workload.arrange(alloc, *step)?;
         workload.measure(rt, metric, *step)?.print(rt, job)?;
     }
     Ok(())
@@ -61,8 +63,8 @@ pub(crate) fn measure<S: Storage>(
 #[derive(Drop)]
 struct Workload<S: Storage> {
     storage: S,
-    // How many entries the warm-up left.
-    left: usize,
+    // How many entries there are once every input is stored.
+    entries: usize,
     inputs: Vec<S::Input>,
     // The places of the inputs, in the order of hits and reads.
     order: Vec<usize>,
@@ -70,72 +72,55 @@ struct Workload<S: Storage> {
     handles: Vec<S::Handle>,
     // The handles of the stored ones.
     hits: Vec<S::Handle>,
-    // Where the first are put into the order of hits and reads.
-    sorted: Vec<S::Handle>,
 }
 
 impl<S: Storage> Workload<S> {
-    fn new(alloc: Global) -> Workload<S> {
-        Workload {
-            storage: S::make(alloc),
-            left: 0,
-            inputs: Vec::new(alloc),
-            order: Vec::new(alloc),
-            handles: Vec::new(alloc),
-            hits: Vec::new(alloc),
-            sorted: Vec::new(alloc),
-        }
-    }
-
-    fn prepare(&mut self, alloc: Global, entries: usize) -> Result<()> {
-        let mut generator = Generator::new();
-        draw_inputs::<S>(alloc, &mut generator, entries, &mut self.inputs)?;
+    fn prepare(alloc: Global, entries: usize) -> Result<Workload<S>> {
+        let mut generator = Generator::of_inputs();
+        let inputs = draw_inputs::<S>(alloc, entries, &mut generator)?;
         let extra = S::input(alloc, entries, &mut generator)?;
-        scatter(&mut self.order, entries)?;
-        self.warm_up(&extra, entries)?;
+        let mut storage = S::make(alloc);
+        let warm_up = storage.intern(&extra)?;
+        let handles = make_room(alloc, &mut storage, &extra, entries)?;
+        let hits = make_room(alloc, &mut storage, &extra, entries)?;
+        storage.release(warm_up)?;
+        Ok(Workload {
+            entries: storage.entries().saturating_add(entries),
+            storage,
+            inputs,
+            order: scattered(alloc, entries)?,
+            handles,
+            hits,
+        })
+    }
+
+    // Entries are removed in the order of hits and reads.
+    fn arrange(&mut self, alloc: Global, step: Step) -> Result<(), AllocError> {
+        if let Step::Removals = step {
+            let handles = mem::try_take(&mut self.handles)?;
+            self.handles = gathered(alloc, handles, &self.order)?;
+        }
         Ok(())
     }
 
-    // Interns one entry, and removes it.
-    fn warm_up(&mut self, extra: &S::Input, entries: usize) -> Result<(), Refusal> {
-        let handle = self.storage.intern(extra)?;
-        fill(&self.storage, &handle, entries, &mut self.handles)?;
-        fill(&self.storage, &handle, entries, &mut self.hits)?;
-        fill(&self.storage, &handle, entries, &mut self.sorted)?;
-        self.handles.clear();
-        self.hits.clear();
-        self.storage.release(handle)?;
-        self.left = self.storage.entries();
-        Ok(())
-    }
-
-    // What a step needs done before it is timed.
-    fn arrange(&mut self, step: Step) {
+    fn run(&mut self, step: Step) -> Result<u64> {
+        let storage = &mut self.storage;
+        let mut check = 0;
         match step {
-            Step::Releases => self.hits.reverse(),
-            Step::Removals => {
-                gather(&mut self.handles, &self.order, &mut self.sorted);
-                self.sorted.reverse();
-            }
-            _ => {}
+            Step::Fresh => intern_all(storage, &self.inputs, &mut self.handles)?,
+            Step::Hits => intern_at(storage, &self.inputs, &self.order, &mut self.hits)?,
+            Step::Reads => check = sum_at(storage, &self.handles, &self.order)?,
+            Step::Releases => release_all(storage, mem::try_take(&mut self.hits)?.into_iter())?,
+            Step::Removals => release_all(storage, mem::try_take(&mut self.handles)?.into_iter())?,
         }
-    }
-
-    fn run(&mut self, step: Step) -> Result<u64, Refusal> {
-        match step {
-            Step::Fresh => intern_all(&mut self.storage, &self.inputs, &mut self.handles),
-            Step::Hits => intern_at(&mut self.storage, &self.inputs, &self.order, &mut self.hits),
-            Step::Reads => sum_at(&self.storage, &self.handles, &self.order),
-            Step::Releases => release_all(&mut self.storage, &mut self.hits),
-            Step::Removals => release_all(&mut self.storage, &mut self.sorted),
-        }
+        Ok(check)
     }
 
     // How many entries there must be after a step.
     fn entries_after(&self, step: Step) -> usize {
         match step {
             Step::Removals => 0,
-            _ => self.left.saturating_add(self.inputs.len()),
+            _ => self.entries,
         }
     }
 
@@ -145,111 +130,34 @@ impl<S: Storage> Workload<S> {
         metric: &'static str,
         step: Step,
     ) -> Result<Measurement> {
-        let start = Start::now(rt)?;
+        let before = rt.now()?;
+        let start = Instant::now(rt)?;
         let check = self.run(step)?;
-        let taken = start.taken(rt)?;
-        ensure!(
-            self.storage.entries() == self.entries_after(step),
-            "a loop left a wrong number of entries"
-        );
+        let time = start.elapsed(rt)?;
+        let memory = match step {
+            Step::Fresh => rt.peak()?.saturating_sub(before),
+            _ => 0,
+        };
+        check_entries(&self.storage, self.entries_after(step))?;
         Ok(Measurement {
-            metric,
-            operations: self.inputs.len(),
-            nanoseconds: taken.nanoseconds,
-            memory: match step {
-                Step::Fresh => taken.memory,
-                _ => 0,
-            },
-            check,
+            memory,
+            ..Measurement::of_time(metric, self.inputs.len(), time, check)
         })
     }
 }
 
-fn draw_inputs<S: Storage>(
+// The handles in the order of these places.
+fn gathered<H: Drop>(
     alloc: Global,
-    generator: &mut Generator,
-    entries: usize,
-    inputs: &mut Vec<S::Input>,
-) -> Result<(), AllocError> {
-    inputs.reserve(entries)?;
-    for place in 0..entries {
-        inputs.push(S::input(alloc, place, generator)?)?;
-    }
-    Ok(())
-}
-
-// Fills room for handles, so that the system has given all its pages and no loop's time or memory
-// counts them.
-fn fill<S: Storage>(
-    storage: &S,
-    handle: &S::Handle,
-    entries: usize,
-    room: &mut Vec<S::Handle>,
-) -> Result<(), Refusal> {
-    let Ok(()) = room.reserve(entries) else {
-        return Err(Refusal::OutOfMemory);
-    };
-    for _ in 0..entries {
-        let Ok(()) = room.push(storage.filler(handle)?) else {
-            return Err(Refusal::OutOfMemory);
-        };
-    }
-    Ok(())
-}
-
-// Takes the handles in the order of these places.
-fn gather<H>(handles: &mut [H], order: &[usize], sorted: &mut [H]) {
-    for (slot, place) in sorted.iter_mut().zip(order) {
-        if let Some(handle) = handles.get_mut(*place) {
-            mem::swap(slot, handle);
-        }
-    }
-}
-
-fn intern_all<S: Storage>(
-    storage: &mut S,
-    inputs: &[S::Input],
-    handles: &mut Vec<S::Handle>,
-) -> Result<u64, Refusal> {
-    for input in inputs {
-        let Ok(()) = handles.push(storage.intern(input)?) else {
-            return Err(Refusal::OutOfMemory);
-        };
-    }
-    Ok(0)
-}
-
-fn intern_at<S: Storage>(
-    storage: &mut S,
-    inputs: &[S::Input],
+    handles: Vec<H>,
     order: &[usize],
-    handles: &mut Vec<S::Handle>,
-) -> Result<u64, Refusal> {
-    for place in order {
-        let Some(input) = inputs.get(*place) else {
-            return Err(Refusal::Gone);
-        };
-        let Ok(()) = handles.push(storage.intern(input)?) else {
-            return Err(Refusal::OutOfMemory);
-        };
-    }
-    Ok(0)
-}
-
-fn sum_at<S: Storage>(storage: &S, handles: &[S::Handle], order: &[usize]) -> Result<u64, Refusal> {
-    let mut sum = 0u64;
-    for place in order {
-        let Some(handle) = handles.get(*place) else {
-            return Err(Refusal::Gone);
-        };
-        sum = sum.wrapping_add(storage.read(handle)?);
-    }
-    Ok(sum)
-}
-
-fn release_all<S: Storage>(storage: &mut S, handles: &mut Vec<S::Handle>) -> Result<u64, Refusal> {
-    while let Some(handle) = handles.pop() {
-        storage.release(handle)?;
-    }
-    Ok(0)
+) -> Result<Vec<H>, AllocError> {
+    let mut slots = handles
+        .into_iter()
+        .map(Some)
+        .collect::<Vec<Option<H>>>(alloc)?;
+    order
+        .iter()
+        .filter_map(|place| slots.get_mut(*place)?.take())
+        .collect(alloc)
 }

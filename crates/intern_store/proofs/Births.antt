@@ -1,40 +1,24 @@
 -- The birth of a value, as the map's entries give it and as look-ups do.
-use Rattle.std.proofs.Common.{◌≡◌, ◌≢◌, ℕ, Bool, true, false, cond, List, [], ◌∷◌, Option, Some, None, Result, Ok, Err, IfOk, OnErr, nat_eq, ◌&&◌, refl, sym, ap, subst, ◌∙◌, arith}
+use Rattle.std.proofs.Common.{◌≡◌, ◌≢◌, ℕ, Bool, true, false, cond, List, [], ◌∷◌, Option, Some, None, Result, Ok, Err, IfOk, OnErr, refl, sym, ap, ◌∙◌, arith}
 use Rattle.std.specs.Prelude.{T}
 use Rattle.std.specs.Option.{option_map}
 use Rattle.std.specs.Result.{result_ok}
 use Rattle.std.specs.List.{find}
-use Rattle.std.specs.Ordering.{nat_cmp, eq_by_cmp, is_lt}
+use Rattle.std.specs.Ordering.{nat_cmp, eq_by_cmp}
 use Rattle.std.specs.Cmp.{IsEquivalence}
 use Rattle.std.specs.FinMap.{get, entries, get-entries, entries_sorted, is_sorted}
 use Rattle.std.specs.FinMap.Entries as entry
-use Rattle.std.proofs.lemmas.Bool.{eq-eqb, ne_eqb, eqb-true}
-use Rattle.std.proofs.lemmas.Grind.{common_steps}
+use Rattle.std.proofs.lemmas.Bool.{eq-eqb, ne_eqb}
 use Rattle.intern_store.specs.Kept.{Kept, is_at}
 use Rattle.intern_store.specs.State.{State, IsState, birth_of}
 use Rattle.intern_store.proofs.Compared.{tied}
-
-split : (a b : Bool) → T (a && b) → T a × T b
-split true b h = (tt, h)
-split false b h = absurd h
-
-not_less : (x : ℕ) → T (is_lt (nat_cmp x x)) → ⊥
-not_less x h = grind (arith, common_steps)
+use Rattle.intern_store.proofs.Sorted.{parts, above_all}
 
 module _ {X : Type 0} where
-  -- a key that is found is above a key that is below all
-  above : (x q : ℕ) (v : X) (es : List (ℕ × X)) → T (entry.below_all nat_cmp x es) → entry.find nat_cmp q es ≡ Some v → T (is_lt (nat_cmp x q))
-  above x q v [] h e = absurd (cc)
-  above x q v (y ∷ ys) h e = go (split _ _ h).0 (above x q v ys (split _ _ h).1) (eq_by_cmp nat_cmp q y.0) (sym (tied q y.0)) e
-    where
-      go : T (is_lt (nat_cmp x y.0)) → (entry.find nat_cmp q ys ≡ Some v → T (is_lt (nat_cmp x q))) → (t : Bool) → nat_eq q y.0 ≡ t → cond t (Some y.1) (entry.find nat_cmp q ys) ≡ Some v → T (is_lt (nat_cmp x q))
-      go here later true t e = subst (λ z. T (is_lt (nat_cmp x z))) (sym (eqb-true q y.0 t)) here
-      go here later false t e = later e
-
   -- the first entry that passes a test is the entry of its key
   first_found : (p : ℕ × X → Bool) (es : List (ℕ × X)) (e : ℕ × X) → T (is_sorted nat_cmp es) → find p es ≡ Some e → (entry.find nat_cmp e.0 es ≡ Some e.1) × (p e ≡ true)
   first_found p [] e sorted is = absurd (cc)
-  first_found p (x ∷ xs) e sorted is = go (first_found p xs e (split _ _ sorted).1) (p x) refl is
+  first_found p (x ∷ xs) e sorted is = go (first_found p xs e (parts _ _ sorted).1) (p x) refl is
     where
       go : (find p xs ≡ Some e → (entry.find nat_cmp e.0 xs ≡ Some e.1) × (p e ≡ true)) → (t : Bool) → p x ≡ t → cond t (Some x) (find p xs) ≡ Some e → (cond (eq_by_cmp nat_cmp e.0 x.0) (Some x.1) (entry.find nat_cmp e.0 xs) ≡ Some e.1) × (p e ≡ true)
       go later true t is =
@@ -42,8 +26,8 @@ module _ {X : Type 0} where
           (ap (λ b. cond b (Some x.1) (entry.find nat_cmp e.0 xs)) (tied e.0 x.0 ∙ eq-eqb e.0 x.0 (ap (λ y. y.0) (sym same))) ∙ ap (λ y. Some y.1) same, ap p (sym same) ∙ t)
       go later false t is =
           let rest = later is in
-          let higher = above x.0 e.0 e.1 xs (split _ _ sorted).0 rest.0 in
-          let differs : e.0 ≢ x.0 = λ same. not_less x.0 (subst (λ z. T (is_lt (nat_cmp x.0 z))) same higher) in
+          let higher = above_all x.0 e.0 e.1 xs (parts _ _ sorted).0 rest.0 in
+          let differs : e.0 ≢ x.0 = λ same. absurd (omega (arith, higher, same)) in
           (ap (λ b. cond b (Some x.1) (entry.find nat_cmp e.0 xs)) (tied e.0 x.0 ∙ ne_eqb e.0 x.0 differs) ∙ rest.0, rest.1)
 
   -- where no entry passes, none that a key finds does

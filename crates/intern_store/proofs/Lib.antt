@@ -1,6 +1,8 @@
+pub mod Chosen
 pub mod Compared
 pub mod Later
 pub mod Maps
+pub mod Sorted
 pub mod States
 mod Births
 pub mod Reading

@@ -1,5 +1,5 @@
 -- What a map has once each value is turned into another.
-use Rattle.std.proofs.Common.{◌≡◌, ℕ, Bool, true, false, cond, ◌&&◌, List, [], ◌∷◌, length, Option, Some, None, refl, sym, ap, ◌∙◌, subst}
+use Rattle.std.proofs.Common.{◌≡◌, ℕ, Bool, true, false, cond, ◌&&◌, List, [], ◌∷◌, length, ◌<◌, Option, Some, None, IsSome, is_some, refl, sym, ap, ◌∙◌, subst}
 use Rattle.std.specs.Prelude.{T, map as list_map}
 use Rattle.std.proofs.lemmas.List.{length-map}
 use Rattle.std.specs.Option.{option_map}
@@ -74,6 +74,30 @@ module _ {X Y : Type 0} (f : X → Y) where
       through : (t : Bool) (o : Option X) → option_map f (cond t o None) ≡ cond t (option_map f o) None
       through true o = refl
       through false o = refl
+
+module _ {X Y : Type 0} (f : X → Y) (m : FinMap nat_cmp X) (k : FinMap nat_cmp Y) (view : map_values f m ≡ k) where
+  -- what is seen at a birth
+  pub seen : (b : ℕ) → get k b ≡ option_map f (get m b)
+  seen b = ap (λ n. get n b) (sym view) ∙ get-map_values f m b
+
+  -- and read of it
+  pub read_seen : {Z : Type 0} (g : Y → Z) (b : ℕ) → option_map (λ x. g (f x)) (get m b) ≡ option_map g (get k b)
+  read_seen {Z} g b = go (get m b) ∙ sym (ap (option_map g) (seen b))
+    where
+      go : (o : Option X) → option_map (λ x. g (f x)) o ≡ option_map g (option_map f o)
+      go None = refl
+      go (Some x) = refl
+
+  pub is_some_seen : (b : ℕ) → is_some (get m b) ≡ is_some (get k b)
+  is_some_seen b = go (get m b) ∙ sym (ap is_some (seen b))
+    where
+      go : (o : Option X) → is_some o ≡ is_some (option_map f o)
+      go None = refl
+      go (Some x) = refl
+
+  -- a birth above all that are seen is above all
+  pub all_below : (b : ℕ) → ((c : ℕ) → IsSome (get k c) → c < b) → (c : ℕ) → IsSome (get m c) → c < b
+  all_below b above c some = above c (sym (is_some_seen c) ∙ some)
 
 -- two turns that agree on the values of a map
 pub map_values-same : {X Y : Type 0} (f g : X → Y) (m : FinMap nat_cmp X) → ((q : ℕ) (x : X) → get m q ≡ Some x → f x ≡ g x) → map_values f m ≡ map_values g m

@@ -1,5 +1,5 @@
 -- A finite map from births, seen as another.
-use Rattle.std.specs.Prelude.{ℕ, map as list_map}
+use Rattle.std.specs.Prelude.{map as list_map}
 use Rattle.std.specs.Ordering.{nat_cmp}
 use Rattle.std.specs.FinMap.{FinMap, entries, from_sorted}
 

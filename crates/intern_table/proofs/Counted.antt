@@ -1,5 +1,5 @@
 -- What an index has, and the entries that it is seen as.
-use Rattle.std.proofs.Common.{◌≡◌, ℕ, ◌<◌, Bool, true, false, cond, Option, Some, None, IsSome, IfSome, IfNone, is_some, nat_eq, Result, Ok, Err, IfOk, OnOk, OnErr, refl, sym, ap, subst, ◌∙◌}
+use Rattle.std.proofs.Common.{◌≡◌, ℕ, Bool, true, false, cond, Option, Some, None, IfSome, IfNone, is_some, nat_eq, Result, Ok, Err, IfOk, OnOk, OnErr, refl, sym, ap, subst, ◌∙◌}
 use Rattle.std.specs.Option.{option_map, ok_or}
 use Rattle.std.specs.Ordering.{nat_cmp}
 use Rattle.std.specs.FinMap.{FinMap, empty, get, insert, remove, retain_keys, get-empty}
@@ -11,7 +11,7 @@ use Rattle.intern_store.specs.declared.names.Spot.{Spot}
 use Rattle.intern_index.specs.IndexEntry.{IndexEntry, has_hash, is_sought, with_payload}
 use Rattle.intern_store.specs.Maps.{map_values}
 use Rattle.intern_table.specs.Seen.{IsHashed}
-use Rattle.intern_store.proofs.Maps.{get-map_values, map_values-insert}
+use Rattle.intern_store.proofs.Maps.{map_values-insert, seen, is_some_seen}
 
 -- a test is false, if from its truth it follows that it is false
 settled : (t listed : Bool) → (t ≡ true → listed ≡ true) → (listed ≡ true → t ≡ false) → t ≡ false
@@ -24,47 +24,13 @@ ok_then (Err e) f p = p
 
 module _ {T N V : Type 0} (entry : IndexEntry T N → Kept V) where
   module _ (m : FinMap nat_cmp (IndexEntry T N)) (k : FinMap nat_cmp (Kept V)) (view : map_values entry m ≡ k) where
-    -- the entry of a birth is that of its row
-    pub seen : (b : ℕ) → get k b ≡ option_map entry (get m b)
-    seen b = ap (λ n. get n b) (sym view) ∙ get-map_values entry m b
-
-    -- what is read of an entry is what is read of its row
-    pub read_seen : {X : Type 0} (f : Kept V → X) (b : ℕ) → option_map (λ r. f (entry r)) (get m b) ≡ option_map f (get k b)
-    read_seen {X} f b = go (get m b) ∙ sym (ap (option_map f) (seen b))
-      where
-        go : (o : Option (IndexEntry T N)) → option_map (λ r. f (entry r)) o ≡ option_map f (option_map entry o)
-        go None = refl
-        go (Some r) = refl
-
-    pub is_some_seen : (b : ℕ) → is_some (get m b) ≡ is_some (get k b)
-    is_some_seen b = go (get m b) ∙ sym (ap is_some (seen b))
-      where
-        go : (o : Option (IndexEntry T N)) → is_some o ≡ is_some (option_map entry o)
-        go None = refl
-        go (Some r) = refl
-
     -- an entry that is seen has a place
     pub placed : (b : ℕ) → is_some (option_map (λ r. r.place) (get m b)) ≡ is_some (get k b)
-    placed b = go (get m b) ∙ is_some_seen b
+    placed b = go (get m b) ∙ is_some_seen entry m k view b
       where
         go : (o : Option (IndexEntry T N)) → is_some (option_map (λ r. r.place) o) ≡ is_some o
         go None = refl
         go (Some r) = refl
-
-    -- an entry has a row, and where there is none there is no row
-    pub row_of : (b : ℕ) (e : Kept V) → get k b ≡ Some e → (r : IndexEntry T N) × (get m b ≡ Some r) × (entry r ≡ e)
-    row_of b e had = go (get m b) refl (sym (seen b) ∙ had)
-      where
-        go : (o : Option (IndexEntry T N)) → get m b ≡ o → option_map entry o ≡ Some e → (r : IndexEntry T N) × (get m b ≡ Some r) × (entry r ≡ e)
-        go None at is = absurd (cc)
-        go (Some r) at is = (r, at, same_Some _ _ is)
-
-    pub has_row : (b : ℕ) → IsSome (get k b) → IsSome (get m b)
-    has_row b some = is_some_seen b ∙ some
-
-    -- a birth above those of all entries is above those of all rows
-    pub all_below : (b : ℕ) → ((c : ℕ) → IsSome (get k c) → c < b) → (c : ℕ) → IsSome (get m c) → c < b
-    all_below b above c some = above c (sym (is_some_seen c) ∙ some)
 
   module _ (hash : V → ℕ) where
     pub empty_hashed : (m : FinMap nat_cmp (IndexEntry T N)) → m ≡ empty → IsHashed entry hash m
@@ -109,7 +75,7 @@ module _ {T N V : Type 0} (entry : IndexEntry T N → Kept V) where
             go (Some r) at changed = added_hashed m n b (record r { payload = f r.payload }) is (is.hashed b r at ∙ ap (λ e. hash e.value) (sym (counts r))) changed
 
         pub changed_seen : map_values entry n ≡ recounted g k b (get k b)
-        changed_seen = go (get m b) changed ∙ ap (recounted g k b) (sym (seen m k view b))
+        changed_seen = go (get m b) changed ∙ ap (recounted g k b) (sym (seen entry m k view b))
           where
             go : (o : Option (IndexEntry T N)) → n ≡ with_payload f m b o → map_values entry n ≡ recounted g k b (option_map entry o)
             go None changed = ap (map_values entry) changed ∙ view
@@ -124,7 +90,7 @@ module _ {T N V : Type 0} (entry : IndexEntry T N → Kept V) where
       where
         -- what is sought in a row is what is at its entry
         sought_seen : (b : ℕ) → is_sought fits (get m b) ≡ is_at eq v (get k b)
-        sought_seen b = go (get m b) ∙ sym (ap (is_at eq v) (seen m k view b))
+        sought_seen b = go (get m b) ∙ sym (ap (is_at eq v) (seen entry m k view b))
           where
             go : (o : Option (IndexEntry T N)) → is_sought fits o ≡ is_at eq v (option_map entry o)
             go None = refl
@@ -132,7 +98,7 @@ module _ {T N V : Type 0} (entry : IndexEntry T N → Kept V) where
 
         -- an entry whose value equals v has the hash of v
         candidate : (b : ℕ) → is_at eq v (get k b) ≡ true → has_hash (hash v) (get m b) ≡ true
-        candidate b equal = go (get m b) refl (ap (is_at eq v) (sym (seen m k view b)) ∙ equal)
+        candidate b equal = go (get m b) refl (ap (is_at eq v) (sym (seen entry m k view b)) ∙ equal)
           where
             go : (o : Option (IndexEntry T N)) → get m b ≡ o → is_at eq v (option_map entry o) ≡ true → has_hash (hash v) o ≡ true
             go None at e = absurd (cc)

@@ -19,8 +19,9 @@ use Rattle.intern_table.specs.Sliced.{Sliced, sliced_eq, sliced_input}
 use Rattle.intern_table.specs.Read.{shown}
 use Rattle.intern_table.specs.Joined.{end_of, read_entry, sliced_entry, IsLaid, IsJoined}
 use Rattle.intern_table.specs.declared.pool.SlicePayload.{SlicePayload}
-use Rattle.intern_table.proofs.Chosen.{here, away}
-use Rattle.intern_table.proofs.Counted.{read_seen, empty_hashed, retained_hashed, added_hashed, changed_hashed, changed_seen}
+use Rattle.intern_store.proofs.Chosen.{here, away}
+use Rattle.intern_store.proofs.Maps.{read_seen}
+use Rattle.intern_table.proofs.Counted.{empty_hashed, retained_hashed, added_hashed, changed_hashed, changed_seen}
 use Rattle.intern_store.proofs.Maps.{get-map_values, map_values-insert, map_values-retain, map_values-same}
 
 -- equal headers and lists feed a hasher the same

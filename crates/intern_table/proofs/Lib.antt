@@ -1,4 +1,3 @@
-mod Chosen
 mod Counted
 mod Joins
 mod Moves

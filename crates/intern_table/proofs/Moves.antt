@@ -1,29 +1,19 @@
 -- The slices of entries, moved down one by one in the order of births.
-use Rattle.std.proofs.Common.{◌≡◌, ◌≢◌, ◌⊎◌, inl, inr, ℕ, zero, suc, ◌+◌, ◌-◌, ◌<◌, ◌≤◌, Bool, true, false, ◌&&◌, cond, List, [], ◌∷◌, ◌++◌, length, take, drop, Option, Some, None, IsSome, is_some, Equal, Greater, nat_eq, refl, sym, ap, subst, ◌∙◌, arith, append_assoc, length-append, length-drop}
+use Rattle.std.proofs.Common.{◌≡◌, inl, inr, ℕ, zero, suc, ◌+◌, ◌-◌, ◌<◌, ◌≤◌, Bool, true, false, cond, List, [], ◌∷◌, ◌++◌, length, take, drop, Option, Some, None, IsSome, is_some, refl, sym, ap, subst, ◌∙◌, arith, append_assoc, length-append, length-drop}
 use Rattle.std.specs.Prelude.{T}
 use Rattle.std.specs.List.{slice_get, copy_within}
 use Rattle.std.specs.Option.{option_map}
-use Rattle.std.specs.Ordering.{nat_cmp, eq_by_cmp, is_lt}
-use Rattle.std.specs.Cmp.{nat_cmp_total, nat_cmp_is}
+use Rattle.std.specs.Ordering.{nat_cmp, eq_by_cmp}
+use Rattle.std.specs.Cmp.{nat_cmp_total}
 use Rattle.std.specs.FinMap.{FinMap, get, insert, entries, entries_sorted, entries-insert, get-entries, len, len-entries, find, put, is_sorted}
-use Rattle.std.specs.FinMap.Entries.{below_all, by_order}
 use Rattle.std.proofs.Math.Seq.{take_at, drop_at, paste}
-use Rattle.std.proofs.lemmas.Bool.{eqb-true, cases_lt}
-use Rattle.std.proofs.lemmas.Grind.{common_steps}
+use Rattle.std.proofs.lemmas.Bool.{cases_lt}
 use Rattle.std.proofs.lemmas.List.{append-nil, length-take, drop-drop}
 use Rattle.std.proofs.lemmas.Option.{same_Some, slice_get_cases}
-use Rattle.intern_store.proofs.Compared.{tied}
+use Rattle.intern_store.proofs.Sorted.{parts, at_head, behind_head, put_at_head, put_behind, found, above_all, later}
 use Rattle.intern_index.specs.IndexEntry.{IndexEntry, with_payload}
 use Rattle.intern_table.specs.Joined.{end_of, read_entry, IsLaid, IsCovered}
 use Rattle.intern_table.specs.declared.pool.SlicePayload.{SlicePayload}
-use Rattle.intern_table.proofs.Chosen.{here, away}
-
-parts : (a b : Bool) → T (a && b) → T a × T b
-parts true b both = (tt, both)
-parts false b both = absurd both
-
-less : (x y : ℕ) → T (is_lt (nat_cmp x y)) → x < y
-less x y is = grind (arith, common_steps)
 
 read_either : {X Y : Type 0} (f g : X → Y) (t : Bool) (x y : X) (o p : Option X) → f x ≡ g y → option_map f o ≡ option_map g p → option_map f (cond t (Some x) o) ≡ option_map g (cond t (Some y) p)
 read_either f g true x y o p same rest = ap Some same
@@ -33,40 +23,6 @@ some_too : {X Y Z : Type 0} (f : X → Z) (g : Y → Z) (o : Option X) (p : Opti
 some_too f g (Some x) p same some = refl
 some_too f g None None same some = some
 some_too f g None (Some y) same some = absurd (cc)
-
--- entries in the order of their births
-module _ {X : Type 0} where
-  at_head : (e : ℕ × X) (es : List (ℕ × X)) → find nat_cmp e.0 (e ∷ es) ≡ Some e.1
-  at_head e es = ap (λ t. cond t (Some e.1) (find nat_cmp e.0 es)) (tied e.0 e.0) ∙ here e.0 e.0 (Some e.1) (find nat_cmp e.0 es) refl
-
-  behind_head : (b : ℕ) (e : ℕ × X) (es : List (ℕ × X)) → e.0 < b → find nat_cmp b (e ∷ es) ≡ find nat_cmp b es
-  behind_head b e es above = ap (λ t. cond t (Some e.1) (find nat_cmp b es)) (tied b e.0) ∙ away b e.0 (Some e.1) (find nat_cmp b es) (let differs : b ≢ e.0 = omega arith in differs)
-
-  put_at_head : (e : ℕ × X) (y : X) (es : List (ℕ × X)) → put nat_cmp e.0 y (e ∷ es) ≡ (e.0, y) ∷ es
-  put_at_head e y es = ap (λ o. by_order o ((e.0, y) ∷ e ∷ es) ((e.0, y) ∷ es) (e ∷ put nat_cmp e.0 y es)) (sym (nat_cmp_is e.0 e.0 Equal refl))
-
-  put_behind : (b : ℕ) (y : X) (e : ℕ × X) (es : List (ℕ × X)) → e.0 < b → put nat_cmp b y (e ∷ es) ≡ e ∷ put nat_cmp b y es
-  put_behind b y e es above = ap (λ o. by_order o ((b, y) ∷ e ∷ es) ((e.0, y) ∷ es) (e ∷ put nat_cmp b y es)) (sym (nat_cmp_is b e.0 Greater above))
-
-  found : (b : ℕ) (x : X) (e : ℕ × X) (es : List (ℕ × X)) → find nat_cmp b (e ∷ es) ≡ Some x → ((b ≡ e.0) × (e.1 ≡ x)) ⊎ (find nat_cmp b es ≡ Some x)
-  found b x e es is = go (eq_by_cmp nat_cmp b e.0) (tied b e.0) is
-    where
-      go : (t : Bool) → t ≡ nat_eq b e.0 → cond t (Some e.1) (find nat_cmp b es) ≡ Some x → ((b ≡ e.0) × (e.1 ≡ x)) ⊎ (find nat_cmp b es ≡ Some x)
-      go true same is = inl (eqb-true b e.0 (sym same), same_Some _ _ is)
-      go false same is = inr is
-
-  above_all : (a b : ℕ) (x : X) (es : List (ℕ × X)) → T (below_all nat_cmp a es) → find nat_cmp b es ≡ Some x → a < b
-  above_all a b x [] below is = absurd (cc)
-  above_all a b x (e ∷ es) below is =
-      let under = parts _ _ below in
-      elim (found b x e es is) [
-        | inl first ↦ let head = less a e.0 under.0 in omega (arith, first.0)
-        | inr later ↦ above_all a b x es under.1 later
-      ]
-
-  -- what is found behind the head
-  later : (b : ℕ) (x : X) (e : ℕ × X) (es : List (ℕ × X)) → T (below_all nat_cmp e.0 es) → find nat_cmp b es ≡ Some x → find nat_cmp b (e ∷ es) ≡ Some x
-  later b x e es below is = behind_head b e es (above_all e.0 b x es below is) ∙ is
 
 abbrev pub Row : Type 0 → Type 0
 Row H = IndexEntry H SlicePayload

@@ -1,11 +1,8 @@
 //! Handles of another storage.
-use crate::kinds::Numbers;
 use crate::steps::{
-    Numbered, has_count, has_len, intern_new, not_cloned, not_decremented, not_owned, not_released,
-    own, reads, release,
+    has_count, has_len, intern_new, not_owned, own, reads, refused_in_each_way, release,
 };
-use ra_ap_intern::{InternSliceStorage, InternedSlice, Limits, Refusal};
-use std::process::Abort;
+use ra_ap_intern::{InternSliceStorage, Limits, Refusal};
 
 #[test]
 fn a_handle_of_another_storage_is_refused(rt: HostRuntime) {
@@ -61,31 +58,4 @@ fn a_birth_not_given_is_gone(rt: HostRuntime) {
     let owned = refused_in_each_way(&rt, &mut shorter, owned, Refusal::Gone);
     has_len(&rt, &shorter, 1);
     release(&rt, &mut longer, owned, 0);
-}
-
-/// Each call that takes a handle refuses this one, and a reference to its entry, for the same
-/// reason. It gives the handle back.
-fn refused_in_each_way(
-    rt: &impl Abort,
-    storage: &mut Numbered,
-    owned: InternedSlice<Numbers>,
-    reason: Refusal,
-) -> InternedSlice<Numbers> {
-    let slice = owned.as_ref();
-    let len = storage.len();
-    reads_nothing(rt, storage, &owned);
-    not_cloned(rt, storage, &owned, reason);
-    not_owned(rt, storage, slice, reason);
-    not_decremented(rt, storage, slice, reason);
-    let back = not_released(rt, storage, owned, reason);
-    has_len(rt, storage, len);
-    back
-}
-
-/// No call reads anything by this handle, nor by a reference to its entry.
-fn reads_nothing(rt: &impl Abort, storage: &Numbered, owned: &InternedSlice<Numbers>) {
-    let slice = owned.as_ref();
-    assert!(rt; owned.get(storage).is_none());
-    assert!(rt; slice.get(storage).is_none());
-    assert_eq!(rt; storage.count(slice), None);
 }

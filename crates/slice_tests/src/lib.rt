@@ -1,9 +1,11 @@
 //! Tests of storages of slices: worked examples with their expected answers, each public call,
-//! hostile use.
+//! hostile use, churn.
 #![tactic(auto)]
 
 #[cfg(test)]
 mod calls;
+#[cfg(test)]
+mod churn;
 #[cfg(test)]
 mod hostile;
 #[cfg(test)]

@@ -204,3 +204,30 @@ pub fn not_decremented(
 ) {
     assert_eq!(rt; slice.decrement_refcount(storage), Err(reason));
 }
+
+/// Each call that takes a handle refuses this one, and a reference to its entry, for the same
+/// reason. It gives the handle back.
+pub fn refused_in_each_way(
+    rt: &impl Abort,
+    storage: &mut Numbered,
+    owned: InternedSlice<Numbers>,
+    reason: Refusal,
+) -> InternedSlice<Numbers> {
+    let slice = owned.as_ref();
+    let len = storage.len();
+    reads_nothing(rt, storage, &owned);
+    not_cloned(rt, storage, &owned, reason);
+    not_owned(rt, storage, slice, reason);
+    not_decremented(rt, storage, slice, reason);
+    let back = not_released(rt, storage, owned, reason);
+    has_len(rt, storage, len);
+    back
+}
+
+/// No call reads anything by this handle, nor by a reference to its entry.
+fn reads_nothing(rt: &impl Abort, storage: &Numbered, owned: &InternedSlice<Numbers>) {
+    let slice = owned.as_ref();
+    assert!(rt; owned.get(storage).is_none());
+    assert!(rt; slice.get(storage).is_none());
+    assert_eq!(rt; storage.count(slice), None);
+}

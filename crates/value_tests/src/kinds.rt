@@ -1,8 +1,10 @@
 //! Values that only these tests intern.
 ghost use Rattle.std.specs.Prelude.{true, false};
 
+use intern_fixtures::Unhashed;
 use ra_ap_intern::{Internable, Interned, InternedRef};
 use std::alloc::{AllocError, Global};
+use std::fmt::Debug;
 
 /// A text, collected.
 #[derive(Debug, Drop, PartialEq, Eq, Hash)]
@@ -26,14 +28,32 @@ pub fn make_term(alloc: Global, text: &str) -> Result<Term, AllocError> {
     Ok(Term(String::from_str(alloc, text)?))
 }
 
+/// Values that are numbers, however they are hashed.
+pub trait Numeral: Internable + Copy + Debug {
+    /// The value of a number.
+    fn of(number: u64) -> Self;
+}
+
 /// A number, counted.
 #[derive(Clone, Copy, Debug, PartialEq, Eq, Hash)]
-pub struct Number(pub u64);
+pub struct Number(u64);
 
 impl Internable for Number {
     const USE_GC: bool = false;
 
     ghost USE_GC = { false };
+}
+
+impl Numeral for Number {
+    fn of(number: u64) -> Number {
+        Number(number)
+    }
+}
+
+impl Numeral for Unhashed {
+    fn of(number: u64) -> Unhashed {
+        Unhashed(number)
+    }
 }
 
 /// A value that refers to others of its storage, collected.

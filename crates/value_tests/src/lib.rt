@@ -1,9 +1,11 @@
 //! Tests of storages of values: worked examples with their expected answers, each public call,
-//! hostile use.
+//! hostile use, churn.
 #![tactic(auto)]
 
 #[cfg(test)]
 mod calls;
+#[cfg(test)]
+mod churn;
 #[cfg(test)]
 mod collected;
 #[cfg(test)]
@@ -14,6 +16,8 @@ mod hostile;
 mod kinds;
 #[cfg(test)]
 mod large;
+#[cfg(test)]
+mod numbers;
 #[cfg(test)]
 mod ported;
 #[cfg(test)]

@@ -1,4 +1,4 @@
-use Rattle.std.proofs.Common.{◌-◌, ap, refl, sym, ◌∙◌, arith}
+use Rattle.std.proofs.Common.{◌-◌, ap, refl, ◌∙◌, arith}
 use Rattle.std.proofs.lemmas.Option.{same_Some}
 use Rattle.intern_store.specs.State.{counted_down}
 use Rattle.intern_store.proofs.States.{changed_state, changed_count, same_count}

@@ -1,7 +1,7 @@
 use Rattle.std.proofs.Common.{Some, take, drop, ap, ◌∙◌}
 use Rattle.intern_table.specs.Joined.{sliced_entry}
 use Rattle.intern_table.specs.Read.{shown}
-use Rattle.intern_table.proofs.Counted.{read_seen}
+use Rattle.intern_store.proofs.Maps.{read_seen}
 use Rattle.intern_table.proofs.Joins.{reads, unread}
 use Rattle.intern_table.proofs.slice_table.SliceTable.get.Goals as goal
 

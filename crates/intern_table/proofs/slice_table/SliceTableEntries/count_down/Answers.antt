@@ -1,5 +1,4 @@
 use Rattle.std.proofs.Common.{◌-◌, ◌∙◌}
-use Rattle.intern_store.specs.Kept.{raised}
 use Rattle.intern_table.specs.Hashes.{hash_of}
 use Rattle.intern_table.specs.Sliced.{sliced_input}
 use Rattle.intern_table.proofs.Joins.{count_read, changes_joined, changes_seen}

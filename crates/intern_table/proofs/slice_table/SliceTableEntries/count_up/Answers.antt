@@ -1,4 +1,4 @@
-use Rattle.std.proofs.Common.{◌-◌, ◌∙◌}
+use Rattle.std.proofs.Common.{◌∙◌}
 use Rattle.intern_store.specs.Kept.{raised}
 use Rattle.intern_table.specs.Hashes.{hash_of}
 use Rattle.intern_table.specs.Sliced.{sliced_input}

@@ -2,7 +2,7 @@ use Rattle.std.proofs.Common.{◌≡◌, length, refl, arith}
 use Rattle.intern_index.specs.IndexEntry.{IndexEntry}
 use Rattle.intern_table.specs.Joined.{sliced_entry}
 use Rattle.intern_table.specs.declared.pool.SlicePayload.{SlicePayload}
-use Rattle.intern_table.proofs.Counted.{all_below}
+use Rattle.intern_store.proofs.Maps.{all_below}
 use Rattle.intern_table.proofs.Joins.{adds_joined, adds_seen, cut_back, still_joined, still_seen}
 use Rattle.intern_table.proofs.slice_table.SliceTableTakesTuple2RefSlice.insert.Goals as goal
 
