@@ -5,4 +5,5 @@ mod Orders
 mod Probing
 mod Ranks
 mod Searching
+pub mod Seen
 mod Sweeps

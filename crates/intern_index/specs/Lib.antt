@@ -4,4 +4,5 @@ pub mod Leading
 pub mod Mixed
 pub mod Ordered
 pub mod Probing
+pub mod Seen
 pub mod Swept

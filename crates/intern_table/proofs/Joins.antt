@@ -14,15 +14,14 @@ use Rattle.intern_store.specs.Kept.{Kept, recounted}
 use Rattle.intern_store.proofs.Compared.{get-inserted, get-retained}
 use Rattle.intern_index.specs.IndexEntry.{IndexEntry, with_payload}
 use Rattle.intern_store.specs.Maps.{map_values}
-use Rattle.intern_table.specs.Seen.{IsHashed}
+use Rattle.intern_index.specs.Seen.{IsHashed}
 use Rattle.intern_table.specs.Sliced.{Sliced, sliced_eq, sliced_input}
 use Rattle.intern_table.specs.Read.{shown}
 use Rattle.intern_table.specs.Joined.{end_of, read_entry, sliced_entry, IsLaid, IsJoined}
 use Rattle.intern_table.specs.declared.pool.SlicePayload.{SlicePayload}
 use Rattle.intern_store.proofs.Chosen.{here, away}
-use Rattle.intern_store.proofs.Maps.{read_seen}
-use Rattle.intern_table.proofs.Counted.{empty_hashed, retained_hashed, added_hashed, changed_hashed, changed_seen}
-use Rattle.intern_store.proofs.Maps.{get-map_values, map_values-insert, map_values-retain, map_values-same}
+use Rattle.intern_index.proofs.Seen.{empty_hashed, retained_hashed, added_hashed, changed_hashed, changed_seen}
+use Rattle.intern_store.proofs.Maps.{get-map_values, map_values-insert, map_values-retain, map_values-same, read_seen}
 
 -- equal headers and lists feed a hasher the same
 pub sliced_input-same : {H S : Type 0} (h : H → List (List ℕ)) (s : S → List (List ℕ)) (eq : H → H → Bool) (item_eq : S → S → Bool) → ((x y : H) → eq x y ≡ true → h x ≡ h y) → ((x y : S) → item_eq x y ≡ true → s x ≡ s y)

@@ -1,3 +1,2 @@
-mod Counted
 mod Joins
 mod Moves

@@ -4,7 +4,7 @@ use Rattle.std.specs.Ordering.{nat_cmp}
 use Rattle.std.specs.FinMap.{FinMap, get}
 use Rattle.intern_store.specs.Kept.{Kept}
 use Rattle.intern_index.specs.IndexEntry.{IndexEntry}
-use Rattle.intern_table.specs.Seen.{IsHashed}
+use Rattle.intern_index.specs.Seen.{IsHashed}
 use Rattle.intern_table.specs.Sliced.{Sliced}
 use Rattle.intern_table.specs.declared.pool.SlicePayload.{SlicePayload}
 

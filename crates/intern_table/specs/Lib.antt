@@ -2,5 +2,4 @@ pub mod Forms
 pub mod Hashes
 pub mod Joined
 pub mod Read
-pub mod Seen
 pub mod Sliced

@@ -32,7 +32,7 @@ impl<T: Hash + Eq> Model for Table<T> {
     ghost coded = { map.code coded_ℕ (kept_code T.code) };
 
     ghost use Rattle.intern_store.specs.Maps.{map_values};
-    ghost use Rattle.intern_table.specs.Seen.{kept_entry, IsHashed};
+    ghost use Rattle.intern_index.specs.Seen.{kept_entry, IsHashed};
     ghost use Rattle.intern_table.specs.Hashes.{hash_of};
 
     ghost view = { λ a. map_values kept_entry a.index };

@@ -1,6 +1,6 @@
 use Rattle.std.proofs.Common.{ap, is_some, ◌∙◌}
 use Rattle.intern_table.specs.Joined.{sliced_entry}
-use Rattle.intern_table.proofs.Counted.{placed}
+use Rattle.intern_index.proofs.Seen.{placed}
 use Rattle.intern_table.proofs.slice_table.SliceTableEntries.place.Goals as goal
 
 pub returns : goal.returns

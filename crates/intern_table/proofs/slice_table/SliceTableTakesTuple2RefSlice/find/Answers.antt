@@ -2,7 +2,7 @@ use Rattle.std.proofs.Common.{ap, take, drop}
 use Rattle.intern_table.specs.Hashes.{hash_of}
 use Rattle.intern_table.specs.Joined.{sliced_entry}
 use Rattle.intern_table.specs.Sliced.{Sliced, sliced_eq, sliced_input}
-use Rattle.intern_table.proofs.Counted.{finds, finds_none}
+use Rattle.intern_index.proofs.Seen.{finds, finds_none}
 use Rattle.intern_table.proofs.Joins.{sliced_input-same}
 use Rattle.intern_table.proofs.slice_table.SliceTableTakesTuple2RefSlice.find.Goals as goal
 

@@ -1,5 +1,5 @@
 use Rattle.std.proofs.Common.{◌∙◌}
-use Rattle.intern_table.specs.Seen.{kept_entry}
+use Rattle.intern_index.specs.Seen.{kept_entry}
 use Rattle.intern_store.proofs.Maps.{read_seen}
 use Rattle.intern_table.proofs.table.TableEntries.count.Goals as goal
 

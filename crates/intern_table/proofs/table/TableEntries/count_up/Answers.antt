@@ -1,9 +1,9 @@
 use Rattle.std.proofs.Common.{refl, ◌∙◌}
 use Rattle.intern_store.specs.Kept.{raised}
 use Rattle.intern_table.specs.Hashes.{hash_of}
-use Rattle.intern_table.specs.Seen.{kept_entry}
+use Rattle.intern_index.specs.Seen.{kept_entry}
 use Rattle.intern_store.proofs.Maps.{read_seen}
-use Rattle.intern_table.proofs.Counted.{changed_hashed, changed_seen}
+use Rattle.intern_index.proofs.Seen.{changed_hashed, changed_seen}
 use Rattle.intern_table.proofs.table.TableEntries.count_up.Goals as goal
 
 pub invariant_of-self : goal.invariant_of-self

@@ -1,6 +1,6 @@
 use Rattle.std.proofs.Common.{ap, sym, ◌∙◌}
 use Rattle.std.specs.FinMap.{len}
-use Rattle.intern_table.specs.Seen.{kept_entry}
+use Rattle.intern_index.specs.Seen.{kept_entry}
 use Rattle.intern_store.proofs.Maps.{len-map_values}
 use Rattle.intern_table.proofs.table.TableEntries.len.Goals as goal
 

@@ -1,5 +1,5 @@
-use Rattle.intern_table.specs.Seen.{kept_entry}
-use Rattle.intern_table.proofs.Counted.{empty_hashed}
+use Rattle.intern_index.specs.Seen.{kept_entry}
+use Rattle.intern_index.proofs.Seen.{empty_hashed}
 use Rattle.intern_store.proofs.Maps.{map_values-empty}
 use Rattle.intern_table.proofs.table.TableEntries.new.Goals as goal
 

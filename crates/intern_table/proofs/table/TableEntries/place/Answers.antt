@@ -1,6 +1,6 @@
 use Rattle.std.proofs.Common.{ap, is_some, ◌∙◌}
-use Rattle.intern_table.specs.Seen.{kept_entry}
-use Rattle.intern_table.proofs.Counted.{placed}
+use Rattle.intern_index.specs.Seen.{kept_entry}
+use Rattle.intern_index.proofs.Seen.{placed}
 use Rattle.intern_table.proofs.table.TableEntries.place.Goals as goal
 
 pub returns : goal.returns

@@ -1,9 +1,9 @@
 use Rattle.std.proofs.Common.{ap, ◌∙◌}
 use Rattle.std.specs.FinMap.{remove}
 use Rattle.intern_table.specs.Hashes.{hash_of}
-use Rattle.intern_table.specs.Seen.{kept_entry}
+use Rattle.intern_index.specs.Seen.{kept_entry}
 use Rattle.intern_store.proofs.Maps.{read_seen}
-use Rattle.intern_table.proofs.Counted.{removed_hashed}
+use Rattle.intern_index.proofs.Seen.{removed_hashed}
 use Rattle.intern_store.proofs.Maps.{map_values-remove}
 use Rattle.intern_table.proofs.table.TableRemoves.remove.Goals as goal
 

@@ -1,8 +1,8 @@
 use Rattle.std.proofs.Common.{ap, ◌∙◌}
 use Rattle.std.specs.FinMap.{retain_keys}
 use Rattle.intern_table.specs.Hashes.{hash_of}
-use Rattle.intern_table.specs.Seen.{kept_entry}
-use Rattle.intern_table.proofs.Counted.{retained_hashed}
+use Rattle.intern_index.specs.Seen.{kept_entry}
+use Rattle.intern_index.proofs.Seen.{retained_hashed}
 use Rattle.intern_store.proofs.Maps.{map_values-retain}
 use Rattle.intern_table.proofs.table.TableSweeps.keep.Goals as goal
 

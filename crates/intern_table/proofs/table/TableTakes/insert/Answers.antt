@@ -1,9 +1,9 @@
 use Rattle.std.proofs.Common.{ap, ◌∙◌}
 use Rattle.std.specs.FinMap.{insert}
 use Rattle.intern_table.specs.Hashes.{hash_of}
-use Rattle.intern_table.specs.Seen.{kept_entry}
+use Rattle.intern_index.specs.Seen.{kept_entry}
 use Rattle.intern_store.proofs.Maps.{all_below}
-use Rattle.intern_table.proofs.Counted.{ok_then, offered_hashed}
+use Rattle.intern_index.proofs.Seen.{ok_then, offered_hashed}
 use Rattle.intern_store.proofs.Maps.{map_values-insert}
 use Rattle.intern_table.proofs.table.TableTakes.insert.Goals as goal
 

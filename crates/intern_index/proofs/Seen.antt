@@ -10,7 +10,7 @@ use Rattle.intern_store.proofs.Compared.{get-inserted, get-removed, get-retained
 use Rattle.intern_store.specs.declared.names.Spot.{Spot}
 use Rattle.intern_index.specs.IndexEntry.{IndexEntry, has_hash, is_sought, with_payload}
 use Rattle.intern_store.specs.Maps.{map_values}
-use Rattle.intern_table.specs.Seen.{IsHashed}
+use Rattle.intern_index.specs.Seen.{IsHashed}
 use Rattle.intern_store.proofs.Maps.{map_values-insert, seen, is_some_seen}
 
 -- a test is false, if from its truth it follows that it is false
