@@ -97,10 +97,6 @@ module _ {T N : Type 0} (s new : Slab (Entry T N)) (t : Buckets) (IsFor : (ℕ �
       apart p q b one two (inr first) (inl second) = let is = fresh q b second two in let lower = below p b (old p b first one) in absurd (omega arith)
       apart p q b one two (inr first) (inr second) = tied.apart p q b (old p b first one) (old q b second two)
 
-  -- room for more changes nothing
-  pub grown_tied : (capacity : ℕ) → IsTied (record s { capacity = capacity }) t IsFor
-  grown_tied capacity = record { apart = tied.apart; led = tied.led; found = tied.found; told = tied.told }
-
   module _ (m : FinMap nat_cmp (IndexEntry T N)) (view : held s.slots ≡ m) (key b : ℕ) where
     -- what is at a place is seen
     pub seen_some : birth_at s key ≡ Some b → is_some (map_get m b) ≡ true
@@ -129,3 +125,17 @@ unremoved {X} m b none = same_map nat_cmp_total nat_cmp-IsAntisymmetric m (remov
     go : (q : ℕ) (t : Bool) → nat_eq q b ≡ t → cond t None (map_get m q) ≡ map_get m q
     go q true t = sym (ap (map_get m) (eqb-true q b t) ∙ none)
     go q false t = refl
+
+-- room for more changes no place: an entry that is put where there is room
+pub put_roomy : {X : Type 0} (s roomy new : Slab X) (key place : ℕ) (o : Option X) → roomy ≡ record s { capacity = roomy.capacity } → key ≡ roomy.vacant_key → place ≡ roomy.vacant_key → get roomy place ≡ None → Updates roomy new key o
+    → record { vacant : get s place ≡ None; updates : Updates s new place o }
+put_roomy {X} s roomy new key place o kept key_is place_is vacant updates = record {
+  vacant = sym (same place) ∙ vacant;
+  updates = record {
+    changed = ap (get new) (place_is ∙ sym key_is) ∙ updates.changed;
+    others = λ p differs. updates.others p (λ is. differs (is ∙ key_is ∙ sym place_is)) ∙ same p;
+  };
+}
+  where
+    same : (p : ℕ) → get roomy p ≡ get s p
+    same p = ap (λ (r : Slab X). get r p) kept

@@ -1,5 +1,5 @@
 -- What the map of a slab's entries has under each birth, and what a change of one place does to it.
-use Rattle.std.proofs.Common.{◌≡◌, ◌≢◌, ◌⊎◌, inl, inr, ℕ, zero, suc, ◌+◌, Bool, true, false, cond, List, [], ◌∷◌, get_or, Option, Some, None, is_some, IfSome, IfNone, count_by, nat_eq, refl, sym, ap, subst, ◌∙◌, add-zero, zero-add, arith}
+use Rattle.std.proofs.Common.{◌≡◌, ◌≢◌, ◌⊎◌, inl, inr, ℕ, zero, suc, ◌+◌, ◌<◌, ◌^◌, Bool, true, false, cond, List, [], ◌∷◌, get_or, Option, Some, None, is_some, IfSome, IfNone, count_by, nat_eq, refl, sym, ap, subst, ◌∙◌, add-zero, zero-add, arith}
 use Rattle.std.specs.Option.{option_map}
 use Rattle.std.specs.Ordering.{nat_cmp}
 use Rattle.std.specs.Cmp.{nat_cmp_total}
@@ -10,7 +10,7 @@ use Rattle.std.proofs.lemmas.List.Sums.{sum_by-cons}
 use Rattle.slab.specs.Slab.{Slab, get, slab_len, Updates}
 use Rattle.intern_store.proofs.Compared.{get-inserted}
 use Rattle.intern_index.specs.IndexEntry.{IndexEntry}
-use Rattle.intern_index.specs.Entries.{seen, held_from, held, birth_at, IsTied}
+use Rattle.intern_index.specs.Entries.{seen, held_from, held, birth_at, AreTold, IsTied}
 use Rattle.intern_index.specs.declared.buckets.Buckets.{Buckets}
 use Rattle.intern_index.specs.declared.entry.Entry.{Entry}
 
@@ -76,6 +76,10 @@ module _ {T N : Type 0} where
 
   pub birth_there : (s : Slab (Entry T N)) (p b : ℕ) (e : Entry T N) → get s p ≡ Some e → e.birth ≡ b → birth_at s p ≡ Some b
   birth_there s p b e there is = ap (option_map (λ (e : Entry T N). e.birth)) there ∙ ap Some is
+
+  -- buckets tell the place of an entry that is there
+  pub told_there : (s : Slab (Entry T N)) → AreTold s → (p : ℕ) (e : Entry T N) → get s p ≡ Some e → p + 1 < 2 ^ 48
+  told_there s told p e there = told p e.birth (birth_there s p e.birth e there refl)
 
   -- the map has what is seen at a place
   pub read_there : (s : Slab (Entry T N)) → IsApart s → (p : ℕ) (e : Entry T N) → get s p ≡ Some e → map_get (held s.slots) e.birth ≡ Some (seen p e)

@@ -13,6 +13,7 @@ use Rattle.std.proofs.lemmas.List.Folds.{list_any_at}
 use Rattle.std.proofs.lemmas.Option.{slice_get-map, slice_get_within, get_or_from_slice_get}
 use Rattle.slab.specs.Slab.{Slab, get}
 use Rattle.intern_store.proofs.Compared.{tied}
+use Rattle.intern_store.proofs.Sorted.{parts, less}
 use Rattle.intern_index.specs.IndexEntry.{IndexEntry}
 use Rattle.intern_index.specs.Entries.{held, birth_at}
 use Rattle.intern_index.specs.Ordered.{IsOrder, birth_or_zero}
@@ -70,13 +71,6 @@ same_rising (x ∷ xs) (y ∷ ys) rising too to from =
     (λ z is. behind_too x y xs ys rising (sym head) z is (within_cases z y ys (to z (or_right (nat_eq z x) _ is))))
     (λ z is. behind_too y x ys xs too head z is (within_cases z x xs (from z (or_right (nat_eq z y) _ is)))) in
     ap (λ z. z ∷ xs) head ∙ ap (λ zs. y ∷ zs) rest
-
-parts : (a b : Bool) → T (a && b) → T a × T b
-parts true b both = (tt, both)
-parts false b both = absurd both
-
-less : (x y : ℕ) → T (is_lt (nat_cmp x y)) → x < y
-less x y is = grind (arith, common_steps)
 
 module _ {X : Type 0} where
   below_each : (x : ℕ) (es : List (ℕ × X)) → T (below_all nat_cmp x es) → (i : ℕ) → i < length (map (λ e. e.0) es) → x < slice_index (map (λ e. e.0) es) i

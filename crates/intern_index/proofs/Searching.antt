@@ -1,6 +1,5 @@
 -- What is left of a search along a probe sequence.
-use Rattle.std.proofs.Common.{◌≡◌, ◌⊎◌, inl, inr, ℕ, ◌+◌, ◌<◌, ◌≤◌, Bool, true, false, not, ◌&&◌, ◌||◌, nat_eq, suc, List, ◌∷◌, length, drop, get_or, Option, Some, None, refl, sym, ap, subst, ◌∙◌, add-one, drop-cons, Bor}
-use Rattle.std.specs.Prelude.{option_copied}
+use Rattle.std.proofs.Common.{◌≡◌, ◌⊎◌, inl, inr, ℕ, ◌+◌, ◌<◌, ◌≤◌, Bool, true, false, not, ◌&&◌, ◌||◌, nat_eq, suc, List, ◌∷◌, length, drop, get_or, Some, sym, ap, subst, ◌∙◌, add-one, drop-cons}
 use Rattle.std.proofs.lemmas.List.{drop_all}
 use Rattle.slab.specs.Slab.{Slab, get}
 use Rattle.intern_index.specs.Probing.{bucket, is_empty, is_reachable}
@@ -49,8 +48,3 @@ nothing_met bs i below none b =
 
 pub nothing_left : (bs : List Bucket) (i : ℕ) → length bs ≤ i → (b : Bucket) → is_reachable b (drop i bs) ≡ false
 nothing_left bs i past b = ap (is_reachable b) (drop_all i bs past)
-
--- what is there is read
-pub unread : {X : Type 0} (o : Option (Bor X)) (x : X) → ((y : Bor X) → o ≡ Some y → ⊥) → option_copied o ≡ Some x → ⊥
-unread None x none is = absurd (cc)
-unread (Some y) x none is = none y refl

@@ -1,5 +1,5 @@
 -- Buckets, and which of them a search meets.
-use Rattle.std.specs.Prelude.{ℕ, ◌+◌, ◌*◌, ◌/◌, ◌%◌, ◌^◌, Bool, false, not, ◌&&◌, ◌||◌, List, [], ◌∷◌, nat_eq}
+use Rattle.std.specs.Prelude.{ℕ, ◌+◌, ◌*◌, ◌/◌, ◌%◌, ◌^◌, Bool, false, not, ◌&&◌, ◌||◌, List, [], ◌∷◌, nat_eq, count_by}
 use Rattle.intern_index.specs.declared.buckets.Bucket.{Bucket}
 
 -- the bucket of an entry: 16 bits of its hash above 48 bits of its place, counted from one
@@ -9,6 +9,10 @@ bucket h p = record { 0 = (h % 2 ^ 16) * 2 ^ 48 + (p + 1) }
 -- whether a bucket is that of no entry
 abbrev pub is_empty : Bucket → Bool
 is_empty b = nat_eq b.0 0
+
+-- how many buckets are not empty
+abbrev pub full_count : List Bucket → ℕ
+full_count bs = count_by (λ b. not (is_empty b)) bs
 
 -- where the probe sequence of a hash begins, among so many homes
 abbrev pub home : ℕ → ℕ → ℕ

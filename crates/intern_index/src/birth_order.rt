@@ -12,7 +12,7 @@ use std::alloc::{AllocError, Global};
 
 /// The places of all entries, in the order of their births. They are found by a binary search.
 ///
-/// An entry that goes leaves it at once, so only whole sweeps should take entries out.
+/// Each call that takes entries out goes over all places, be it for one entry or for a whole sweep.
 #[derive(Drop)]
 pub struct BirthOrder {
     places: Vec<usize>,
@@ -48,6 +48,12 @@ impl BirthOrder {
         ensures { result ≡ slice_get self.now.places.items at }
     {
         self.places.get(at).copied()
+    }
+
+    /// How many places fit with no memory asked for.
+    #[cfg(test)]
+    pub(crate) fn capacity(&self) -> usize {
+        self.places.capacity()
     }
 }
 

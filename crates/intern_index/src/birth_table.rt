@@ -53,6 +53,14 @@ impl<T, N: Copy> Key<T, N> for ByBirth {
     }
 }
 
+#[cfg(test)]
+impl BirthTable {
+    /// How many buckets fit with no memory asked for.
+    pub(crate) fn capacity(&self) -> usize {
+        self.buckets.capacity()
+    }
+}
+
 impl Births for BirthTable {
     ghost IsFor = { λ t at. (p b : ℕ) → at p ≡ Some b → leads t.buckets (mixed b) p ≡ true };
 

@@ -69,6 +69,21 @@ pub(crate) fn locate<T, N: Copy, B: Births>(
 {
     match slots.get(spot.place) {
         Some(entry) if entry.birth == spot.birth => Some(spot.place),
-        _ => births.find(slots, spot.birth),
+        _ => find_birth(slots, births, spot.birth),
     }
+}
+
+// The place of a birth that isn't where it was found.
+#[cold]
+fn find_birth<T, N: Copy, B: Births>(
+    slots: &Slab<Entry<T, N>>,
+    births: &B,
+    birth: u64,
+) -> Option<usize>
+    requires known { B.IsFor births.now (birth_at slots.now) }
+    requires told { AreTold slots.now }
+    ensures found { IfSome result (λ p. birth_at slots.now p ≡ Some birth) }
+    ensures absent { IfNone result ((p : ℕ) → birth_at slots.now p ≢ Some birth) }
+{
+    births.find(slots, birth)
 }

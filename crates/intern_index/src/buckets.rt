@@ -1,7 +1,7 @@
 //! A hash table of places.
-ghost use Rattle.std.specs.Prelude.{◌≡◌, ℕ, ◌+◌, ◌/◌, ◌%◌, ◌*◌, ◌<◌, ◌≤◌, ◌^◌, length, Some, true, nat_eq, IfOk, OnOk};
+ghost use Rattle.std.specs.Prelude.{◌≡◌, ℕ, ◌+◌, ◌/◌, ◌%◌, ◌*◌, ◌<◌, ◌≤◌, ◌^◌, [], length, Some, true, nat_eq, IfOk, OnOk};
 ghost use Rattle.std.specs.Vec.{vec_len, vec_capacity};
-ghost use Rattle.intern_index.specs.Probing.{home, bucket, is_empty};
+ghost use Rattle.intern_index.specs.Probing.{home, bucket, is_empty, full_count};
 
 use std::alloc::{AllocError, Global};
 
@@ -61,7 +61,9 @@ impl Buckets {
     ghost use Rattle.intern_index.specs.Leading.{leads, probe_sequence};
 
     /// A table without a bucket. It takes no memory.
-    pub(crate) fn new(alloc: Global) -> Buckets {
+    pub(crate) fn new(alloc: Global) -> Buckets
+        ensures { result.buckets.items ≡ [] }
+    {
         Buckets {
             buckets: Vec::new(alloc),
             homes: 0,
@@ -69,7 +71,9 @@ impl Buckets {
     }
 
     /// An empty table with homes for so many places.
-    pub(crate) fn with_room(alloc: Global, places: usize) -> Result<Buckets, AllocError> {
+    pub(crate) fn with_room(alloc: Global, places: usize) -> Result<Buckets, AllocError>
+        ensures { IfOk result (λ t. full_count t.buckets.items ≡ 0) }
+    {
         let homes = places.saturating_add(places / 7);
         let mut buckets = Vec::with_capacity(alloc, homes.saturating_add(SPARE))?;
         buckets.resize(homes, EMPTY)?;
@@ -107,6 +111,8 @@ impl Buckets {
         ensures entered { leads self.new hash place ≡ true }
         ensures still { (h p : ℕ) →
             leads self.old h p ≡ true → leads self.new h p ≡ true }
+        ensures full { full_count self.new.buckets.items
+            ≡ full_count self.old.buckets.items + 1 }
     {
         let bucket = Bucket::of(hash, place);
         for at in self.home(hash)..self.buckets.len() {
@@ -116,5 +122,11 @@ impl Buckets {
             }
         }
         self.buckets.push_reserved(bucket);
+    }
+
+    /// How many buckets fit with no memory asked for.
+    #[cfg(test)]
+    pub(crate) fn capacity(&self) -> usize {
+        self.buckets.capacity()
     }
 }

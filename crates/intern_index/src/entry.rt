@@ -4,7 +4,7 @@
 #[derive(Drop)]
 pub struct Entry<T, N: Copy> {
     pub(crate) birth: u64,
-    pub(crate) hash: u64,
     pub(crate) value: T,
     pub(crate) payload: N,
+    pub(crate) hash: u64,
 }

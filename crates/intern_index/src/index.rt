@@ -132,7 +132,7 @@ impl<T, N: Copy, B: Births> Index<T, N, B> {
         Some(payload)
     }
 
-    /// Takes an entry out, and gives its value.
+    /// Takes an entry out, and gives its value. A `BirthOrder` goes over all its places for it.
     pub fn remove(&mut self, spot: Spot) -> Option<T>
         ensures value { result ≡ option_map (λ e. e.value) (map.get self.old spot.birth) }
         ensures removed { self.new ≡ map.remove self.old spot.birth }
@@ -226,5 +226,18 @@ impl<T, N: Copy> Index<T, N, BirthOrder> {
             birth: entry.birth,
             place,
         })
+    }
+}
+
+#[cfg(test)]
+impl<T, N: Copy, B: Births> Index<T, N, B> {
+    /// How many slots and how many buckets by hashes fit with no memory asked for.
+    pub(crate) fn capacity(&self) -> (usize, usize) {
+        (self.slots.capacity(), self.tables.by_hash.capacity())
+    }
+
+    /// What finds the places of births.
+    pub(crate) fn births(&self) -> &B {
+        &self.tables.births
     }
 }

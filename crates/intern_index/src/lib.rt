@@ -14,6 +14,8 @@ mod search;
 mod sweep;
 mod table_of;
 mod tables;
+#[cfg(test)]
+mod tests;
 
 pub use birth_order::BirthOrder;
 pub use birth_table::BirthTable;

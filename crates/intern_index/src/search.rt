@@ -4,9 +4,10 @@ ghost use Rattle.std.specs.Option.{option_map};
 ghost use Rattle.slab.specs.Slab.{get};
 ghost use Rattle.intern_index.specs.Entries.{AreTold};
 ghost use Rattle.intern_index.specs.Leading.{leads};
+ghost use Rattle.intern_index.specs.Probing.{bucket as bucket_of};
 ghost use Rattle.intern_index.specs.declared.entry.Entry.{Entry as Kept};
 
-use crate::buckets::Buckets;
+use crate::buckets::{Bucket, Buckets};
 use crate::entry::Entry;
 use slab::Slab;
 
@@ -18,6 +19,28 @@ pub(crate) trait Test<T, N: Copy> {
     /// Whether an entry passes.
     fn passes(&self, entry: &Entry<T, N>) -> bool
         ensures { result ≡ passes self.now entry.now };
+}
+
+// The place of a bucket, where its entry passes a test.
+fn place_of<T, N: Copy, Q: Test<T, N>>(
+    slots: &Slab<Entry<T, N>>,
+    bucket: Bucket,
+    hash: u64,
+    test: &Q,
+) -> Option<usize>
+    requires { AreTold slots.now }
+    ensures found { IfSome result (λ p.
+        option_map (Q.passes test.now) (get slots.now p) ≡ Some true) }
+    ensures none { IfNone result ((p : ℕ) (e : Kept T N) →
+        get slots.now p ≡ Some e → bucket ≡ bucket_of hash p → Q.passes test.now e ≡ false) }
+{
+    let place = bucket.place(hash)?;
+    let entry = slots.get(place)?;
+    if test.passes(entry) {
+        Some(place)
+    } else {
+        None
+    }
 }
 
 /// The place of an entry that passes a test, of those that the probe sequence of a hash leads to.
@@ -37,13 +60,8 @@ pub(crate) fn search<T, N: Copy, Q: Test<T, N>>(
         if bucket.is_empty() {
             return None;
         }
-        let Some(place) = bucket.place(hash) else {
-            continue;
-        };
-        if let Some(entry) = slots.get(place) {
-            if test.passes(entry) {
-                return Some(place);
-            }
+        if let Some(place) = place_of(slots, *bucket, hash, test) {
+            return Some(place);
         }
     }
     None

@@ -1,8 +1,9 @@
 //! Tables built from the entries.
 ghost use Rattle.std.specs.Prelude.{◌≡◌, ℕ, true, Some, IfOk};
-ghost use Rattle.slab.specs.Slab.{get};
+ghost use Rattle.slab.specs.Slab.{get, slab_len};
 ghost use Rattle.intern_index.specs.Entries.{AreTold};
 ghost use Rattle.intern_index.specs.Leading.{leads};
+ghost use Rattle.intern_index.specs.Probing.{full_count};
 ghost use Rattle.intern_index.specs.declared.entry.Entry.{Entry as Kept};
 
 use crate::buckets::Buckets;
@@ -20,7 +21,7 @@ pub(crate) trait Key<T, N: Copy> {
         ensures { result ≡ key self.now entry.now };
 }
 
-/// A table of the places of all entries, with homes for so many.
+/// A table of the places of all entries, each once, with homes for so many.
 pub(crate) fn table_of<T, N: Copy, K: Key<T, N>>(
     alloc: Global,
     slots: &Slab<Entry<T, N>>,
@@ -28,15 +29,15 @@ pub(crate) fn table_of<T, N: Copy, K: Key<T, N>>(
     by: &K,
 ) -> Result<Buckets, AllocError>
     requires { AreTold slots.now }
-    ensures { IfOk result (λ t. (p : ℕ) (e : Kept T N) →
+    ensures led { IfOk result (λ t. (p : ℕ) (e : Kept T N) →
         get slots.now p ≡ Some e → leads t (K.key by.now e) p ≡ true) }
+    ensures once { IfOk result (λ t.
+        full_count t.buckets.items ≡ slab_len slots.now) }
 {
     let mut table = Buckets::with_room(alloc, room)?;
-    for place in 0..slots.capacity() {
-        if let Some(entry) = slots.get(place) {
-            table.reserve()?;
-            table.enter(by.key(entry), place);
-        }
+    for (place, entry) in slots.iter() {
+        table.reserve()?;
+        table.enter(by.key(entry), place);
     }
     Ok(table)
 }

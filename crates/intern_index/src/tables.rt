@@ -2,7 +2,9 @@
 ghost use Rattle.std.specs.Prelude.{◌≡◌, ◌≢◌, ℕ, ◌+◌, ◌<◌, ◌^◌, true, Option, Some, None, OnOk};
 ghost use Rattle.std.specs.Vec.{vec_len, vec_capacity};
 ghost use Rattle.intern_index.specs.Entries.{IsTied};
+ghost use Rattle.slab.specs.Slab.{slab_len};
 ghost use Rattle.intern_index.specs.Leading.{leads};
+ghost use Rattle.intern_index.specs.Probing.{full_count};
 
 use crate::births::Births;
 use crate::buckets::Buckets;
@@ -12,7 +14,7 @@ use slab::Slab;
 use std::alloc::{AllocError, Global};
 
 // How many entries have room at least.
-const LEAST: usize = 4;
+const LEAST: usize = 64;
 
 // Entries are entered under their hashes.
 #[derive(Clone, Copy)]
@@ -48,17 +50,19 @@ impl<B: Births> Tables<B> {
         }
     }
 
-    // Builds the tables anew, with room for half as many entries again as there are.
+    // Builds the tables anew, with room for twice as many entries as there are.
     fn rebuild<T, N: Copy>(
         &mut self,
         alloc: Global,
         slots: &Slab<Entry<T, N>>,
     ) -> Result<(), AllocError>
         requires { IsTied slots.now self.old.by_hash (B.IsFor self.old.births) }
-        ensures { IsTied slots.now self.new.by_hash (B.IsFor self.new.births) }
+        ensures tied { IsTied slots.now self.new.by_hash (B.IsFor self.new.births) }
+        ensures once { OnOk result
+            (full_count self.new.by_hash.buckets.items ≡ slab_len slots.now) }
     {
         let entries = slots.len();
-        let room = entries.saturating_add(entries / 2).max(LEAST);
+        let room = entries.saturating_mul(2).max(LEAST);
         let by_hash = table_of(alloc, slots, room, &ByHash)?;
         self.births.rebuild(alloc, slots, room)?;
         self.by_hash = by_hash;

@@ -1,45 +1,53 @@
-use Rattle.std.proofs.Common.{◌≡◌, inl, inr, is_some, refl, ap, sym, ◌∙◌, arith}
-use Rattle.std.specs.Prelude.{option_copied}
-use Rattle.std.proofs.lemmas.Bool.{cases_lt}
-use Rattle.std.proofs.lemmas.Option.{same_Some}
-use Rattle.slab.specs.Slab.{get}
-use Rattle.slab.proofs.SlabLemmas.{ContainsKey-within}
+use Rattle.std.proofs.Common.{inl, inr, refl, ap, sym, ◌∙◌, length, arith}
+use Rattle.slab.proofs.SlabLemmas.{Contains-cons, Contains-cons_cases, Contains-entries, length-entries}
 use Rattle.intern_index.specs.Leading.{leads}
-use Rattle.intern_index.proofs.Held.{birth_there}
-use Rattle.intern_index.proofs.Searching.{unread}
+use Rattle.intern_index.specs.Probing.{full_count}
+use Rattle.intern_index.proofs.Held.{told_there}
 use Rattle.intern_index.proofs.Probing.{led_still}
 use Rattle.intern_index.proofs.table_of.table_of.Goals as goal
-use Rattle.intern_index.proofs.table_of.table_of.Goals.{in-Some+in_ok-reserve, in_default}
+
+pub loop-place-init : goal.loop-place-init
+loop-place-init g c =
+    let all = c.into_iter-place-iterator.ensures.into_iter_gives ∙ c.iter-place-items.ensures.rest in record {
+      left = λ p e is. (Contains-entries c.args.slots.now p e).0 (rw all at is);
+      led = λ p e there. inr (rw all ((Contains-entries c.args.slots.now p e).1 there));
+      once = let count = ap length all in omega (arith, length-entries c.args.slots.now, c.in_ok-table.ensures);
+    }
 
 pub enter-requires-clause-small : goal.enter-requires-clause-small
-enter-requires-clause-small g c = c.requires _ c.in-Some.entry.now.birth (birth_there c.args.slots.now c.loop-place.place c.in-Some.entry.now.birth c.in-Some.entry.now (sym c.get.ensures ∙ ap option_copied c.in-Some.is) refl)
+enter-requires-clause-small g c =
+    let there = c.loop-place.invariant.left c.in-Some.place c.in-Some.entry.now (rw c.in-Some.ensures.steps (0, omega arith, refl)) in
+    told_there c.args.slots.now c.requires c.in-Some.place c.in-Some.entry.now there
 
 pub loop-place-preserved : goal.loop-place-preserved
-loop-place-preserved g c = λ p e below there.
-    elim c.match-get.branch [
-      | in-Some+in_ok-reserve w ↦
-          rw w.table-is
-          (elim (cases_lt p c.loop-place.place) [
-            | inl before ↦ w.enter.ensures.still _ p (led_still c.loop-place.table w.reserve.new.self w.reserve.ensures.buckets w.reserve.ensures.homes _ p (c.loop-place.invariant p e before there))
-            | inr behind ↦
-                let here : p ≡ c.loop-place.place = omega arith in
-                let entry = same_Some _ _ (sym (ap option_copied w.in-Some.is) ∙ c.get.ensures ∙ ap (get c.args.slots.now) (sym here) ∙ there) in
-                ap (leads w.enter.new.self (g.K.Key.key c.args.by.now e)) here
-                ∙ ap (λ h. leads w.enter.new.self h c.loop-place.place) (ap (g.K.Key.key c.args.by.now) (sym entry) ∙ sym w.key.ensures) ∙ w.enter.ensures.entered
-          ])
-      | in_default w ↦
-          rw w.table-is
-          (elim (cases_lt p c.loop-place.place) [
-            | inl before ↦ c.loop-place.invariant p e before there
-            | inr behind ↦
-                let here : p ≡ c.loop-place.place = omega arith in
-                absurd (unread _ e w.in_default.not-Some (c.get.ensures ∙ ap (get c.args.slots.now) (sym here) ∙ there))
-          ])
-    ]
+loop-place-preserved g c =
+    let key = g.K.Key.key c.args.by.now in
+    let next = c.in-Some.ensures.steps in
+    let before = c.loop-place.invariant in
+    let room = c.reserve.ensures in
+    let entered = c.enter.ensures in
+    record {
+      left = λ p e is. before.left p e (rw next (Contains-cons _ _ _ is));
+      led = λ p e there.
+          elim (before.led p e there) [
+            | inl led ↦ inl (entered.still (key e) p (led_still c.loop-place.table c.reserve.new.self room.buckets room.homes (key e) p led))
+            | inr is ↦
+                elim (Contains-cons_cases _ _ _ (rw next at is)) [
+                  | inl here ↦
+                      inl (ap (leads c.enter.new.self (key e)) (sym (ap (λ x. x.0) here))
+                      ∙ ap (λ h. leads c.enter.new.self h c.in-Some.place) (ap (λ x. key x.1) (sym here) ∙ sym c.key.ensures) ∙ entered.entered)
+                  | inr rest ↦ inr rest
+                ]
+          ];
+      once =
+          let one = ap length next in
+          let kept = ap full_count room.buckets in
+          omega (arith, entered.full, before.once);
+    }
 
-pub returns : goal.returns
-returns g c = λ p e there.
-    let within = ContainsKey-within c.args.slots.now p (ap is_some there) in
-    let all = c.capacity-place-end.ensures.slots in
-    let past = c.loop-place-test.false in
-    c.loop-place.invariant p e (omega arith) there
+pub returns-clause-led : goal.returns-clause-led
+returns-clause-led g c = λ p e there.
+    elim (c.loop-place.invariant.led p e there) [
+      | inl led ↦ led
+      | inr is ↦ let none = ap length c.in-None.ensures.steps.0 in absurd (omega (arith, is.1))
+    ]

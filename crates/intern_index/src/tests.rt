@@ -1,0 +1,264 @@
+//! Indexes of few entries and many births: they stay small, and each read is right.
+ghost use Rattle.std.specs.Prelude.{ℕ, ◌<◌, ◌==◌, nat_lt, IsSome};
+ghost use Rattle.std.specs.FinMap as map;
+
+use crate::{BirthOrder, BirthTable, Births, Index, Offer, Query};
+use intern_store::{Marks, Spot};
+use std::alloc::Global;
+use std::process::Abort;
+
+// A number to store, or to look up.
+#[derive(Debug, Drop)]
+struct Number(u64);
+
+impl Offer<u64> for Number {
+    ghost value = { λ n. n.0 };
+
+    fn into_value(self, _alloc: Global) -> Result<u64, Number> {
+        Ok(self.0)
+    }
+}
+
+impl Query<u64, u64> for Number {
+    ghost fits = { λ n v p. v == n.0 };
+
+    fn fits(&self, value: &u64, _payload: u64) -> bool {
+        *value == self.0
+    }
+}
+
+// Keeps the births below this one.
+#[derive(Clone, Copy)]
+struct Below(u64);
+
+impl Marks for Below {
+    ghost marked = { λ m b. nat_lt b m.0 };
+
+    fn is_marked(&self, birth: u64) -> bool {
+        birth < self.0
+    }
+}
+
+// Numbers that are their births, with their complements as payloads.
+#[derive(Drop)]
+struct Numbers<B: Births> {
+    index: Index<u64, u64, B>,
+    hashes: Hashes,
+    next: u64,
+    ghost below: { (b : ℕ) → IsSome (map.get index b) → b < next },
+}
+
+// Hashes from a first one on, so far apart.
+#[derive(Clone, Copy)]
+struct Hashes {
+    first: u64,
+    apart: u64,
+}
+
+const SPREAD: Hashes = Hashes {
+    first: 0,
+    apart: 0x9E37_79B9_7F4A_7C15,
+};
+
+impl Hashes {
+    fn of(self, number: u64) -> u64 {
+        self.first.wrapping_add(number.wrapping_mul(self.apart))
+    }
+}
+
+impl<B: Births> Numbers<B> {
+    fn new(alloc: Global, hashes: Hashes) -> Numbers<B> {
+        Numbers {
+            index: Index::new(alloc),
+            hashes,
+            next: 0,
+        }
+    }
+
+    // Adds the next number.
+    fn add(&mut self, rt: &impl Abort) -> Spot {
+        let birth = self.next;
+        assert!(rt; birth < u64::MAX);
+        let hash = self.hashes.of(birth);
+        let place = self
+            .index
+            .insert(birth, hash, Number(birth), !birth)
+            .expect(rt, "memory");
+        self.next = birth + 1;
+        Spot { birth, place }
+    }
+
+    // Takes a number out.
+    fn take(&mut self, rt: &impl Abort, spot: Spot) {
+        assert_eq!(rt; self.index.remove(spot), Some(spot.birth));
+    }
+
+    // Keeps the numbers below this one.
+    fn keep_below(&mut self, number: u64) {
+        self.index.keep(&Below(number));
+    }
+
+    // Reads a number, also where the place is wrong.
+    fn has(&self, rt: &impl Abort, spot: Spot) {
+        let Spot { birth, place } = spot;
+        let elsewhere = Spot {
+            birth,
+            place: place ^ 1,
+        };
+        assert_eq!(rt; self.index.get(spot).copied(), Some(birth));
+        assert_eq!(rt; self.index.payload(elsewhere), Some(!birth));
+        assert_eq!(rt; self.found(birth), Some(place));
+    }
+
+    // Reads nothing of a number that went.
+    fn has_not(&self, rt: &impl Abort, spot: Spot) {
+        assert!(rt; self.index.get(spot).is_none());
+        assert_eq!(rt; self.index.place(spot.birth), None);
+        assert_eq!(rt; self.found(spot.birth), None);
+    }
+
+    // The place of a number by its hash.
+    fn found(&self, number: u64) -> Option<usize> {
+        let spot = self.index.find(self.hashes.of(number), &Number(number))?;
+        Some(spot.place)
+    }
+}
+
+// Adds so many numbers.
+fn added<B: Births>(
+    rt: &impl Abort,
+    alloc: Global,
+    numbers: &mut Numbers<B>,
+    count: u64,
+) -> Vec<Spot> {
+    let mut spots = Vec::new(alloc);
+    for _ in 0..count {
+        let pushed: Result<_, _> = spots.push(numbers.add(rt));
+        pushed.expect(rt, "memory");
+    }
+    spots
+}
+
+// Each of these is there.
+fn all_there<B: Births>(rt: &impl Abort, numbers: &Numbers<B>, spots: &[Spot]) {
+    for spot in spots {
+        numbers.has(rt, *spot);
+    }
+}
+
+// All of these go, and as many come.
+fn replace<B: Births>(rt: &impl Abort, numbers: &mut Numbers<B>, spots: &mut [Spot]) {
+    for spot in spots.iter() {
+        numbers.take(rt, *spot);
+    }
+    for spot in spots.iter_mut() {
+        let next = numbers.add(rt);
+        numbers.has_not(rt, *spot);
+        *spot = next;
+    }
+}
+
+// Checks that an index has no more slots, and no more buckets by hashes, than these.
+fn has_at_most<B: Births>(rt: &impl Abort, numbers: &Numbers<B>, slots: usize, buckets: usize) {
+    let (kept, by_hash) = numbers.index.capacity();
+    assert!(rt; kept <= slots, "{kept} slots");
+    assert!(rt; by_hash <= buckets, "{by_hash} buckets");
+}
+
+// A round in which these go, and as many come: what stays reads right, and so does what came.
+fn churn(
+    rt: &impl Abort,
+    numbers: &mut Numbers<BirthTable>,
+    staying: &[Spot],
+    going: &mut [Spot],
+    buckets: usize,
+) {
+    replace(rt, numbers, going);
+    all_there(rt, numbers, staying);
+    all_there(rt, numbers, going);
+    assert!(rt; numbers.index.births().capacity() <= buckets);
+}
+
+// At most 1,000 entries at a time. The slab's vector doubles where it is full, so it has fewer than
+// 2,000 slots. A table is built with room for twice as many entries as there are, which is 2,000,
+// with a seventh more homes, which is 2,285, and with 64 buckets to spare. Where hashes are spread,
+// fewer entries than that stand behind the homes.
+const SLOTS: usize = 2_000;
+
+const BUCKETS: usize = 2_285 + 64;
+
+#[test]
+fn an_index_of_a_million_births_stays_small(rt: HostRuntime) {
+    let alloc = rt.alloc();
+    let mut numbers = Numbers::<BirthTable>::new(alloc, SPREAD);
+    let staying = added(&rt, alloc, &mut numbers, 500);
+    let mut going = added(&rt, alloc, &mut numbers, 500);
+    for _ in 0..1_998 {
+        churn(&rt, &mut numbers, &staying, &mut going, BUCKETS);
+        has_at_most(&rt, &numbers, SLOTS, BUCKETS);
+    }
+    assert_eq!(rt; numbers.next, 1_000_000);
+    assert_eq!(rt; numbers.index.len(), 1_000);
+}
+
+// At most 100 entries at a time, so there is room for 200, in 228 homes. Where all begin at the last
+// home, all but one stand behind it, in 427 buckets, and the vector may have doubled for them.
+fn shares_a_hash(rt: &impl Abort, alloc: Global, hash: u64) {
+    let hashes = Hashes {
+        first: hash,
+        apart: 0,
+    };
+    let mut numbers = Numbers::<BirthTable>::new(alloc, hashes);
+    let staying = added(rt, alloc, &mut numbers, 50);
+    let mut going = added(rt, alloc, &mut numbers, 50);
+    for _ in 0..198 {
+        churn(rt, &mut numbers, &staying, &mut going, 228 + 64);
+        has_at_most(rt, &numbers, 200, 2 * 427);
+    }
+    assert_eq!(rt; numbers.next, 10_000);
+}
+
+#[test]
+fn an_index_of_one_hash_stays_small(rt: HostRuntime) {
+    shares_a_hash(&rt, rt.alloc(), 0);
+    shares_a_hash(&rt, rt.alloc(), u64::MAX);
+}
+
+// Checks that these are the entries from a number on, in the order of births.
+fn in_order(rt: &impl Abort, numbers: &Numbers<BirthOrder>, from: usize, spots: &[Spot]) {
+    for (at, spot) in spots.iter().enumerate() {
+        let found = numbers
+            .index
+            .spot(from.saturating_add(at))
+            .expect(rt, "an entry");
+        assert_eq!(rt; (found.birth, found.place), (spot.birth, spot.place));
+    }
+}
+
+// Adds entries behind these, and sweeps them out.
+fn sweep(rt: &impl Abort, alloc: Global, numbers: &mut Numbers<BirthOrder>, staying: &[Spot]) {
+    let going = added(rt, alloc, numbers, 500);
+    in_order(rt, numbers, 0, staying);
+    in_order(rt, numbers, 500, &going);
+    numbers.keep_below(500);
+    all_there(rt, numbers, staying);
+    for spot in &going {
+        numbers.has_not(rt, *spot);
+    }
+    has_at_most(rt, numbers, SLOTS, BUCKETS);
+    assert!(rt; numbers.index.births().capacity() <= SLOTS);
+}
+
+#[test]
+fn an_index_in_order_stays_small(rt: HostRuntime) {
+    let alloc = rt.alloc();
+    let mut numbers = Numbers::<BirthOrder>::new(alloc, SPREAD);
+    let mut staying = added(&rt, alloc, &mut numbers, 500);
+    for _ in 0..198 {
+        sweep(&rt, alloc, &mut numbers, &staying);
+    }
+    replace(&rt, &mut numbers, &mut staying);
+    in_order(&rt, &numbers, 0, &staying);
+    assert_eq!(rt; numbers.next, 100_000);
+    assert_eq!(rt; numbers.index.len(), 500);
+}
