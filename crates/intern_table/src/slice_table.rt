@@ -17,10 +17,12 @@ use std::cmp::Eq;
 use std::hash::Hash;
 use std::marker::Model;
 
-/// The table of slices: an index of the headers, and one vector with the items of every slice, in the
-/// order of births.
+/// The table of slices: an index of the headers, and one vector with the items of every slice, in
+/// the order of births.
 ///
-/// A search compares only entries of one hash. Only an insertion takes memory.
+/// Interning takes expected constant time, but for the insertions that build the index anew, and
+/// compares only slices of one hash. What goes by a handle touches its entry and its items. Only an
+/// insertion takes memory.
 #[derive(Drop)]
 pub struct SliceTable<H: Hash + Eq, S: Hash + Eq + Copy> {
     index: Index<H, SlicePayload, BirthOrder>,
