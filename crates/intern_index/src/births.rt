@@ -75,7 +75,7 @@ pub(crate) fn locate<T, N: Copy, B: Births>(
 
 // The place of a birth that isn't where it was found.
 #[cold]
-fn find_birth<T, N: Copy, B: Births>(
+pub(crate) fn find_birth<T, N: Copy, B: Births>(
     slots: &Slab<Entry<T, N>>,
     births: &B,
     birth: u64,
