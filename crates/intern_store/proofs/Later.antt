@@ -28,10 +28,10 @@ module _ {V : Type 0} where
   pub counted_down_gone : (s : State V) (c b : ℕ) → IsGone s b → IsGone (counted_down s c) b
   counted_down_gone s c b gone = recounted_gone (λ n. n - 1) s c b gone
 
-  pub interned_gone : (eq : V → V → Bool) (s : State V) (v : V) (b : ℕ) → IsGone s b → IsGone (interned eq s v).1 b
+  pub interned_gone : (eq : V → V → Bool) (s : State V) (v : V) (b : ℕ) → IsGone s b → IsGone (interned eq s v).state b
   interned_gone eq s v b gone = go (birth_of eq s v)
     where
-      go : (o : Option ℕ) → IsGone (or_added o s v).1 b
+      go : (o : Option ℕ) → IsGone (or_added o s v).state b
       go (Some c) = gone
       go None = record {
         given = let below = gone.given in omega arith;

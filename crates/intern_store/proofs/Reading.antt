@@ -5,7 +5,7 @@ use Rattle.std.specs.Cmp.{IsEquivalence}
 use Rattle.std.specs.FinMap as map
 use Rattle.std.proofs.lemmas.Bool.{cases_eq, eq-eqb, ne_eqb}
 use Rattle.intern_store.specs.Kept.{Kept, is_at}
-use Rattle.intern_store.specs.State.{State, entry_at, name_in, reads, with_count, added, birth_of, or_added, interned}
+use Rattle.intern_store.specs.State.{State, entry_at, name_in, reads, with_count, added, birth_of, or_added, interned, interned_name}
 use Rattle.intern_store.specs.declared.names.Name.{Name}
 use Rattle.intern_store.proofs.Births.{is_stored}
 use Rattle.intern_store.proofs.Compared.{get-inserted}
@@ -44,10 +44,10 @@ module _ {V : Type 0} where
       go (Some k) at e = (k.value, entry_reads s b k at, e)
 
   -- what is interned is read: an equal value
-  pub interned_reads : (eq : V → V → Bool) → IsEquivalence eq → (s : State V) (v : V) → (w : V) × (reads (interned eq s v).1 (name_in s (interned eq s v).0) ≡ Some w) × (eq v w ≡ true)
+  pub interned_reads : (eq : V → V → Bool) → IsEquivalence eq → (s : State V) (v : V) → (w : V) × (reads (interned eq s v).state (interned_name eq s v) ≡ Some w) × (eq v w ≡ true)
   interned_reads eq laws s v = go (birth_of eq s v) refl
     where
-      go : (o : Option ℕ) → birth_of eq s v ≡ o → (w : V) × (reads (or_added o s v).1 (name_in s (or_added o s v).0) ≡ Some w) × (eq v w ≡ true)
+      go : (o : Option ℕ) → birth_of eq s v ≡ o → (w : V) × (reads (or_added o s v).state (name_in s (or_added o s v).birth) ≡ Some w) × (eq v w ≡ true)
       go (Some b) is = equal_read eq s v b (is_stored eq s v b is)
       go None is = (v, entry_reads (added s v) s.next _ entry, laws.refl v)
         where

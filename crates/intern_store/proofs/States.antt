@@ -8,7 +8,7 @@ use Rattle.std.specs.FinMap.{FinMap, get-empty, same_map, nat_cmp-IsAntisymmetri
 use Rattle.std.proofs.lemmas.Bool.{cases_eq, cases_lt, eq-eqb, ne_eqb, eqb-true, lt-ltb, le-ltb}
 use Rattle.std.proofs.lemmas.Option.{same_Some}
 use Rattle.intern_store.specs.Kept.{Kept, is_at, raised, recounted}
-use Rattle.intern_store.specs.State.{State, IsState, entry_at, count_at, is_last, freed, released, with_count, added, added_with, taken, counted_up, counted_down, birth_of, or_added, interned}
+use Rattle.intern_store.specs.State.{State, IsState, entry_at, count_at, is_last, freed, released, with_count, added, added_with, taken, counted_up, counted_down, birth_of, or_added, interned_counted}
 use Rattle.intern_store.proofs.Compared.{get-inserted, get-removed, get-retained}
 
 module _ {T : Type 0} (eq : T → T → Bool) where
@@ -242,5 +242,5 @@ module _ {T : Type 0} where
           ∙ sym (get-inserted s.map s.next one q))
 
   -- interning a value that isn't stored, and counting it
-  pub counted_up-interned : (eq : T → T → Bool) (s : State T) (v : T) → birth_of eq s v ≡ None → counted_up (interned eq s v).1 (interned eq s v).0 ≡ added_with 1 s v
-  counted_up-interned eq s v none = ap (λ o. counted_up (or_added o s v).1 (or_added o s v).0) none ∙ counted_up-added s v
+  pub counted_up-interned : (eq : T → T → Bool) (s : State T) (v : T) → birth_of eq s v ≡ None → interned_counted eq s v ≡ added_with 1 s v
+  counted_up-interned eq s v none = ap (λ o. counted_up (or_added o s v).state (or_added o s v).birth) none ∙ counted_up-added s v

@@ -21,9 +21,16 @@ pub record State (V : Type 0) : Type 0 where
 abbrev pub state_code : {V : Type 0} → Coded V → Coded (State V)
 state_code {V} code =
     code_by (ℕ × (ℕ × (ℕ × (ℕ × map.FinMap nat_cmp (Kept V)))))
-    (coded× coded_ℕ (coded× coded_ℕ (coded× coded_ℕ (coded× coded_ℕ (map.code coded_ℕ (kept_code code))))))
+    (coded× coded_ℕ (coded× coded_ℕ (coded× coded_ℕ (coded× coded_ℕ
+    (map.code coded_ℕ (kept_code code))))))
     (λ s. (s.number, (s.next, (s.top, (s.numbers, s.map)))))
-    (λ p. record { number = p.0; next = p.1.0; top = p.1.1.0; numbers = p.1.1.1.0; map = p.1.1.1.1 })
+    (λ p. record {
+      number = p.0;
+      next = p.1.0;
+      top = p.1.1.0;
+      numbers = p.1.1.1.0;
+      map = p.1.1.1.1;
+    })
     (λ _. refl)
 
 -- every birth was given, no count is past the limit, and no two values are equal
@@ -31,12 +38,14 @@ pub record IsState {V : Type 0} (eq : V → V → Bool) (s : State V) : Type 0 w
   pub below : (b : ℕ) → IsSome (map.get s.map b) → b < s.next
   pub within : s.next ≤ s.numbers
   pub counts : (b : ℕ) (k : Kept V) → map.get s.map b ≡ Some k → k.count ≤ s.top
-  pub apart : (b c : ℕ) (k l : Kept V) → map.get s.map b ≡ Some k → map.get s.map c ≡ Some l → eq k.value l.value ≡ true → b ≡ c
+  pub apart : (b c : ℕ) (k l : Kept V) → map.get s.map b ≡ Some k → map.get s.map c ≡ Some l
+      → eq k.value l.value ≡ true → b ≡ c
   pub counted : 0 < s.top
 
 -- a state with no entry
 abbrev pub new_state : {V : Type 0} → ℕ → ℕ → ℕ → State V
-new_state number top numbers = record { number = number; next = 0; top = top; numbers = numbers; map = map.empty }
+new_state number top numbers =
+    record { number = number; next = 0; top = top; numbers = numbers; map = map.empty }
 
 -- what a count decides: it can't be raised past the limit
 abbrev pub full : ℕ → ℕ → Option Refusal
@@ -50,10 +59,10 @@ zero_count n = if n == 0 then Some CountZero else None
 abbrev pub any_count : ℕ → Option Refusal
 any_count n = None
 
--- why a call that may want memory was refused: for what is due; where nothing is, for want of memory, and this only where it needs some
-abbrev pub IsWhy : Option Refusal → Bool → Refusal → Type 0
-IsWhy (Some r) needs why = why ≡ r
-IsWhy None needs why = (why ≡ OutOfMemory) × IsTrue needs
+-- a birth, and the state in which a value is stored under it
+pub record Stored (V : Type 0) : Type 0 where
+  pub birth : ℕ
+  pub state : State V
 
 module _ {V : Type 0} where
   -- the name of a birth
@@ -103,7 +112,8 @@ module _ {V : Type 0} where
 
   -- with a new entry of this count
   abbrev pub added_with : ℕ → State V → V → State V
-  added_with n s v = record s { next = s.next + 1; map = map.insert s.map s.next (record { value = v; count = n }) }
+  added_with n s v =
+      record s { next = s.next + 1; map = map.insert s.map s.next (record { value = v; count = n }) }
 
   -- with a new entry that nothing counts
   abbrev pub added : State V → V → State V
@@ -118,13 +128,21 @@ module _ {V : Type 0} where
   is_new eq s v = is_none (birth_of eq s v)
 
   -- this birth, or that of a new entry
-  abbrev pub or_added : Option ℕ → State V → V → ℕ × State V
-  or_added (Some b) s v = (b, s)
-  or_added None s v = (s.next, added s v)
+  abbrev pub or_added : Option ℕ → State V → V → Stored V
+  or_added (Some b) s v = record { birth = b; state = s }
+  or_added None s v = record { birth = s.next; state = added s v }
 
-  -- the birth of v, and the state in which it is stored
-  abbrev pub interned : (V → V → Bool) → State V → V → ℕ × State V
+  -- v stored, under the birth that it has or a new one
+  abbrev pub interned : (V → V → Bool) → State V → V → Stored V
   interned eq s v = or_added (birth_of eq s v) s v
+
+  -- the name under which v is stored
+  abbrev pub interned_name : (V → V → Bool) → State V → V → Name
+  interned_name eq s v = name_in s (interned eq s v).birth
+
+  -- v stored, and counted once more
+  abbrev pub interned_counted : (V → V → Bool) → State V → V → State V
+  interned_counted eq s v = let i = interned eq s v in counted_up i.state i.birth
 
   -- the refusal of a call on an entry: where there is one, what its count decides
   abbrev pub due_at : Option (Kept V) → (ℕ → Option Refusal) → Option Refusal
@@ -133,7 +151,8 @@ module _ {V : Type 0} where
 
   -- the refusal of a call on a handle of this name
   abbrev pub due : State V → Name → (ℕ → Option Refusal) → Option Refusal
-  due s n by_count = if n.storage == s.number then due_at (entry_at s n.birth) by_count else Some Foreign
+  due s n by_count =
+      if n.storage == s.number then due_at (entry_at s n.birth) by_count else Some Foreign
 
   -- the refusal of a call that adds an entry, before want of memory
   abbrev pub due_adding : State V → Option Refusal
@@ -144,11 +163,13 @@ module _ {V : Type 0} where
   due_found (Some b) s by_count = option_and_then by_count (count_at s b)
   due_found None s by_count = due_adding s
 
-  -- the refusal of a call that interns v, before want of memory: where v is stored what its count decides, else that births are used up
+  -- the refusal of a call that interns v, before want of memory: where v is stored what its count
+  -- decides, else that births are used up
   abbrev pub due_interning : (V → V → Bool) → State V → V → (ℕ → Option Refusal) → Option Refusal
   due_interning eq s v by_count = due_found (birth_of eq s v) s by_count
 
-  -- whether a release takes the entry of a birth out: where entries don't stay, one that is counted once
+  -- whether a release takes the entry of a birth out: where entries don't stay, one that is
+  -- counted once
   abbrev pub is_last : Bool → State V → ℕ → Bool
   is_last stays s b = not stays && option_eq ◌==◌ (count_at s b) (Some 1)
 
@@ -160,10 +181,9 @@ module _ {V : Type 0} where
   abbrev pub released : Bool → State V → ℕ → State V
   released stays s b = if is_last stays s b then taken s b else counted_down s b
 
--- what comes back of an offer
-abbrev pub offered_back : {O : Type 0} → Option ℕ → O → Option O
-offered_back (Some b) o = Some o
-offered_back None o = None
+  -- what comes back of an offer of v: all of it where v is stored, and nothing where it isn't
+  abbrev pub given_back : {O : Type 0} → (V → V → Bool) → State V → V → O → Option O
+  given_back eq s v offer = option_map (λ b. offer) (birth_of eq s v)
 
 -- the place of a refusal in their order
 abbrev pub refusal_number : Refusal → ℕ

@@ -35,7 +35,8 @@ pub trait Entries: Sized {
     fn count(&self, spot: Spot) -> Option<u64>
         ensures { result ≡ option_map (λ k. k.count) (map.get (entries self.now) spot.birth) };
 
-    /// Counts an entry once more, where it is counted less than this often. It gives the count before.
+    /// Counts an entry once more, where it is counted less than this often. It gives the count
+    /// before.
     fn count_up(&mut self, spot: Spot, top: u64) -> Option<u64>
         ensures count { result
             ≡ option_map (λ k. k.count) (map.get (entries self.old) spot.birth) }
@@ -70,7 +71,8 @@ pub trait Takes<O>: Entries {
     /// An entry whose value equals the one offered, or else the offer's hash.
     fn find(&self, offer: &O) -> Result<Spot, u64>
         ensures found { IfOk result (λ s.
-            is_at Self.Value.eq (value offer.now) (map.get (Self.entries self.now) s.birth) ≡ true) }
+            is_at Self.Value.eq (value offer.now) (map.get (Self.entries self.now) s.birth)
+            ≡ true) }
         ensures none { OnErr result ((b : ℕ) →
             is_at Self.Value.eq (value offer.now) (map.get (Self.entries self.now) b) ≡ false) }
         ensures hash { IfErr result (λ h. h ≡ hash_of offer.now) };
@@ -80,8 +82,8 @@ pub trait Takes<O>: Entries {
     fn insert(&mut self, birth: u64, hash: u64, offer: O, count: u64) -> Result<usize, O>
         requires above { (b : ℕ) → IsSome (map.get (Self.entries self.old) b) → b < birth }
         requires hash { hash ≡ Self.hash_of offer }
-        ensures ok { OnOk result (Self.entries self.new
-            ≡ map.insert (Self.entries self.old) birth (record { value = value offer; count = count })) }
+        ensures ok { OnOk result (Self.entries self.new ≡ map.insert (Self.entries self.old) birth
+            (record { value = value offer; count = count })) }
         ensures err { OnErr result (Self.entries self.new ≡ Self.entries self.old) }
         ensures back { IfErr result (λ back. back ≡ offer) };
 }
@@ -109,5 +111,6 @@ impl Marks for HashSet<u64> {
 pub trait Sweeps<M: Marks>: Entries {
     /// Drops every entry that isn't marked. It takes no memory.
     fn keep(&mut self, marks: &M)
-        ensures { Self.entries self.new ≡ map.retain_keys (Self.entries self.old) (M.marked marks.now) };
+        ensures { Self.entries self.new
+            ≡ map.retain_keys (Self.entries self.old) (M.marked marks.now) };
 }

@@ -6,5 +6,5 @@ mod names;
 mod store;
 
 pub use entries::{Entries, Marks, Removes, Sweeps, Takes};
-pub use names::{Handle, Limits, Name, Refusal, Refused, Spot};
+pub use names::{EntryKey, Limits, Name, Refusal, Refused, Spot};
 pub use store::Store;

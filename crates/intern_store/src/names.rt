@@ -38,7 +38,7 @@ pub struct Spot {
 /// What a handle holds: the name of an entry, and the place where it was found. The name alone is
 /// compared and hashed.
 #[derive_where(Clone, Copy, PartialEq, Eq, Hash)]
-pub struct Handle {
+pub struct EntryKey {
     /// The entry's name.
     pub name: Name,
     /// The place where it was found.
@@ -46,7 +46,7 @@ pub struct Handle {
     pub place: usize,
 }
 
-impl Handle {
+impl EntryKey {
     /// Where the entry is.
     pub fn spot(self) -> Spot
         ensures { result.birth ≡ self.name.birth }

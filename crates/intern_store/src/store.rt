@@ -1,12 +1,13 @@
 //! A table with a number, limits, counts and births: what every storage is.
-ghost use Rattle.std.specs.Prelude.{◌≡◌, ◌<◌, ◌≤◌, true, Some, None, IsSome, IfSome, IfNone, ◌≢◌, IfOk, IfErr, OnOk, is_ok, if◌then◌else◌};
+ghost use Rattle.std.specs.Prelude.{◌≡◌, ◌<◌, ◌≤◌, ◌==◌, true, Some, None, IsSome, IfSome, IfNone, ◌≢◌, IfOk, IfErr};
 ghost use Rattle.std.specs.Result.{result_ok};
 ghost use Rattle.std.specs.FinMap as map;
 ghost use Rattle.std.specs.Option.{option_map};
-ghost use Rattle.intern_store.specs.State.{IsState, new_state, name_in, entry_at, count_at, counts, counted_up, counted_down, taken, added_with, birth_of, is_new, interned, offered_back, due, due_at, due_adding, due_interning, full, zero_count, any_count, IsWhy, freed, released, kept};
+ghost use Rattle.intern_store.specs.Outcome.{Owes, MayWantBack, Becomes};
+ghost use Rattle.intern_store.specs.State.{IsState, new_state, name_in, entry_at, count_at, counts, counted_up, counted_down, taken, added_with, birth_of, is_new, interned, interned_name, interned_counted, given_back, due, due_at, due_adding, due_interning, full, zero_count, any_count, freed, released, kept};
 
 use crate::entries::{Entries, Marks, Removes, Sweeps, Takes};
-use crate::names::{Handle, Limits, Name, Refusal, Refused, Spot};
+use crate::names::{EntryKey, Limits, Name, Refusal, Refused, Spot};
 use std::alloc::Global;
 use std::marker::Model;
 
@@ -29,9 +30,21 @@ impl<E: Entries> Model for Store<E> {
 
     ghost coded = { state_code E.Value.code };
 
-    ghost view = { λ a. record { number = a.number; next = a.next; top = a.top; numbers = a.numbers; map = E.entries a.table } };
+    ghost view = { λ a. record {
+      number = a.number;
+      next = a.next;
+      top = a.top;
+      numbers = a.numbers;
+      map = E.entries a.table;
+    } };
 
-    ghost invariant = { λ a. IsState E.Value.eq (record { number = a.number; next = a.next; top = a.top; numbers = a.numbers; map = E.entries a.table }) };
+    ghost invariant = { λ a. IsState E.Value.eq (record {
+      number = a.number;
+      next = a.next;
+      top = a.top;
+      numbers = a.numbers;
+      map = E.entries a.table;
+    }) };
 }
 
 impl<E: Entries> Store<E> {
@@ -75,40 +88,50 @@ impl<E: Entries> Store<E> {
         self.table.len()
     }
 
-    // Where the entry of a handle is sought: nowhere for a handle of another storage.
-    fn spot(&self, handle: Handle) -> Result<Spot, Refusal>
-        ensures own { IfOk result (λ s. (handle.name.storage ≡ self.now.number) × (s.birth ≡ handle.name.birth)) }
-        ensures foreign { IfErr result (λ why. (handle.name.storage ≢ self.now.number) × (why ≡ Refusal.Foreign)) }
+    /// Whether there is no entry.
+    pub fn is_empty(&self) -> bool
+        ensures { result ≡ (map.len self.now.map == 0) }
     {
-        if handle.name.storage != self.number {
-            return Err(Refusal::Foreign);
-        }
-        Ok(handle.spot())
+        self.len() == 0
     }
 
-    /// The table, where a handle is of this storage.
-    pub fn own(&self, handle: Handle) -> Option<&E>
-        ensures own { IfSome result (λ t. (handle.name.storage ≡ self.now.number) × (E.entries t.now ≡ self.now.map)) }
-        ensures foreign { IfNone result (handle.name.storage ≢ self.now.number) }
+    // Where the entry of a key is looked for: nowhere for a key of another storage.
+    fn spot(&self, key: EntryKey) -> Result<Spot, Refusal>
+        ensures own { IfOk result (λ s.
+            (key.name.storage ≡ self.now.number) × (s.birth ≡ key.name.birth)) }
+        ensures foreign { IfErr result (λ why.
+            (key.name.storage ≢ self.now.number) × (why ≡ Refusal.Foreign)) }
     {
-        match self.spot(handle) {
+        if key.name.storage != self.number {
+            return Err(Refusal::Foreign);
+        }
+        Ok(key.spot())
+    }
+
+    /// The table, where a key is of this storage.
+    pub fn own(&self, key: EntryKey) -> Option<&E>
+        ensures own { IfSome result (λ t.
+            (key.name.storage ≡ self.now.number) × (E.entries t.now ≡ self.now.map)) }
+        ensures foreign { IfNone result (key.name.storage ≢ self.now.number) }
+    {
+        match self.spot(key) {
             Ok(_) => Some(&self.table),
             Err(_) => None,
         }
     }
 
-    /// The count of the entry of a handle.
-    pub fn count(&self, handle: Handle) -> Option<u64>
-        ensures { result ≡ counts self.now handle.name }
+    /// The count of the entry of a key.
+    pub fn count(&self, key: EntryKey) -> Option<u64>
+        ensures { result ≡ counts self.now key.name }
     {
-        self.table.count(self.spot(handle).ok()?)
+        self.table.count(self.spot(key).ok()?)
     }
 
-    // A handle of a spot.
-    fn handle(&self, spot: Spot) -> Handle
+    // The key of a spot.
+    fn key(&self, spot: Spot) -> EntryKey
         ensures { result.name ≡ name_in self.now spot.birth }
     {
-        Handle {
+        EntryKey {
             name: Name {
                 storage: self.number,
                 birth: spot.birth,
@@ -117,29 +140,27 @@ impl<E: Entries> Store<E> {
         }
     }
 
-    /// A handle of the entry of a birth.
-    pub fn entry(&self, birth: u64) -> Result<Handle, Refusal>
-        ensures ok { IfOk result (λ h. h.name ≡ name_in self.now birth) }
-        ensures allowed { OnOk result (due_at (entry_at self.now birth) any_count ≡ None) }
-        ensures refused { IfErr result (λ why. due_at (entry_at self.now birth) any_count ≡ Some why) }
+    /// The key of the entry of a birth.
+    pub fn entry(&self, birth: u64) -> Result<EntryKey, Refusal>
+        ensures ok { IfOk result (λ k. k.name ≡ name_in self.now birth) }
+        ensures refused { Owes result (due_at (entry_at self.now birth) any_count) }
     {
         match self.table.place(birth) {
             None => Err(Refusal::Gone),
-            Some(place) => Ok(self.handle(Spot { birth, place })),
+            Some(place) => Ok(self.key(Spot { birth, place })),
         }
     }
 
-    /// A handle of the entry of a birth, where its count isn't zero.
-    pub fn counted_entry(&self, birth: u64) -> Result<Handle, Refusal>
-        ensures ok { IfOk result (λ h. h.name ≡ name_in self.now birth) }
-        ensures allowed { OnOk result (due_at (entry_at self.now birth) zero_count ≡ None) }
-        ensures refused { IfErr result (λ why. due_at (entry_at self.now birth) zero_count ≡ Some why) }
+    /// The key of the entry of a birth, where its count isn't zero.
+    pub fn counted_entry(&self, birth: u64) -> Result<EntryKey, Refusal>
+        ensures ok { IfOk result (λ k. k.name ≡ name_in self.now birth) }
+        ensures refused { Owes result (due_at (entry_at self.now birth) zero_count) }
     {
-        let handle = self.entry(birth)?;
-        if self.table.count(handle.spot()) == Some(0) {
+        let key = self.entry(birth)?;
+        if self.table.count(key.spot()) == Some(0) {
             return Err(Refusal::CountZero);
         }
-        Ok(handle)
+        Ok(key)
     }
 
     // An entry whose value equals the one offered, or else the offer's hash.
@@ -151,22 +172,22 @@ impl<E: Entries> Store<E> {
         ensures there { IfOk result (λ s. IsSome (entry_at self.now s.birth)) }
         ensures hash { IfErr result (λ h. h ≡ E.hash_of offer.now) }
     {
+        // A field that is read brings in the invariant, which the table alone doesn't know.
         let _next = self.next;
         self.table.find(offer)
     }
 
     // Adds an entry under its hash, with a count of its own.
-    fn add<O>(&mut self, hash: u64, offer: O, count: u64) -> Result<Handle, Refused<O>>
+    fn add<O>(&mut self, hash: u64, offer: O, count: u64) -> Result<EntryKey, Refused<O>>
     where
         E: Takes<O>,
         requires hash { hash ≡ E.hash_of offer }
         requires fits { count ≤ self.old.top }
         requires fresh { birth_of E.Value.eq self.old (E.value offer) ≡ None }
-        ensures ok { IfOk result (λ h. h.name ≡ name_in self.old self.old.next) }
-        ensures allowed { OnOk result (due_adding self.old ≡ None) }
-        ensures refused { IfErr result (λ r. IsWhy (due_adding self.old) true r.why) }
-        ensures back { IfErr result (λ r. r.back ≡ offer) }
-        ensures state { self.new ≡ (if is_ok result then added_with count self.old (E.value offer) else self.old) }
+        ensures ok { IfOk result (λ k. k.name ≡ name_in self.old self.old.next) }
+        ensures refused { MayWantBack result (due_adding self.old) true offer }
+        ensures state { Becomes result self.old self.new
+            (added_with count self.old (E.value offer)) }
     {
         if self.next == self.numbers {
             return Err(Refused {
@@ -178,7 +199,7 @@ impl<E: Entries> Store<E> {
         match self.table.insert(birth, hash, offer, count) {
             Ok(place) => {
                 self.next = birth + 1;
-                Ok(self.handle(Spot { birth, place }))
+                Ok(self.key(Spot { birth, place }))
             }
             Err(back) => Err(Refused {
                 why: Refusal::OutOfMemory,
@@ -189,9 +210,8 @@ impl<E: Entries> Store<E> {
 
     // Raises the count of an entry.
     fn raise(&mut self, spot: Spot) -> Result<(), Refusal>
-        ensures allowed { OnOk result (due_at (entry_at self.old spot.birth) (full self.old.top) ≡ None) }
-        ensures refused { IfErr result (λ why. due_at (entry_at self.old spot.birth) (full self.old.top) ≡ Some why) }
-        ensures state { self.new ≡ (if is_ok result then counted_up self.old spot.birth else self.old) }
+        ensures refused { Owes result (due_at (entry_at self.old spot.birth) (full self.old.top)) }
+        ensures state { Becomes result self.old self.new (counted_up self.old spot.birth) }
     {
         match self.table.count_up(spot, self.top) {
             None => Err(Refusal::Gone),
@@ -203,12 +223,10 @@ impl<E: Entries> Store<E> {
     // Lowers the count of an entry, and gives the count before.
     fn lower(&mut self, spot: Spot) -> Result<u64, Refusal>
         ensures ok { IfOk result (λ n. (0 < n) × (count_at self.old spot.birth ≡ Some n)) }
-        ensures allowed { OnOk result (due_at (entry_at self.old spot.birth) zero_count ≡ None) }
-        ensures refused { IfErr result (λ why.
-            due_at (entry_at self.old spot.birth) zero_count ≡ Some why) }
-        ensures state { self.new
-            ≡ (if is_ok result then counted_down self.old spot.birth else self.old) }
+        ensures refused { Owes result (due_at (entry_at self.old spot.birth) zero_count) }
+        ensures state { Becomes result self.old self.new (counted_down self.old spot.birth) }
     {
+        // A field that is read brings in the invariant, which the table alone doesn't know.
         let _next = self.next;
         match self.table.count_down(spot) {
             None => Err(Refusal::Gone),
@@ -218,35 +236,45 @@ impl<E: Entries> Store<E> {
     }
 
     /// Stores what is offered with no count, or hands it back where an equal value is stored.
-    pub fn intern<O>(&mut self, offer: O) -> Result<(Handle, Option<O>), Refused<O>>
+    pub fn intern<O>(&mut self, offer: O) -> Result<(EntryKey, Option<O>), Refused<O>>
     where
         E: Takes<O>,
-        ensures ok { IfOk result (λ r. (r.0.name ≡ name_in self.old (interned E.Value.eq self.old (E.value offer)).0) × (r.1 ≡ offered_back (birth_of E.Value.eq self.old (E.value offer)) offer)) }
-        ensures allowed { OnOk result (due_interning E.Value.eq self.old (E.value offer) any_count ≡ None) }
-        ensures refused { IfErr result (λ r. IsWhy (due_interning E.Value.eq self.old (E.value offer) any_count) (is_new E.Value.eq self.old (E.value offer)) r.why) }
-        ensures back { IfErr result (λ r. r.back ≡ offer) }
-        ensures state { self.new ≡ (if is_ok result then (interned E.Value.eq self.old (E.value offer)).1 else self.old) }
+        ensures name { IfOk result (λ r.
+            r.0.name ≡ interned_name E.Value.eq self.old (E.value offer)) }
+        ensures back { IfOk result (λ r.
+            r.1 ≡ given_back E.Value.eq self.old (E.value offer) offer) }
+        ensures refused { MayWantBack result
+            (due_interning E.Value.eq self.old (E.value offer) any_count)
+            (is_new E.Value.eq self.old (E.value offer)) offer }
+        ensures state { Becomes result self.old self.new
+            (interned E.Value.eq self.old (E.value offer)).state }
     {
         match self.find(&offer) {
-            Ok(spot) => Ok((self.handle(spot), Some(offer))),
+            Ok(spot) => Ok((self.key(spot), Some(offer))),
             Err(hash) => Ok((self.add(hash, offer, 0)?, None)),
         }
     }
 
-    /// Stores what is offered, or hands it back where an equal value is stored. It is counted once more.
-    pub fn intern_counted<O>(&mut self, offer: O) -> Result<(Handle, Option<O>), Refused<O>>
+    /// Stores what is offered, or hands it back where an equal value is stored. It is counted once
+    /// more.
+    pub fn intern_counted<O>(&mut self, offer: O) -> Result<(EntryKey, Option<O>), Refused<O>>
     where
         E: Takes<O>,
-        ensures ok { IfOk result (λ r. (r.0.name ≡ name_in self.old (interned E.Value.eq self.old (E.value offer)).0) × (r.1 ≡ offered_back (birth_of E.Value.eq self.old (E.value offer)) offer)) }
-        ensures allowed { OnOk result (due_interning E.Value.eq self.old (E.value offer) (full self.old.top) ≡ None) }
-        ensures refused { IfErr result (λ r. IsWhy (due_interning E.Value.eq self.old (E.value offer) (full self.old.top)) (is_new E.Value.eq self.old (E.value offer)) r.why) }
-        ensures back { IfErr result (λ r. r.back ≡ offer) }
-        ensures state { let i = interned E.Value.eq self.old (E.value offer) in self.new ≡ (if is_ok result then counted_up i.1 i.0 else self.old) }
+        ensures name { IfOk result (λ r.
+            r.0.name ≡ interned_name E.Value.eq self.old (E.value offer)) }
+        ensures back { IfOk result (λ r.
+            r.1 ≡ given_back E.Value.eq self.old (E.value offer) offer) }
+        ensures refused { MayWantBack result
+            (due_interning E.Value.eq self.old (E.value offer) (full self.old.top))
+            (is_new E.Value.eq self.old (E.value offer)) offer }
+        ensures state { Becomes result self.old self.new
+            (interned_counted E.Value.eq self.old (E.value offer)) }
     {
+        // A field that is read brings in the invariant, which the table alone doesn't know.
         let _top = self.top;
         match self.find(&offer) {
             Ok(spot) => match self.raise(spot) {
-                Ok(()) => Ok((self.handle(spot), Some(offer))),
+                Ok(()) => Ok((self.key(spot), Some(offer))),
                 Err(why) => Err(Refused { why, back: offer }),
             },
             Err(hash) => Ok((self.add(hash, offer, 1)?, None)),
@@ -254,22 +282,20 @@ impl<E: Entries> Store<E> {
     }
 
     /// Counts an entry once more.
-    pub fn count_up(&mut self, handle: Handle) -> Result<(), Refusal>
-        ensures allowed { OnOk result (due self.old handle.name (full self.old.top) ≡ None) }
-        ensures refused { IfErr result (λ why. due self.old handle.name (full self.old.top) ≡ Some why) }
-        ensures state { self.new ≡ (if is_ok result then counted_up self.old handle.name.birth else self.old) }
+    pub fn count_up(&mut self, key: EntryKey) -> Result<(), Refusal>
+        ensures refused { Owes result (due self.old key.name (full self.old.top)) }
+        ensures state { Becomes result self.old self.new (counted_up self.old key.name.birth) }
     {
-        let spot = self.spot(handle)?;
+        let spot = self.spot(key)?;
         self.raise(spot)
     }
 
     /// Counts an entry once less. It stays, also at zero.
-    pub fn count_down(&mut self, handle: Handle) -> Result<(), Refusal>
-        ensures allowed { OnOk result (due self.old handle.name zero_count ≡ None) }
-        ensures refused { IfErr result (λ why. due self.old handle.name zero_count ≡ Some why) }
-        ensures state { self.new ≡ (if is_ok result then counted_down self.old handle.name.birth else self.old) }
+    pub fn count_down(&mut self, key: EntryKey) -> Result<(), Refusal>
+        ensures refused { Owes result (due self.old key.name zero_count) }
+        ensures state { Becomes result self.old self.new (counted_down self.old key.name.birth) }
     {
-        let spot = self.spot(handle)?;
+        let spot = self.spot(key)?;
         self.lower(spot)?;
         Ok(())
     }
@@ -285,13 +311,13 @@ impl<E: Removes> Store<E> {
     }
 
     /// Gives a count up. The last one takes the entry out and frees its value, unless entries stay.
-    pub fn release(&mut self, handle: Handle, stays: bool) -> Result<Option<E::Value>, Refusal>
-        ensures value { IfOk result (λ v. v ≡ freed stays self.old handle.name.birth) }
-        ensures allowed { OnOk result (due self.old handle.name zero_count ≡ None) }
-        ensures refused { IfErr result (λ why. due self.old handle.name zero_count ≡ Some why) }
-        ensures state { self.new ≡ (if is_ok result then released stays self.old handle.name.birth else self.old) }
+    pub fn release(&mut self, key: EntryKey, stays: bool) -> Result<Option<E::Value>, Refusal>
+        ensures value { IfOk result (λ v. v ≡ freed stays self.old key.name.birth) }
+        ensures refused { Owes result (due self.old key.name zero_count) }
+        ensures state { Becomes result self.old self.new
+            (released stays self.old key.name.birth) }
     {
-        let spot = self.spot(handle)?;
+        let spot = self.spot(key)?;
         let count = self.lower(spot)?;
         if count == 1 && !stays {
             return Ok(self.take(spot));
@@ -307,6 +333,7 @@ impl<E: Entries> Store<E> {
         E: Sweeps<M>,
         ensures { self.new ≡ kept self.old (M.marked marks.now) }
     {
+        // A field that is read brings in the invariant, which the table alone doesn't know.
         let _next = self.next;
         self.table.keep(marks);
     }

@@ -1,12 +1,13 @@
 -- A table of texts after each change.
-use Rattle.std.proofs.Common.{◌≡◌, ◌≢◌, inl, inr, ℕ, ◌+◌, ◌-◌, ◌<◌, ◌==◌, Bool, true, false, cond, List, Option, Some, None, refl, sym, ap, subst, ◌∙◌, arith}
+use Rattle.std.proofs.Common.{◌≡◌, ◌≢◌, inl, inr, ℕ, ◌+◌, ◌-◌, ◌<◌, ◌==◌, Bool, true, false, cond, List, Option, Some, None, Result, Ok, Err, refl, sym, ap, subst, ◌∙◌, arith}
 use Rattle.std.specs.Option.{option_eq, option_map}
 use Rattle.std.specs.Str.{bytes_eq}
 use Rattle.std.proofs.lemmas.Bool.{cases_eq, eq-eqb, ne_eqb}
 use Rattle.std.proofs.lemmas.Option.{same_Some}
 use Rattle.intern_presets.specs.Presets.{place_of}
 use Rattle.intern_store.specs.Kept.{Kept}
-use Rattle.intern_store.specs.State.{State, entry_at, count_at, with_count, counted_up, counted_down, taken, added, birth_of, or_added, interned, released}
+use Rattle.intern_store.specs.Outcome.{Becomes}
+use Rattle.intern_store.specs.State.{State, entry_at, count_at, with_count, counted_up, counted_down, taken, added, birth_of, or_added, interned_counted, released}
 use Rattle.intern_store.proofs.Compared.{get-inserted}
 use Rattle.intern_store.proofs.States.{still}
 use Rattle.ra_ap_intern.specs.Symbols.{IsTable}
@@ -52,10 +53,10 @@ added_table s t new is =
     let fresh : record { value = t; count = 0 } ≡ k = same_Some _ _ (sym (get-inserted s.map s.next _ s.next ∙ ap (λ x. cond x (Some (record { value = t; count = 0 })) (entry_at s s.next)) (eq-eqb s.next s.next refl)) ∙ at) in
     (omega arith, ap (λ (x : Kept (List ℕ)). place_of x.value) (sym fresh) ∙ new))
 
-pub interned_table : (s : State (List ℕ)) (t : List ℕ) → place_of t ≡ None → IsTable s → IsTable (counted_up (interned bytes_eq s t).1 (interned bytes_eq s t).0)
+pub interned_table : (s : State (List ℕ)) (t : List ℕ) → place_of t ≡ None → IsTable s → IsTable (interned_counted bytes_eq s t)
 interned_table s t new is = go (birth_of bytes_eq s t)
   where
-    go : (o : Option ℕ) → IsTable (counted_up (or_added o s t).1 (or_added o s t).0)
+    go : (o : Option ℕ) → IsTable (counted_up (or_added o s t).state (or_added o s t).birth)
     go None = added_table s t new is
     go (Some b) = up_table s b is
 
@@ -72,6 +73,6 @@ released_table s b is = go (option_eq ◌==◌ (count_at s b) (Some 1)) refl
         (omega arith, is.others b k at))
 
 -- a call that may be refused leaves one of two tables
-pub either_table : (t : Bool) (s u w : State (List ℕ)) → w ≡ cond t s u → IsTable s → IsTable u → IsTable w
-either_table true s u w e first second = subst IsTable (sym e) first
-either_table false s u w e first second = subst IsTable (sym e) second
+pub either_table : {A E : Type 0} (r : Result A E) (old new next : State (List ℕ)) → Becomes r old new next → IsTable next → IsTable old → IsTable new
+either_table (Ok a) old new next e next_is old_is = subst IsTable (sym e) next_is
+either_table (Err why) old new next e next_is old_is = subst IsTable (sym e) old_is

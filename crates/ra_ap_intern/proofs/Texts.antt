@@ -55,23 +55,23 @@ told s is table a b t u first second = (λ same. same_Some _ _ (sym first ∙ ap
     by (entry n) (preset q) first second same = absurd (no_preset s table q n u t second first (sym same))
     by (entry n) (entry m) first second same = ap entry (one_entry s is n m t u first second same)
 
-pub preset_given : (s : State (List ℕ)) (p : ℕ) (t : List ℕ) → preset_text p ≡ Some t → symbol_in s t ≡ (preset p, s)
+pub preset_given : (s : State (List ℕ)) (p : ℕ) (t : List ℕ) → preset_text p ≡ Some t → symbol_in s t ≡ record { symbol = preset p; table = s }
 preset_given s p t at = ap (λ o. symbol_at o s t) ((place_is t p).1 at)
 
-pub reads_back : (s : State (List ℕ)) (t : List ℕ) → text_of (symbol_in s t).1 (symbol_in s t).0 ≡ Some t
+pub reads_back : (s : State (List ℕ)) (t : List ℕ) → text_of (symbol_in s t).table (symbol_in s t).symbol ≡ Some t
 reads_back s t = go (place_of t) refl
   where
-    go : (o : Option ℕ) → place_of t ≡ o → text_of (symbol_at o s t).1 (symbol_at o s t).0 ≡ Some t
+    go : (o : Option ℕ) → place_of t ≡ o → text_of (symbol_at o s t).table (symbol_at o s t).symbol ≡ Some t
     go (Some p) is = (place_is t p).0 is
     go None is =
         let i = interned bytes_eq s t in
         let read = interned_reads bytes_eq nat_list_eq_equiv s t in
-        recounted_reads (λ n. n + 1) i.1 i.0 (name_in s i.0) ∙ read.1 ∙ ap Some (sym ((bytes_eq-Decides t read.0).0 read.2))
+        recounted_reads (λ n. n + 1) i.state i.birth (name_in s i.birth) ∙ read.1 ∙ ap Some (sym ((bytes_eq-Decides t read.0).0 read.2))
 
-pub interned_text_gone : (s : State (List ℕ)) (t : List ℕ) (b : ℕ) → IsGone s b → IsGone (symbol_in s t).1 b
+pub interned_text_gone : (s : State (List ℕ)) (t : List ℕ) (b : ℕ) → IsGone s b → IsGone (symbol_in s t).table b
 interned_text_gone s t b gone = go (place_of t)
   where
-    go : (o : Option ℕ) → IsGone (symbol_at o s t).1 b
+    go : (o : Option ℕ) → IsGone (symbol_at o s t).table b
     go (Some p) = gone
     go None = counted_up_gone _ _ b (interned_gone bytes_eq s t b gone)
 

@@ -5,6 +5,7 @@ pub mod Symbols
 pub use Rattle.intern_presets.specs.Numbers
 pub use Rattle.intern_presets.specs.Presets
 pub use Rattle.intern_store.specs.Kept
+pub use Rattle.intern_store.specs.Outcome
 pub use Rattle.intern_store.specs.State
 pub use Rattle.intern_store.specs.declared.names.Limits
 pub use Rattle.intern_store.specs.declared.names.Name

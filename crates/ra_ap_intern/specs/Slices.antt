@@ -1,6 +1,8 @@
 -- The names of slice handles, and what is read of an entry.
-use Rattle.std.specs.Prelude.{ℕ, List, length}
+use Rattle.std.specs.Prelude.{ℕ, Bool, List, length, Option}
+use Rattle.intern_store.specs.State.{State, Stored, interned, interned_name, is_new, due_interning, any_count, given_back}
 use Rattle.intern_store.specs.declared.names.Name.{Name}
+use Rattle.intern_store.specs.declared.names.Refusal.{Refusal}
 use Rattle.intern_table.specs.Sliced.{Sliced}
 use Rattle.ra_ap_intern.specs.declared.intern_slice.InternedSlice.{InternedSlice}
 use Rattle.ra_ap_intern.specs.declared.intern_slice.InternedSliceRef.{InternedSliceRef}
@@ -8,16 +10,38 @@ use Rattle.ra_ap_intern.specs.declared.intern_slice.InternedSliceRef.{InternedSl
 module _ {V : Type 0} where
   -- the name of an owned handle
   abbrev pub slice_name : InternedSlice V → Name
-  slice_name h = h.handle.name
+  slice_name h = h.key.name
 
   -- the name of a reference
   abbrev pub slice_ref_name : InternedSliceRef V → Name
-  slice_ref_name h = h.handle.name
+  slice_ref_name h = h.key.name
 
 -- the pair of a header and its items
 abbrev pub slice_of : {H I : Type 0} → H → List I → Sliced H I
 slice_of header items = record { header = header; items = items }
 
--- a header with its items, and the number of these
+-- a header with its items, and how many these are
 abbrev pub sized : {H I : Type 0} → Sliced H I → Sliced H I × ℕ
 sized v = (v, length v.items)
+
+module _ {H I : Type 0} (eq : Sliced H I → Sliced H I → Bool) (s : State (Sliced H I))
+    (header : H) (items : List I) where
+  -- a header with its items stored, under the birth that they have or a new one
+  abbrev pub slice_in : Stored (Sliced H I)
+  slice_in = interned eq s (slice_of header items)
+
+  -- the name under which they are stored
+  abbrev pub slice_name_in : Name
+  slice_name_in = interned_name eq s (slice_of header items)
+
+  -- what comes back: the header, where they are stored
+  abbrev pub slice_back : Option H
+  slice_back = given_back eq s (slice_of header items) header
+
+  -- the refusal of a call that interns them, before want of memory
+  abbrev pub due_slice : Option Refusal
+  due_slice = due_interning eq s (slice_of header items) any_count
+
+  -- whether no equal pair is stored
+  abbrev pub is_new_slice : Bool
+  is_new_slice = is_new eq s (slice_of header items)

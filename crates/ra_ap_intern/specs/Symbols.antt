@@ -3,7 +3,7 @@ use Rattle.std.specs.Prelude.{◌≡◌, ℕ, ◌<◌, Bool, ◌&&◌, List, Opt
 use Rattle.std.specs.Str.{bytes_eq}
 use Rattle.intern_presets.specs.Presets.{preset_text, place_of}
 use Rattle.intern_store.specs.Kept.{Kept}
-use Rattle.intern_store.specs.State.{State, entry_at, name_in, reads, counts, counted_up, is_new, interned, due, due_interning, full}
+use Rattle.intern_store.specs.State.{State, entry_at, reads, counts, is_new, interned_name, interned_counted, due, due_interning, full}
 use Rattle.intern_store.specs.declared.names.Name.{Name}
 use Rattle.intern_store.specs.declared.names.Refusal.{Refusal}
 use Rattle.ra_ap_intern.specs.declared.symbol.Symbol.{Symbol}
@@ -25,7 +25,7 @@ symbol_name s = kind_name s.0
   where
     kind_name : Kind → Named
     kind_name (Preset place) = preset place
-    kind_name (Runtime handle) = entry handle.name
+    kind_name (Runtime key) = entry key.name
 
 -- the text of a symbol, while it can be read
 abbrev pub text_of : State (List ℕ) → Named → Option (List ℕ)
@@ -43,16 +43,24 @@ due_of s (preset place) by_count = None
 due_of s (entry name) by_count = due s name by_count
 
 -- with this change at the entry of a symbol; presets change nothing
-abbrev pub at_entry : (State (List ℕ) → ℕ → State (List ℕ)) → State (List ℕ) → Named → State (List ℕ)
+abbrev pub at_entry : (State (List ℕ) → ℕ → State (List ℕ)) → State (List ℕ) → Named
+    → State (List ℕ)
 at_entry change s (preset place) = s
 at_entry change s (entry name) = change s name.birth
 
--- the symbol of a text, and the table in which it is counted
-abbrev pub symbol_at : Option ℕ → State (List ℕ) → List ℕ → Named × State (List ℕ)
-symbol_at (Some place) s t = (preset place, s)
-symbol_at None s t = let i = interned bytes_eq s t in (entry (name_in s i.0), counted_up i.1 i.0)
+-- a symbol, and the table in which it is counted
+pub record Counted : Type 0 where
+  pub symbol : Named
+  pub table : State (List ℕ)
 
-abbrev pub symbol_in : State (List ℕ) → List ℕ → Named × State (List ℕ)
+-- the symbol of a preset's place, or of a text that is no preset
+abbrev pub symbol_at : Option ℕ → State (List ℕ) → List ℕ → Counted
+symbol_at (Some place) s t = record { symbol = preset place; table = s }
+symbol_at None s t =
+    record { symbol = entry (interned_name bytes_eq s t); table = interned_counted bytes_eq s t }
+
+-- the symbol of a text
+abbrev pub symbol_in : State (List ℕ) → List ℕ → Counted
 symbol_in s t = symbol_at (place_of t) s t
 
 -- the refusal of a call that interns a text, before want of memory

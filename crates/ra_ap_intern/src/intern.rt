@@ -5,12 +5,13 @@
 //! works with [`InternedRef`]s, which count nothing.
 //!
 //! A handle that is let fall keeps its count: give it back by `release`.
-ghost use Rattle.std.specs.Prelude.{◌≡◌, ◌<◌, true, false, Bool, Some, None, IfOk, IfErr, OnOk, is_ok, option_copied, if◌then◌else◌};
+ghost use Rattle.std.specs.Prelude.{◌≡◌, ◌<◌, ◌==◌, true, false, Bool, Some, IfOk, option_copied};
 ghost use Rattle.std.specs.FinMap as map;
-ghost use Rattle.intern_store.specs.State.{IsState, new_state, name_in, entry_at, reads, counts, counted_up, counted_down, birth_of, is_new, interned, offered_back, due, due_at, due_interning, full, zero_count, any_count, IsWhy, freed, released};
+ghost use Rattle.intern_store.specs.Outcome.{Owes, OwesBack, MayWantBack, Becomes};
+ghost use Rattle.intern_store.specs.State.{IsState, new_state, name_in, entry_at, reads, counts, counted_up, counted_down, is_new, interned, interned_name, interned_counted, given_back, due, due_at, due_interning, full, zero_count, any_count, freed, released};
 ghost use Rattle.ra_ap_intern.specs.Handle.{name_of, ref_name};
 
-use intern_store::{Handle, Limits, Name, Refusal, Refused, Store};
+use intern_store::{EntryKey, Limits, Name, Refusal, Refused, Store};
 use intern_table::Table;
 use std::alloc::Global;
 use std::hash::Hash;
@@ -27,11 +28,10 @@ pub trait Internable: Hash + Eq {
 
 /// A storage of values, each kept once.
 ///
-/// Only interning a value that isn't stored takes memory, and lets go what the entries took that
-/// went. Interning takes the time of one hash, one look-up, and a comparison with each stored value
-/// of that hash; storing one may move the others, which takes constant time a call on average.
-/// Reads and counts go straight to the entry. Where other entries have gone since, they may take a
-/// binary search, as `from_raw` may.
+/// Interning takes one hash, one look-up, and a comparison with each stored value of that hash.
+/// Only a value that isn't stored takes memory. Where storing it builds the tables anew, that takes
+/// time in proportion to the entries, which is constant time a call on average. Reads, counts and
+/// removals go straight to the entry; `from_raw` looks its birth up.
 #[derive(Drop)]
 pub struct InternStorage<T: Internable> {
     store: Store<Table<T>>,
@@ -50,12 +50,12 @@ impl<T: Internable> Model for InternStorage<T> {
 /// An owned handle, which counts one.
 ///
 /// Handles are compared and hashed by their names alone, so two of one storage are equal exactly
-/// if the values that they read are. Beside the name a handle holds the place of its entry: 24 bytes
-/// in all.
+/// if the values that they read are. Beside the name a handle holds the place of its entry, 24
+/// bytes in all.
 #[derive(Drop)]
 #[derive_where(PartialEq, Eq, Hash)]
 pub struct Interned<T> {
-    handle: Handle,
+    key: EntryKey,
     #[derive_where(skip)]
     marker: PhantomData<*const T>,
 }
@@ -63,25 +63,25 @@ pub struct Interned<T> {
 /// A reference, which counts nothing. It is compared and hashed by its name alone.
 #[derive_where(Clone, Copy, PartialEq, Eq, Hash)]
 pub struct InternedRef<T> {
-    handle: Handle,
+    key: EntryKey,
     #[derive_where(skip)]
     marker: PhantomData<*const T>,
 }
 
-fn owned<T>(handle: Handle) -> Interned<T>
-    ensures { name_of result ≡ handle.name }
+fn owned<T>(key: EntryKey) -> Interned<T>
+    ensures { name_of result ≡ key.name }
 {
     Interned {
-        handle,
+        key,
         marker: PhantomData,
     }
 }
 
-fn reference<T>(handle: Handle) -> InternedRef<T>
-    ensures { ref_name result ≡ handle.name }
+fn reference<T>(key: EntryKey) -> InternedRef<T>
+    ensures { ref_name result ≡ key.name }
 {
     InternedRef {
-        handle,
+        key,
         marker: PhantomData,
     }
 }
@@ -123,12 +123,19 @@ impl<T: Internable> InternStorage<T> {
         self.store.len()
     }
 
+    /// Whether there is no entry.
+    pub fn is_empty(&self) -> bool
+        ensures { result ≡ (map.len self.now.map == 0) }
+    {
+        self.store.is_empty()
+    }
+
     /// The count of the entry that a reference names: how many owners it has.
     /// None for a reference of another storage, or of an entry that is gone.
     pub fn count(&self, reference: InternedRef<T>) -> Option<u64>
         ensures { result ≡ counts self.now (ref_name reference) }
     {
-        self.store.count(reference.handle)
+        self.store.count(reference.key)
     }
 }
 
@@ -144,14 +151,16 @@ impl<T: Internable> Interned<T> {
         obj: T,
     ) -> Result<(Interned<T>, Option<T>), Refused<T>>
         requires { T.Internable.USE_GC ≡ false }
-        ensures ok { IfOk result (λ r. (name_of r.0 ≡ name_in storage.old (interned T.eq storage.old obj).0) × (r.1 ≡ offered_back (birth_of T.eq storage.old obj) obj)) }
-        ensures allowed { OnOk result (due_interning T.eq storage.old obj (full storage.old.top) ≡ None) }
-        ensures refused { IfErr result (λ r. IsWhy (due_interning T.eq storage.old obj (full storage.old.top)) (is_new T.eq storage.old obj) r.why) }
-        ensures back { IfErr result (λ r. r.back ≡ obj) }
-        ensures state { let i = interned T.eq storage.old obj in storage.new ≡ (if is_ok result then counted_up i.1 i.0 else storage.old) }
+        ensures name { IfOk result (λ r. name_of r.0 ≡ interned_name T.eq storage.old obj) }
+        ensures back { IfOk result (λ r. r.1 ≡ given_back T.eq storage.old obj obj) }
+        ensures refused { MayWantBack result
+            (due_interning T.eq storage.old obj (full storage.old.top))
+            (is_new T.eq storage.old obj) obj }
+        ensures state { Becomes result storage.old storage.new
+            (interned_counted T.eq storage.old obj) }
     {
-        let (handle, back) = storage.store.intern_counted(obj)?;
-        Ok((owned(handle), back))
+        let (key, back) = storage.store.intern_counted(obj)?;
+        Ok((owned(key), back))
     }
 
     /// Collected mode: a reference to the value, which counts nothing.
@@ -164,22 +173,22 @@ impl<T: Internable> Interned<T> {
         obj: T,
     ) -> Result<(InternedRef<T>, Option<T>), Refused<T>>
         requires { T.Internable.USE_GC ≡ true }
-        ensures ok { IfOk result (λ r. (ref_name r.0 ≡ name_in storage.old (interned T.eq storage.old obj).0) × (r.1 ≡ offered_back (birth_of T.eq storage.old obj) obj)) }
-        ensures allowed { OnOk result (due_interning T.eq storage.old obj any_count ≡ None) }
-        ensures refused { IfErr result (λ r. IsWhy (due_interning T.eq storage.old obj any_count) (is_new T.eq storage.old obj) r.why) }
-        ensures back { IfErr result (λ r. r.back ≡ obj) }
-        ensures state { storage.new ≡ (if is_ok result then (interned T.eq storage.old obj).1 else storage.old) }
+        ensures name { IfOk result (λ r. ref_name r.0 ≡ interned_name T.eq storage.old obj) }
+        ensures back { IfOk result (λ r. r.1 ≡ given_back T.eq storage.old obj obj) }
+        ensures refused { MayWantBack result (due_interning T.eq storage.old obj any_count)
+            (is_new T.eq storage.old obj) obj }
+        ensures state { Becomes result storage.old storage.new
+            (interned T.eq storage.old obj).state }
     {
-        let (handle, back) = storage.store.intern(obj)?;
-        Ok((reference(handle), back))
+        let (key, back) = storage.store.intern(obj)?;
+        Ok((reference(key), back))
     }
 
     /// An owned handle of the entry of a birth, which takes over one count that a handle left
     /// behind. No count changes. Refused: `Gone`; `CountZero` where there is no count to take over.
     pub fn from_raw(storage: &InternStorage<T>, birth: u64) -> Result<Interned<T>, Refusal>
         ensures ok { IfOk result (λ h. name_of h ≡ name_in storage.now birth) }
-        ensures allowed { OnOk result (due_at (entry_at storage.now birth) zero_count ≡ None) }
-        ensures refused { IfErr result (λ why. due_at (entry_at storage.now birth) zero_count ≡ Some why) }
+        ensures refused { Owes result (due_at (entry_at storage.now birth) zero_count) }
     {
         Ok(owned(storage.store.counted_entry(birth)?))
     }
@@ -195,9 +204,10 @@ impl<T: Internable> Interned<T> {
     /// A second owned handle, which counts one more. Refused: `Foreign`, `Gone`, `CountFull`.
     pub fn clone(&self, storage: &mut InternStorage<T>) -> Result<Interned<T>, Refusal>
         ensures ok { IfOk result (λ h. name_of h ≡ name_of self.now) }
-        ensures allowed { OnOk result (due storage.old (name_of self.now) (full storage.old.top) ≡ None) }
-        ensures refused { IfErr result (λ why. due storage.old (name_of self.now) (full storage.old.top) ≡ Some why) }
-        ensures state { storage.new ≡ (if is_ok result then counted_up storage.old (name_of self.now).birth else storage.old) }
+        ensures refused { Owes result
+            (due storage.old (name_of self.now) (full storage.old.top)) }
+        ensures state { Becomes result storage.old storage.new
+            (counted_up storage.old (name_of self.now).birth) }
     {
         self.as_ref().to_owned(storage)
     }
@@ -206,16 +216,16 @@ impl<T: Internable> Interned<T> {
     /// gives it back; otherwise the answer is None, and in collected mode the entry always stays.
     /// Refused, with the handle back: `Foreign`, `Gone`, `CountZero`.
     pub fn release(self, storage: &mut InternStorage<T>) -> Result<Option<T>, Refused<Interned<T>>>
-        ensures value { IfOk result (λ v. v ≡ freed T.Internable.USE_GC storage.old (name_of self).birth) }
-        ensures allowed { OnOk result (due storage.old (name_of self) zero_count ≡ None) }
-        ensures refused { IfErr result (λ r. due storage.old (name_of self) zero_count ≡ Some r.why) }
-        ensures back { IfErr result (λ r. r.back ≡ self) }
-        ensures state { storage.new ≡ (if is_ok result then released T.Internable.USE_GC storage.old (name_of self).birth else storage.old) }
+        ensures value { IfOk result (λ v.
+            v ≡ freed T.Internable.USE_GC storage.old (name_of self).birth) }
+        ensures refused { OwesBack result (due storage.old (name_of self) zero_count) self }
+        ensures state { Becomes result storage.old storage.new
+            (released T.Internable.USE_GC storage.old (name_of self).birth) }
     {
-        match storage.store.release(self.handle, T::USE_GC) {
-            Ok(value) => Ok(value),
-            Err(why) => Err(Refused { why, back: self }),
-        }
+        storage
+            .store
+            .release(self.key, T::USE_GC)
+            .map_err(|why| Refused { why, back: self })
     }
 }
 
@@ -224,7 +234,7 @@ impl<T> Interned<T> {
     pub fn as_ref(&self) -> InternedRef<T>
         ensures { ref_name result ≡ name_of self.now }
     {
-        reference(self.handle)
+        reference(self.key)
     }
 }
 
@@ -232,8 +242,7 @@ impl<T: Internable> InternedRef<T> {
     /// A reference to the entry of a birth. Refused: `Gone`.
     pub fn from_raw(storage: &InternStorage<T>, birth: u64) -> Result<InternedRef<T>, Refusal>
         ensures ok { IfOk result (λ h. ref_name h ≡ name_in storage.now birth) }
-        ensures allowed { OnOk result (due_at (entry_at storage.now birth) any_count ≡ None) }
-        ensures refused { IfErr result (λ why. due_at (entry_at storage.now birth) any_count ≡ Some why) }
+        ensures refused { Owes result (due_at (entry_at storage.now birth) any_count) }
     {
         Ok(reference(storage.store.entry(birth)?))
     }
@@ -243,32 +252,29 @@ impl<T: Internable> InternedRef<T> {
     pub fn get<'a>(self, storage: &'a InternStorage<T>) -> Option<&'a T>
         ensures { option_copied result ≡ reads storage.now (ref_name self) }
     {
-        match storage.store.own(self.handle) {
-            None => None,
-            Some(table) => table.get(self.handle.spot()),
-        }
+        storage.store.own(self.key)?.get(self.key.spot())
     }
 
     /// An owned handle of the entry, which counts one more, also from zero.
     /// Refused: `Foreign`, `Gone`, `CountFull`.
     pub fn to_owned(self, storage: &mut InternStorage<T>) -> Result<Interned<T>, Refusal>
         ensures ok { IfOk result (λ h. name_of h ≡ ref_name self) }
-        ensures allowed { OnOk result (due storage.old (ref_name self) (full storage.old.top) ≡ None) }
-        ensures refused { IfErr result (λ why. due storage.old (ref_name self) (full storage.old.top) ≡ Some why) }
-        ensures state { storage.new ≡ (if is_ok result then counted_up storage.old (ref_name self).birth else storage.old) }
+        ensures refused { Owes result (due storage.old (ref_name self) (full storage.old.top)) }
+        ensures state { Becomes result storage.old storage.new
+            (counted_up storage.old (ref_name self).birth) }
     {
-        storage.store.count_up(self.handle)?;
-        Ok(owned(self.handle))
+        storage.store.count_up(self.key)?;
+        Ok(owned(self.key))
     }
 
     /// Takes one count back that a handle left behind. The entry stays, also at zero and in counted
     /// mode. Refused: `Foreign`, `Gone`, `CountZero`.
     pub fn decrement_refcount(self, storage: &mut InternStorage<T>) -> Result<(), Refusal>
-        ensures allowed { OnOk result (due storage.old (ref_name self) zero_count ≡ None) }
-        ensures refused { IfErr result (λ why. due storage.old (ref_name self) zero_count ≡ Some why) }
-        ensures state { storage.new ≡ (if is_ok result then counted_down storage.old (ref_name self).birth else storage.old) }
+        ensures refused { Owes result (due storage.old (ref_name self) zero_count) }
+        ensures state { Becomes result storage.old storage.new
+            (counted_down storage.old (ref_name self).birth) }
     {
-        storage.store.count_down(self.handle)
+        storage.store.count_down(self.key)
     }
 }
 
@@ -277,13 +283,13 @@ impl<T> InternedRef<T> {
     pub fn as_raw(self) -> u64
         ensures { result ≡ (ref_name self).birth }
     {
-        self.handle.name.birth
+        self.key.name.birth
     }
 
     /// The entry's name: the storage's number and the birth.
     pub fn name(self) -> Name
         ensures { result ≡ ref_name self }
     {
-        self.handle.name
+        self.key.name
     }
 }

@@ -4,15 +4,16 @@
 //! entries stay until a collection. The items of all entries lie in one vector.
 //!
 //! A handle that is let fall keeps its count: give it back by `release`.
-ghost use Rattle.std.specs.Prelude.{◌≡◌, ◌<◌, true, Bool, Some, None, IfOk, IfErr, OnOk, is_ok, if◌then◌else◌};
+ghost use Rattle.std.specs.Prelude.{◌≡◌, ◌<◌, ◌==◌, true, Bool, IfOk};
 ghost use Rattle.std.specs.FinMap as map;
 ghost use Rattle.std.specs.Option.{option_map};
-ghost use Rattle.intern_store.specs.State.{IsState, new_state, name_in, reads, counts, counted_up, counted_down, birth_of, is_new, interned, offered_back, due, due_interning, full, zero_count, any_count, IsWhy};
+ghost use Rattle.intern_store.specs.Outcome.{Owes, OwesBack, MayWantBack, Becomes};
+ghost use Rattle.intern_store.specs.State.{IsState, new_state, reads, counts, counted_up, counted_down, due, full, zero_count};
 ghost use Rattle.intern_table.specs.Read.{read};
 ghost use Rattle.intern_table.specs.Sliced.{sliced_eq};
-ghost use Rattle.ra_ap_intern.specs.Slices.{slice_name, slice_ref_name, slice_of, sized};
+ghost use Rattle.ra_ap_intern.specs.Slices.{slice_name, slice_ref_name, sized, slice_in, slice_name_in, slice_back, due_slice, is_new_slice};
 
-use intern_store::{Handle, Limits, Name, Refusal, Refused, Store};
+use intern_store::{EntryKey, Limits, Name, Refusal, Refused, Store};
 use intern_table::{HeaderSlice, SliceTable};
 use std::alloc::Global;
 use std::hash::Hash;
@@ -26,7 +27,8 @@ pub trait SliceInternable {
     /// An item.
     type SliceType: Eq + Hash + Copy;
 
-    /// Whether entries stay until a collection. They do: slices are interned in collected mode only.
+    /// Whether entries stay until a collection. They do: slices are interned in collected mode
+    /// alone.
     const USE_GC: bool;
 
     ghost USE_GC: { Bool };
@@ -57,7 +59,7 @@ impl<T: SliceInternable> Model for InternSliceStorage<T> {
 #[derive(Drop)]
 #[derive_where(PartialEq, Eq, Hash)]
 pub struct InternedSlice<T> {
-    handle: Handle,
+    key: EntryKey,
     #[derive_where(skip)]
     marker: PhantomData<*const T>,
 }
@@ -65,25 +67,25 @@ pub struct InternedSlice<T> {
 /// A reference, which counts nothing. It is compared and hashed by its name alone.
 #[derive_where(Clone, Copy, PartialEq, Eq, Hash)]
 pub struct InternedSliceRef<T> {
-    handle: Handle,
+    key: EntryKey,
     #[derive_where(skip)]
     marker: PhantomData<*const T>,
 }
 
-fn owned<T>(handle: Handle) -> InternedSlice<T>
-    ensures { slice_name result ≡ handle.name }
+fn owned<T>(key: EntryKey) -> InternedSlice<T>
+    ensures { slice_name result ≡ key.name }
 {
     InternedSlice {
-        handle,
+        key,
         marker: PhantomData,
     }
 }
 
-fn reference<T>(handle: Handle) -> InternedSliceRef<T>
-    ensures { slice_ref_name result ≡ handle.name }
+fn reference<T>(key: EntryKey) -> InternedSliceRef<T>
+    ensures { slice_ref_name result ≡ key.name }
 {
     InternedSliceRef {
-        handle,
+        key,
         marker: PhantomData,
     }
 }
@@ -125,12 +127,19 @@ impl<T: SliceInternable> InternSliceStorage<T> {
         self.store.len()
     }
 
+    /// Whether there is no entry.
+    pub fn is_empty(&self) -> bool
+        ensures { result ≡ (map.len self.now.map == 0) }
+    {
+        self.store.is_empty()
+    }
+
     /// The count of the entry that a reference names: how many owners it has.
     /// None for a reference of another storage, or of an entry that is gone.
     pub fn count(&self, reference: InternedSliceRef<T>) -> Option<u64>
         ensures { result ≡ counts self.now (slice_ref_name reference) }
     {
-        self.store.count(reference.handle)
+        self.store.count(reference.key)
     }
 }
 
@@ -147,18 +156,20 @@ impl<T: SliceInternable> InternedSlice<T> {
         slice: &[T::SliceType],
     ) -> Result<(InternedSliceRef<T>, Option<T::Header>), Refused<T::Header>>
         requires { T.SliceInternable.USE_GC ≡ true }
-        ensures ok { let eq = sliced_eq T.Header.eq T.SliceType.eq in IfOk result (λ r. (slice_ref_name r.0 ≡ name_in storage.old (interned eq storage.old (slice_of header slice.now)).0) × (r.1 ≡ offered_back (birth_of eq storage.old (slice_of header slice.now)) header)) }
-        ensures allowed { OnOk result (due_interning (sliced_eq T.Header.eq T.SliceType.eq) storage.old (slice_of header slice.now) any_count ≡ None) }
-        ensures refused { let eq = sliced_eq T.Header.eq T.SliceType.eq in IfErr result (λ r. IsWhy (due_interning eq storage.old (slice_of header slice.now) any_count) (is_new eq storage.old (slice_of header slice.now)) r.why) }
-        ensures back { IfErr result (λ r. r.back ≡ header) }
-        ensures state { storage.new ≡ (if is_ok result then (interned (sliced_eq T.Header.eq T.SliceType.eq) storage.old (slice_of header slice.now)).1 else storage.old) }
+        ensures name { let eq = sliced_eq T.Header.eq T.SliceType.eq in
+            IfOk result (λ r. slice_ref_name r.0 ≡ slice_name_in eq storage.old header slice.now) }
+        ensures back { let eq = sliced_eq T.Header.eq T.SliceType.eq in
+            IfOk result (λ r. r.1 ≡ slice_back eq storage.old header slice.now) }
+        ensures refused { let eq = sliced_eq T.Header.eq T.SliceType.eq in
+            MayWantBack result (due_slice eq storage.old header slice.now)
+            (is_new_slice eq storage.old header slice.now) header }
+        ensures state { let eq = sliced_eq T.Header.eq T.SliceType.eq in
+            Becomes result storage.old storage.new
+            (slice_in eq storage.old header slice.now).state }
     {
         match storage.store.intern((header, slice)) {
-            Ok((handle, back)) => Ok((reference(handle), back.map(|b| b.0))),
-            Err(refused) => Err(Refused {
-                why: refused.why,
-                back: refused.back.0,
-            }),
+            Ok((key, back)) => Ok((reference(key), back.map(|pair| pair.0))),
+            Err(Refused { why, back }) => Err(Refused { why, back: back.0 }),
         }
     }
 
@@ -168,7 +179,8 @@ impl<T: SliceInternable> InternedSlice<T> {
         &self,
         storage: &'a InternSliceStorage<T>,
     ) -> Option<HeaderSlice<'a, T::Header, T::SliceType>>
-        ensures { option_map read result ≡ option_map sized (reads storage.now (slice_name self.now)) }
+        ensures { option_map read result
+            ≡ option_map sized (reads storage.now (slice_name self.now)) }
     {
         self.as_ref().get(storage)
     }
@@ -176,9 +188,10 @@ impl<T: SliceInternable> InternedSlice<T> {
     /// A second owned handle, which counts one more. Refused: `Foreign`, `Gone`, `CountFull`.
     pub fn clone(&self, storage: &mut InternSliceStorage<T>) -> Result<InternedSlice<T>, Refusal>
         ensures ok { IfOk result (λ h. slice_name h ≡ slice_name self.now) }
-        ensures allowed { OnOk result (due storage.old (slice_name self.now) (full storage.old.top) ≡ None) }
-        ensures refused { IfErr result (λ why. due storage.old (slice_name self.now) (full storage.old.top) ≡ Some why) }
-        ensures state { storage.new ≡ (if is_ok result then counted_up storage.old (slice_name self.now).birth else storage.old) }
+        ensures refused { Owes result
+            (due storage.old (slice_name self.now) (full storage.old.top)) }
+        ensures state { Becomes result storage.old storage.new
+            (counted_up storage.old (slice_name self.now).birth) }
     {
         self.as_ref().to_owned(storage)
     }
@@ -189,15 +202,14 @@ impl<T: SliceInternable> InternedSlice<T> {
         self,
         storage: &mut InternSliceStorage<T>,
     ) -> Result<(), Refused<InternedSlice<T>>>
-        ensures allowed { OnOk result (due storage.old (slice_name self) zero_count ≡ None) }
-        ensures refused { IfErr result (λ r. due storage.old (slice_name self) zero_count ≡ Some r.why) }
-        ensures back { IfErr result (λ r. r.back ≡ self) }
-        ensures state { storage.new ≡ (if is_ok result then counted_down storage.old (slice_name self).birth else storage.old) }
+        ensures refused { OwesBack result (due storage.old (slice_name self) zero_count) self }
+        ensures state { Becomes result storage.old storage.new
+            (counted_down storage.old (slice_name self).birth) }
     {
-        match storage.store.count_down(self.handle) {
-            Ok(()) => Ok(()),
-            Err(why) => Err(Refused { why, back: self }),
-        }
+        storage
+            .store
+            .count_down(self.key)
+            .map_err(|why| Refused { why, back: self })
     }
 }
 
@@ -206,7 +218,7 @@ impl<T> InternedSlice<T> {
     pub fn as_ref(&self) -> InternedSliceRef<T>
         ensures { slice_ref_name result ≡ slice_name self.now }
     {
-        reference(self.handle)
+        reference(self.key)
     }
 }
 
@@ -217,34 +229,33 @@ impl<T: SliceInternable> InternedSliceRef<T> {
         self,
         storage: &'a InternSliceStorage<T>,
     ) -> Option<HeaderSlice<'a, T::Header, T::SliceType>>
-        ensures { option_map read result ≡ option_map sized (reads storage.now (slice_ref_name self)) }
+        ensures { option_map read result
+            ≡ option_map sized (reads storage.now (slice_ref_name self)) }
     {
-        match storage.store.own(self.handle) {
-            None => None,
-            Some(table) => table.get(self.handle.spot()),
-        }
+        storage.store.own(self.key)?.get(self.key.spot())
     }
 
     /// An owned handle of the entry, which counts one more, also from zero.
     /// Refused: `Foreign`, `Gone`, `CountFull`.
     pub fn to_owned(self, storage: &mut InternSliceStorage<T>) -> Result<InternedSlice<T>, Refusal>
         ensures ok { IfOk result (λ h. slice_name h ≡ slice_ref_name self) }
-        ensures allowed { OnOk result (due storage.old (slice_ref_name self) (full storage.old.top) ≡ None) }
-        ensures refused { IfErr result (λ why. due storage.old (slice_ref_name self) (full storage.old.top) ≡ Some why) }
-        ensures state { storage.new ≡ (if is_ok result then counted_up storage.old (slice_ref_name self).birth else storage.old) }
+        ensures refused { Owes result
+            (due storage.old (slice_ref_name self) (full storage.old.top)) }
+        ensures state { Becomes result storage.old storage.new
+            (counted_up storage.old (slice_ref_name self).birth) }
     {
-        storage.store.count_up(self.handle)?;
-        Ok(owned(self.handle))
+        storage.store.count_up(self.key)?;
+        Ok(owned(self.key))
     }
 
     /// Takes one count back that a handle left behind. The entry stays.
     /// Refused: `Foreign`, `Gone`, `CountZero`.
     pub fn decrement_refcount(self, storage: &mut InternSliceStorage<T>) -> Result<(), Refusal>
-        ensures allowed { OnOk result (due storage.old (slice_ref_name self) zero_count ≡ None) }
-        ensures refused { IfErr result (λ why. due storage.old (slice_ref_name self) zero_count ≡ Some why) }
-        ensures state { storage.new ≡ (if is_ok result then counted_down storage.old (slice_ref_name self).birth else storage.old) }
+        ensures refused { Owes result (due storage.old (slice_ref_name self) zero_count) }
+        ensures state { Becomes result storage.old storage.new
+            (counted_down storage.old (slice_ref_name self).birth) }
     {
-        storage.store.count_down(self.handle)
+        storage.store.count_down(self.key)
     }
 }
 
@@ -253,6 +264,6 @@ impl<T> InternedSliceRef<T> {
     pub fn name(self) -> Name
         ensures { result ≡ slice_ref_name self }
     {
-        self.handle.name
+        self.key.name
     }
 }

@@ -4,13 +4,13 @@ ghost use Rattle.std.specs.List.{list_all};
 ghost use Rattle.std.specs.Str.{bytes_eq};
 ghost use Rattle.intern_presets.specs.Numbers.{number_value};
 ghost use Rattle.intern_presets.specs.Presets.{preset_text, place_of};
-ghost use Rattle.intern_store.specs.State.{State, IsState, IsGone, name_in, reads, entry_at, count_at, birth_of, interned, counted_up, counted_down, released, kept, due_interning, full, any_count};
+ghost use Rattle.intern_store.specs.State.{State, Stored, IsState, IsGone, reads, entry_at, count_at, birth_of, interned, interned_name, name_in, counted_up, counted_down, released, kept, due_interning, full, any_count};
 ghost use Rattle.intern_store.specs.declared.names.Name.{Name};
 ghost use Rattle.intern_table.specs.Sliced.{Sliced, sliced_eq};
 ghost use Rattle.ra_ap_intern.specs.Constants.{constants, has_its_text};
 ghost use Rattle.ra_ap_intern.specs.Handle.{name_of, ref_name};
 ghost use Rattle.ra_ap_intern.specs.Slices.{slice_name, slice_ref_name};
-ghost use Rattle.ra_ap_intern.specs.Symbols.{IsTable, Named, symbol_name, text_of, symbol_in, due_symbol, at_entry};
+ghost use Rattle.ra_ap_intern.specs.Symbols.{IsTable, Named, Counted, symbol_name, text_of, symbol_in, due_symbol, at_entry};
 ghost use Rattle.ra_ap_intern.specs.Symbols.Named.{preset, entry};
 ghost use Rattle.ra_ap_intern.specs.declared.intern.Interned.{Interned as Owned};
 ghost use Rattle.ra_ap_intern.specs.declared.intern.InternedRef.{InternedRef as Reference};
@@ -26,65 +26,84 @@ use std::hash::Hash;
 
 /// Names of entries of one storage are equal exactly if the values that they read are.
 pub fn names_tell_values<T: Eq>()
-    ensures { (s : State T) → IsState T.eq s → (n m : Name) (v w : T) → reads s n ≡ Some v → reads s m ≡ Some w → (n ≡ m) ↔ (T.eq v w ≡ true) }
+    ensures { (s : State T) → IsState T.eq s → (n m : Name) (v w : T) →
+        reads s n ≡ Some v → reads s m ≡ Some w → (n ≡ m) ↔ (T.eq v w ≡ true) }
 {}
 
 /// A birth that was given and has no entry has none after any change of its storage: what is gone
 /// stays gone.
 pub fn a_birth_is_given_once<T: Eq>()
-    ensures interned { (s : State T) (v : T) (b : ℕ) → IsGone s b → IsGone (interned T.eq s v).1 b }
+    ensures interned { (s : State T) (v : T) (b : ℕ) →
+        IsGone s b → IsGone (interned T.eq s v).state b }
     ensures counted_up { (s : State T) (c b : ℕ) → IsGone s b → IsGone (counted_up s c) b }
     ensures counted_down { (s : State T) (c b : ℕ) → IsGone s b → IsGone (counted_down s c) b }
-    ensures released { (s : State T) (stays : Bool) (c b : ℕ) → IsGone s b → IsGone (released stays s c) b }
-    ensures swept { (s : State T) (marked : ℕ → Bool) (b : ℕ) → IsGone s b → IsGone (kept s marked) b }
+    ensures released { (s : State T) (stays : Bool) (c b : ℕ) →
+        IsGone s b → IsGone (released stays s c) b }
+    ensures swept { (s : State T) (marked : ℕ → Bool) (b : ℕ) →
+        IsGone s b → IsGone (kept s marked) b }
 {}
 
 /// A sweep leaves each marked entry as it was, and no other.
 pub fn a_sweep_leaves_what_is_marked<T>()
-    ensures { (s : State T) (marked : ℕ → Bool) (b : ℕ) → entry_at (kept s marked) b ≡ (if marked b then entry_at s b else None) }
+    ensures { (s : State T) (marked : ℕ → Bool) (b : ℕ) →
+        entry_at (kept s marked) b ≡ (if marked b then entry_at s b else None) }
 {}
 
 /// The name that interning gives reads an equal value.
 pub fn what_is_interned_is_read<T: Eq>()
-    ensures { (s : State T) (v : T) → let i = interned T.eq s v in (w : T) × (reads i.1 (name_in s i.0) ≡ Some w) × (T.eq v w ≡ true) }
+    ensures { (s : State T) (v : T) → (w : T)
+        × (reads (interned T.eq s v).state (interned_name T.eq s v) ≡ Some w) × (T.eq v w ≡ true) }
 {}
 
 /// Interning a value that is stored changes nothing but its count. In counted mode its count alone
 /// can refuse it, in collected mode nothing can.
 pub fn what_is_stored_is_found<T: Eq>()
-    ensures unchanged { (s : State T) (v : T) (b : ℕ) → birth_of T.eq s v ≡ Some b → interned T.eq s v ≡ (b, s) }
-    ensures counted { (s : State T) (v : T) (b n : ℕ) → birth_of T.eq s v ≡ Some b → count_at s b ≡ Some n → due_interning T.eq s v (full s.top) ≡ full s.top n }
-    ensures collected { (s : State T) (v : T) (b : ℕ) → birth_of T.eq s v ≡ Some b → due_interning T.eq s v any_count ≡ None }
+    ensures unchanged { (s : State T) (v : T) (b : ℕ) → birth_of T.eq s v ≡ Some b →
+        interned T.eq s v ≡ record { birth = b; state = s } }
+    ensures counted { (s : State T) (v : T) (b n : ℕ) → birth_of T.eq s v ≡ Some b →
+        count_at s b ≡ Some n → due_interning T.eq s v (full s.top) ≡ full s.top n }
+    ensures collected { (s : State T) (v : T) (b : ℕ) → birth_of T.eq s v ≡ Some b →
+        due_interning T.eq s v any_count ≡ None }
 {}
 
 /// Owned handles are equal exactly if their names are, and equal ones hash alike.
 pub fn owned_handles_are_names<T>()
-    ensures equal { (a b : Owned T) → (⟦<Interned<T> as PartialEq>⟧.eq a b ≡ true) ↔ (name_of a ≡ name_of b) }
-    ensures hashed { (a b : Owned T) → name_of a ≡ name_of b → ⟦<Interned<T> as Hash>⟧.hash_input a ≡ ⟦<Interned<T> as Hash>⟧.hash_input b }
+    ensures equal { (a b : Owned T) →
+        (⟦<Interned<T> as PartialEq>⟧.eq a b ≡ true) ↔ (name_of a ≡ name_of b) }
+    ensures hashed { (a b : Owned T) → name_of a ≡ name_of b →
+        ⟦<Interned<T> as Hash>⟧.hash_input a ≡ ⟦<Interned<T> as Hash>⟧.hash_input b }
 {}
 
 /// References are equal exactly if their names are, and equal ones hash alike.
 pub fn references_are_names<T>()
-    ensures equal { (a b : Reference T) → (⟦<InternedRef<T> as PartialEq>⟧.eq a b ≡ true) ↔ (ref_name a ≡ ref_name b) }
-    ensures hashed { (a b : Reference T) → ref_name a ≡ ref_name b → ⟦<InternedRef<T> as Hash>⟧.hash_input a ≡ ⟦<InternedRef<T> as Hash>⟧.hash_input b }
+    ensures equal { (a b : Reference T) →
+        (⟦<InternedRef<T> as PartialEq>⟧.eq a b ≡ true) ↔ (ref_name a ≡ ref_name b) }
+    ensures hashed { (a b : Reference T) → ref_name a ≡ ref_name b →
+        ⟦<InternedRef<T> as Hash>⟧.hash_input a ≡ ⟦<InternedRef<T> as Hash>⟧.hash_input b }
 {}
 
 /// Names of entries of one storage of slices are equal exactly if the headers that they read are
 /// equal, and the items one by one.
 pub fn names_tell_slices<T: SliceInternable>()
-    ensures { let eq = sliced_eq T.Header.eq T.SliceType.eq in (s : State (Sliced T.Header T.SliceType)) → IsState eq s → (n m : Name) (v w : Sliced T.Header T.SliceType) → reads s n ≡ Some v → reads s m ≡ Some w → (n ≡ m) ↔ (eq v w ≡ true) }
+    ensures { let eq = sliced_eq T.Header.eq T.SliceType.eq in
+        (s : State (Sliced T.Header T.SliceType)) → IsState eq s →
+        (n m : Name) (v w : Sliced T.Header T.SliceType) →
+        reads s n ≡ Some v → reads s m ≡ Some w → (n ≡ m) ↔ (eq v w ≡ true) }
 {}
 
 /// The name that interning a header with items gives reads an equal one.
 pub fn a_slice_that_is_interned_is_read<T: SliceInternable>()
-    ensures { let eq = sliced_eq T.Header.eq T.SliceType.eq in (s : State (Sliced T.Header T.SliceType)) (v : Sliced T.Header T.SliceType) → let i = interned eq s v in (w : Sliced T.Header T.SliceType) × (reads i.1 (name_in s i.0) ≡ Some w) × (eq v w ≡ true) }
+    ensures { let eq = sliced_eq T.Header.eq T.SliceType.eq in
+        (s : State (Sliced T.Header T.SliceType)) (v : Sliced T.Header T.SliceType) →
+        (w : Sliced T.Header T.SliceType)
+        × (reads (interned eq s v).state (interned_name eq s v) ≡ Some w) × (eq v w ≡ true) }
 {}
 
 /// A birth that was given and has no entry has none after any change of its storage of slices.
 pub fn a_slices_birth_is_given_once<T: SliceInternable>()
     ensures interned { let eq = sliced_eq T.Header.eq T.SliceType.eq in
         (s : State (Sliced T.Header T.SliceType)) (v : Sliced T.Header T.SliceType) (b : ℕ) →
-        IsGone s b → IsGone (interned eq s v).1 b }
+        IsGone s b → IsGone (interned eq s v).state b }
     ensures counted_up { (s : State (Sliced T.Header T.SliceType)) (c b : ℕ) →
         IsGone s b → IsGone (counted_up s c) b }
     ensures counted_down { (s : State (Sliced T.Header T.SliceType)) (c b : ℕ) →
@@ -97,56 +116,73 @@ pub fn a_slices_birth_is_given_once<T: SliceInternable>()
 pub fn a_stored_slice_is_found<T: SliceInternable>()
     ensures unchanged { let eq = sliced_eq T.Header.eq T.SliceType.eq in
         (s : State (Sliced T.Header T.SliceType)) (v : Sliced T.Header T.SliceType) (b : ℕ) →
-        birth_of eq s v ≡ Some b → interned eq s v ≡ (b, s) }
-    ensures allowed { let eq = sliced_eq T.Header.eq T.SliceType.eq in
+        birth_of eq s v ≡ Some b → interned eq s v ≡ record { birth = b; state = s } }
+    ensures collected { let eq = sliced_eq T.Header.eq T.SliceType.eq in
         (s : State (Sliced T.Header T.SliceType)) (v : Sliced T.Header T.SliceType) (b : ℕ) →
         birth_of eq s v ≡ Some b → due_interning eq s v any_count ≡ None }
 {}
 
 /// Owned handles of slices are equal exactly if their names are, and equal ones hash alike.
 pub fn owned_slices_are_names<T>()
-    ensures equal { (a b : OwnedSlice T) → (⟦<InternedSlice<T> as PartialEq>⟧.eq a b ≡ true) ↔ (slice_name a ≡ slice_name b) }
-    ensures hashed { (a b : OwnedSlice T) → slice_name a ≡ slice_name b → ⟦<InternedSlice<T> as Hash>⟧.hash_input a ≡ ⟦<InternedSlice<T> as Hash>⟧.hash_input b }
+    ensures equal { (a b : OwnedSlice T) →
+        (⟦<InternedSlice<T> as PartialEq>⟧.eq a b ≡ true) ↔ (slice_name a ≡ slice_name b) }
+    ensures hashed { (a b : OwnedSlice T) → slice_name a ≡ slice_name b →
+        ⟦<InternedSlice<T> as Hash>⟧.hash_input a ≡ ⟦<InternedSlice<T> as Hash>⟧.hash_input b }
 {}
 
 /// References to slices are equal exactly if their names are, and equal ones hash alike.
 pub fn slice_references_are_names<T>()
-    ensures equal { (a b : SliceReference T) → (⟦<InternedSliceRef<T> as PartialEq>⟧.eq a b ≡ true) ↔ (slice_ref_name a ≡ slice_ref_name b) }
-    ensures hashed { (a b : SliceReference T) → slice_ref_name a ≡ slice_ref_name b → ⟦<InternedSliceRef<T> as Hash>⟧.hash_input a ≡ ⟦<InternedSliceRef<T> as Hash>⟧.hash_input b }
+    ensures equal { (a b : SliceReference T) →
+        (⟦<InternedSliceRef<T> as PartialEq>⟧.eq a b ≡ true)
+        ↔ (slice_ref_name a ≡ slice_ref_name b) }
+    ensures hashed { (a b : SliceReference T) → slice_ref_name a ≡ slice_ref_name b →
+        ⟦<InternedSliceRef<T> as Hash>⟧.hash_input a
+        ≡ ⟦<InternedSliceRef<T> as Hash>⟧.hash_input b }
 {}
 
 /// Symbols of one table that can be read are equal exactly if their texts are.
 pub fn symbols_tell_texts()
-    ensures { (s : State (List ℕ)) → IsState bytes_eq s → IsTable s → (a b : Named) (t u : List ℕ) → text_of s a ≡ Some t → text_of s b ≡ Some u → (a ≡ b) ↔ (t ≡ u) }
+    ensures { (s : State (List ℕ)) → IsState bytes_eq s → IsTable s →
+        (a b : Named) (t u : List ℕ) →
+        text_of s a ≡ Some t → text_of s b ≡ Some u → (a ≡ b) ↔ (t ≡ u) }
 {}
 
 /// Symbols are equal exactly if they name the same preset or the same entry, and equal ones hash
 /// alike.
 pub fn symbols_are_what_they_name()
-    ensures equal { (a b : Sym) → (⟦<Symbol as PartialEq>⟧.eq a b ≡ true) ↔ (symbol_name a ≡ symbol_name b) }
-    ensures hashed { (a b : Sym) → symbol_name a ≡ symbol_name b → ⟦<Symbol as Hash>⟧.hash_input a ≡ ⟦<Symbol as Hash>⟧.hash_input b }
+    ensures equal { (a b : Sym) →
+        (⟦<Symbol as PartialEq>⟧.eq a b ≡ true) ↔ (symbol_name a ≡ symbol_name b) }
+    ensures hashed { (a b : Sym) → symbol_name a ≡ symbol_name b →
+        ⟦<Symbol as Hash>⟧.hash_input a ≡ ⟦<Symbol as Hash>⟧.hash_input b }
 {}
 
 /// The symbol of a text reads the text.
 pub fn a_symbol_reads_its_text()
-    ensures { (s : State (List ℕ)) (t : List ℕ) → let i = symbol_in s t in text_of i.1 i.0 ≡ Some t }
+    ensures { (s : State (List ℕ)) (t : List ℕ) → let i = symbol_in s t in
+        text_of i.table i.symbol ≡ Some t }
 {}
 
 /// A preset's text gives the preset, in every table, and leaves the table as it is.
 pub fn presets_are_in_no_table()
-    ensures { (s : State (List ℕ)) (p : ℕ) (t : List ℕ) → preset_text p ≡ Some t → symbol_in s t ≡ (preset p, s) }
+    ensures { (s : State (List ℕ)) (p : ℕ) (t : List ℕ) → preset_text p ≡ Some t →
+        symbol_in s t ≡ record { symbol = preset p; table = s } }
 {}
 
 /// The symbol of a number's digits writes that number.
 pub fn integers_are_read_back()
-    ensures { (s : State (List ℕ)) (n : ℕ) → n < 2 ^ 64 → let i = symbol_in s (decimal n) in option_and_then number_value (text_of i.1 i.0) ≡ Some n }
+    ensures { (s : State (List ℕ)) (n : ℕ) → n < 2 ^ 64 → let i = symbol_in s (decimal n) in
+        option_and_then number_value (text_of i.table i.symbol) ≡ Some n }
 {}
 
-/// A text that is gone stays gone after any change of its table: its symbols read nothing ever again.
+/// A text that is gone stays gone after any change of its table: its symbols read nothing ever
+/// again.
 pub fn a_gone_text_stays_gone()
-    ensures interned { (s : State (List ℕ)) (t : List ℕ) (b : ℕ) → IsGone s b → IsGone (symbol_in s t).1 b }
-    ensures cloned { (s : State (List ℕ)) (a : Named) (b : ℕ) → IsGone s b → IsGone (at_entry counted_up s a) b }
-    ensures released { (s : State (List ℕ)) (a : Named) (b : ℕ) → IsGone s b → IsGone (at_entry (released false) s a) b }
+    ensures interned { (s : State (List ℕ)) (t : List ℕ) (b : ℕ) →
+        IsGone s b → IsGone (symbol_in s t).table b }
+    ensures cloned { (s : State (List ℕ)) (a : Named) (b : ℕ) →
+        IsGone s b → IsGone (at_entry counted_up s a) b }
+    ensures released { (s : State (List ℕ)) (a : Named) (b : ℕ) →
+        IsGone s b → IsGone (at_entry (released false) s a) b }
 {}
 
 /// Interning a text that is stored gives a symbol of its entry and counts it once more. Its count
@@ -154,7 +190,7 @@ pub fn a_gone_text_stays_gone()
 pub fn a_stored_text_is_found()
     ensures counted_up { (s : State (List ℕ)) (t : List ℕ) (b : ℕ) →
         place_of t ≡ None → birth_of bytes_eq s t ≡ Some b →
-        symbol_in s t ≡ (entry (name_in s b), counted_up s b) }
+        symbol_in s t ≡ record { symbol = entry (name_in s b); table = counted_up s b } }
     ensures refused { (s : State (List ℕ)) (t : List ℕ) (b n : ℕ) →
         place_of t ≡ None → birth_of bytes_eq s t ≡ Some b → count_at s b ≡ Some n →
         due_symbol s t ≡ full s.top n }

@@ -4,18 +4,19 @@
 //! nothing of any table; every other text is stored in a [`SymbolTable`] while it is counted.
 //!
 //! A symbol that is let fall keeps its count: give it back by `release`.
-ghost use Rattle.std.specs.Prelude.{◌≡◌, ◌<◌, false, Some, None, IfOk, IfErr, OnOk, is_ok, if◌then◌else◌};
+ghost use Rattle.std.specs.Prelude.{◌≡◌, ◌<◌, ◌==◌, false, Some, IfOk};
 ghost use Rattle.std.specs.FinMap as map;
 ghost use Rattle.std.specs.Option.{option_map};
 ghost use Rattle.std.specs.Str.{bytes_eq};
-ghost use Rattle.intern_store.specs.State.{IsState, new_state, counted_up, full, any_count, IsWhy, released};
+ghost use Rattle.intern_store.specs.Outcome.{Owes, OwesBack, MayWant, Becomes};
+ghost use Rattle.intern_store.specs.State.{IsState, new_state, counted_up, full, any_count, released};
 ghost use Rattle.ra_ap_intern.specs.Symbols.{IsTable, symbol_name, text_of, count_of, symbol_in, due_of, due_symbol, is_new_text, at_entry};
 ghost use Rattle.ra_ap_intern.specs.declared.symbol.symbols.TheConstants as sym;
 
 mod numbered;
 pub mod symbols;
 
-use intern_store::{Handle, Limits, Refusal, Refused, Store};
+use intern_store::{EntryKey, Limits, Refusal, Refused, Store};
 use intern_table::{Table, Text};
 use std::alloc::Global;
 use std::marker::Model;
@@ -45,8 +46,8 @@ impl Model for SymbolTable {
 
 /// A symbol: a preset, or a handle of a text in a table, which counts one.
 ///
-/// Symbols are compared and hashed by what they name alone, so two of one table are equal exactly if
-/// their texts are.
+/// Symbols are compared and hashed by what they name alone, so two of one table are equal exactly
+/// if their texts are.
 #[derive(Drop)]
 #[derive(PartialEq, Eq, Hash)]
 pub struct Symbol(Kind);
@@ -54,7 +55,7 @@ pub struct Symbol(Kind);
 #[derive(PartialEq, Eq, Hash, Drop)]
 enum Kind {
     Preset(u16),
-    Runtime(Handle),
+    Runtime(EntryKey),
 }
 
 impl SymbolTable {
@@ -95,6 +96,13 @@ impl SymbolTable {
         self.store.len()
     }
 
+    /// Whether the table keeps no text.
+    pub fn is_empty(&self) -> bool
+        ensures { result ≡ (map.len self.now.map == 0) }
+    {
+        self.store.is_empty()
+    }
+
     /// The count of a symbol's text. None for a preset, for a symbol of another table, and for one
     /// whose text is gone.
     pub fn count(&self, symbol: &Symbol) -> Option<u64>
@@ -102,7 +110,7 @@ impl SymbolTable {
     {
         match symbol.0 {
             Kind::Preset(_) => None,
-            Kind::Runtime(handle) => self.store.count(handle),
+            Kind::Runtime(key) => self.store.count(key),
         }
     }
 }
@@ -114,17 +122,18 @@ impl Symbol {
     /// Refused, never for a preset: `CountFull` where the text is stored and its count is at the
     /// limit; `NumbersUsedUp` and `OutOfMemory` where it isn't stored.
     pub fn intern(table: &mut SymbolTable, text: &str) -> Result<Symbol, Refusal>
-        ensures ok { IfOk result (λ s. symbol_name s ≡ (symbol_in table.old text.now).0) }
-        ensures allowed { OnOk result (due_symbol table.old text.now ≡ None) }
-        ensures refused { IfErr result (λ why. IsWhy (due_symbol table.old text.now) (is_new_text table.old text.now) why) }
-        ensures state { table.new ≡ (if is_ok result then (symbol_in table.old text.now).1 else table.old) }
+        ensures ok { IfOk result (λ s. symbol_name s ≡ (symbol_in table.old text.now).symbol) }
+        ensures refused { MayWant result (due_symbol table.old text.now)
+            (is_new_text table.old text.now) }
+        ensures state { Becomes result table.old table.new
+            (symbol_in table.old text.now).table }
     {
         if let Some(preset) = intern_presets::place(text) {
             return Ok(Symbol(Kind::Preset(preset)));
         }
         match table.store.intern_counted(text) {
-            Ok((handle, _)) => Ok(Symbol(Kind::Runtime(handle))),
-            Err(refused) => Err(refused.why),
+            Ok((key, _)) => Ok(Symbol(Kind::Runtime(key))),
+            Err(Refused { why, .. }) => Err(why),
         }
     }
 
@@ -142,13 +151,10 @@ impl Symbol {
     {
         match self.0 {
             Kind::Preset(place) => intern_presets::text(place),
-            Kind::Runtime(handle) => match table.store.own(handle) {
-                None => None,
-                Some(texts) => match texts.get(handle.spot()) {
-                    None => None,
-                    Some(text) => Some(text.as_str()),
-                },
-            },
+            Kind::Runtime(key) => {
+                let text = table.store.own(key)?.get(key.spot())?;
+                Some(text.as_str())
+            }
         }
     }
 
@@ -156,15 +162,16 @@ impl Symbol {
     /// Refused, never for a preset: `Foreign`, `Gone`, `CountFull`.
     pub fn clone(&self, table: &mut SymbolTable) -> Result<Symbol, Refusal>
         ensures ok { IfOk result (λ s. symbol_name s ≡ symbol_name self.now) }
-        ensures allowed { OnOk result (due_of table.old (symbol_name self.now) (full table.old.top) ≡ None) }
-        ensures refused { IfErr result (λ why. due_of table.old (symbol_name self.now) (full table.old.top) ≡ Some why) }
-        ensures state { table.new ≡ (if is_ok result then at_entry counted_up table.old (symbol_name self.now) else table.old) }
+        ensures refused { Owes result
+            (due_of table.old (symbol_name self.now) (full table.old.top)) }
+        ensures state { Becomes result table.old table.new
+            (at_entry counted_up table.old (symbol_name self.now)) }
     {
         match self.0 {
             Kind::Preset(place) => Ok(Symbol(Kind::Preset(place))),
-            Kind::Runtime(handle) => {
-                table.store.count_up(handle)?;
-                Ok(Symbol(Kind::Runtime(handle)))
+            Kind::Runtime(key) => {
+                table.store.count_up(key)?;
+                Ok(Symbol(Kind::Runtime(key)))
             }
         }
     }
@@ -172,25 +179,23 @@ impl Symbol {
     /// Gives the symbol up, with its count. With the last one the text goes. A preset stays.
     /// Refused, with the symbol back and never for a preset: `Foreign`, `Gone`.
     pub fn release(self, table: &mut SymbolTable) -> Result<(), Refused<Symbol>>
-        ensures allowed { OnOk result (due_of table.old (symbol_name self) any_count ≡ None) }
-        ensures refused { IfErr result (λ r. due_of table.old (symbol_name self) any_count ≡ Some r.why) }
-        ensures back { IfErr result (λ r. r.back ≡ self) }
-        ensures state { table.new ≡ (if is_ok result then at_entry (released false) table.old (symbol_name self) else table.old) }
+        ensures refused { OwesBack result (due_of table.old (symbol_name self) any_count) self }
+        ensures state { Becomes result table.old table.new
+            (at_entry (released false) table.old (symbol_name self)) }
     {
-        match table.lower(&self) {
-            Ok(()) => Ok(()),
-            Err(why) => Err(Refused { why, back: self }),
-        }
+        table
+            .lower(&self)
+            .map_err(|why| Refused { why, back: self })
     }
 
     /// Takes one count back that a symbol left behind. With the last one the text goes. The symbol
     /// itself stays as it is, and so does a preset.
     /// Refused, never for a preset: `Foreign`, `Gone`.
     pub fn decrease_refcount(&mut self, table: &mut SymbolTable) -> Result<(), Refusal>
-        ensures allowed { OnOk result (due_of table.old (symbol_name self.old) any_count ≡ None) }
-        ensures refused { IfErr result (λ why. due_of table.old (symbol_name self.old) any_count ≡ Some why) }
+        ensures refused { Owes result (due_of table.old (symbol_name self.old) any_count) }
         ensures symbol { self.new ≡ self.old }
-        ensures state { table.new ≡ (if is_ok result then at_entry (released false) table.old (symbol_name self.old) else table.old) }
+        ensures state { Becomes result table.old table.new
+            (at_entry (released false) table.old (symbol_name self.old)) }
     {
         table.lower(self)
     }
@@ -199,14 +204,14 @@ impl Symbol {
 impl SymbolTable {
     // Counts a symbol's text once less. With the last count it goes.
     fn lower(&mut self, symbol: &Symbol) -> Result<(), Refusal>
-        ensures allowed { OnOk result (due_of self.old (symbol_name symbol.now) any_count ≡ None) }
-        ensures refused { IfErr result (λ why. due_of self.old (symbol_name symbol.now) any_count ≡ Some why) }
-        ensures state { self.new ≡ (if is_ok result then at_entry (released false) self.old (symbol_name symbol.now) else self.old) }
+        ensures refused { Owes result (due_of self.old (symbol_name symbol.now) any_count) }
+        ensures state { Becomes result self.old self.new
+            (at_entry (released false) self.old (symbol_name symbol.now)) }
     {
         match symbol.0 {
             Kind::Preset(_) => Ok(()),
-            Kind::Runtime(handle) => {
-                self.store.release(handle, false)?;
+            Kind::Runtime(key) => {
+                self.store.release(key, false)?;
                 Ok(())
             }
         }

@@ -1,8 +1,8 @@
 //! The numbered lists: the symbols of numbers and of generated names.
-ghost use Rattle.std.specs.Prelude.{◌≡◌, None, IfOk, IfErr, OnOk, is_ok, option_and_then, if◌then◌else◌, decimal};
+ghost use Rattle.std.specs.Prelude.{◌≡◌, IfOk, option_and_then, decimal};
 ghost use Rattle.intern_presets.specs.Numbers.{number_value};
 ghost use Rattle.intern_presets.specs.Presets.{generated_text};
-ghost use Rattle.intern_store.specs.State.{IsWhy};
+ghost use Rattle.intern_store.specs.Outcome.{MayWant, Becomes};
 ghost use Rattle.ra_ap_intern.specs.Symbols.{symbol_name, text_of, symbol_in, due_symbol, is_new_text};
 
 use super::{Symbol, SymbolTable};
@@ -19,19 +19,22 @@ impl Integer {
     /// Refused above 255: `CountFull` where the digits are stored and their count is at the limit;
     /// `NumbersUsedUp` and `OutOfMemory` where they are not stored.
     pub fn get(table: &mut SymbolTable, n: usize) -> Result<Symbol, Refusal>
-        ensures ok { IfOk result (λ s. symbol_name s ≡ (symbol_in table.old (decimal n)).0) }
-        ensures allowed { OnOk result (due_symbol table.old (decimal n) ≡ None) }
-        ensures refused { IfErr result (λ why. IsWhy (due_symbol table.old (decimal n)) (is_new_text table.old (decimal n)) why) }
-        ensures state { table.new ≡ (if is_ok result then (symbol_in table.old (decimal n)).1 else table.old) }
+        ensures ok { IfOk result (λ s.
+            symbol_name s ≡ (symbol_in table.old (decimal n)).symbol) }
+        ensures refused { MayWant result (due_symbol table.old (decimal n))
+            (is_new_text table.old (decimal n)) }
+        ensures state { Becomes result table.old table.new
+            (symbol_in table.old (decimal n)).table }
     {
         Symbol::intern(table, digits(n).as_str())
     }
 
     /// The number that a symbol's text writes, as std's parse as `usize` reads it: an optional `+`,
-    /// and then decimal digits of a number below 2^64. None for any other text, and for a symbol that
-    /// can't be read. It takes no memory.
+    /// and then decimal digits of a number below 2^64. None for any other text, and for a symbol
+    /// that can't be read. It takes no memory.
     pub fn as_uint(symbol: &Symbol, table: &SymbolTable) -> Option<usize>
-        ensures { result ≡ option_and_then number_value (text_of table.now (symbol_name symbol.now)) }
+        ensures { result
+            ≡ option_and_then number_value (text_of table.now (symbol_name symbol.now)) }
     {
         number(symbol.as_str(table)?)
     }
@@ -41,16 +44,18 @@ impl Integer {
 pub enum RaGeneratedName {}
 
 impl RaGeneratedName {
-    /// The symbol of `<ra@gennew>` and a number's decimal digits, as [`Symbol::intern`] gives it: up
-    /// to 255 a preset, which takes no memory and is never refused.
+    /// The symbol of `<ra@gennew>` and a number's decimal digits, as [`Symbol::intern`] gives it:
+    /// up to 255 a preset, which takes no memory and is never refused.
     ///
     /// Refused above 255: `CountFull` where the name is stored and its count is at the limit;
     /// `NumbersUsedUp` and `OutOfMemory` where it is not stored.
     pub fn get(table: &mut SymbolTable, n: usize) -> Result<Symbol, Refusal>
-        ensures ok { IfOk result (λ s. symbol_name s ≡ (symbol_in table.old (generated_text n)).0) }
-        ensures allowed { OnOk result (due_symbol table.old (generated_text n) ≡ None) }
-        ensures refused { IfErr result (λ why. IsWhy (due_symbol table.old (generated_text n)) (is_new_text table.old (generated_text n)) why) }
-        ensures state { table.new ≡ (if is_ok result then (symbol_in table.old (generated_text n)).1 else table.old) }
+        ensures ok { IfOk result (λ s.
+            symbol_name s ≡ (symbol_in table.old (generated_text n)).symbol) }
+        ensures refused { MayWant result (due_symbol table.old (generated_text n))
+            (is_new_text table.old (generated_text n)) }
+        ensures state { Becomes result table.old table.new
+            (symbol_in table.old (generated_text n)).table }
     {
         Symbol::intern(table, generated(n).as_str())
     }
