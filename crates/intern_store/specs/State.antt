@@ -123,6 +123,10 @@ module _ {V : Type 0} where
   abbrev pub birth_of : (V → V → Bool) → State V → V → Option ℕ
   birth_of eq s v = option_map (λ e. e.0) (find (λ e. eq v e.1.value) (map.entries s.map))
 
+  -- the name of the entry whose value equals v
+  abbrev pub name_of_value : (V → V → Bool) → State V → V → Option Name
+  name_of_value eq s v = option_map (name_in s) (birth_of eq s v)
+
   -- whether no value equals v
   abbrev pub is_new : (V → V → Bool) → State V → V → Bool
   is_new eq s v = is_none (birth_of eq s v)

@@ -60,30 +60,33 @@ pub trait Removes: Entries {
         ensures removed { Self.entries self.new ≡ map.remove (Self.entries self.old) spot.birth };
 }
 
-/// A table that takes offers of this type.
-pub trait Takes<O>: Entries {
-    // The value that would be stored.
-    ghost value: { O → Self.Value };
+/// A table in which a value is looked up by a query of this type, which names it.
+pub trait Finds<Q>: Entries {
+    // The value that a query names.
+    ghost value: { Q → Self.Value };
 
-    // The hash under which it would be stored.
-    ghost hash_of: { O → ℕ };
+    // Its hash.
+    ghost hash_of: { Q → ℕ };
 
-    /// An entry whose value equals the one offered, or else the offer's hash.
-    fn find(&self, offer: &O) -> Result<Spot, u64>
+    /// An entry whose value equals the one that is named, or else its hash. It takes no memory.
+    fn find(&self, query: &Q) -> Result<Spot, u64>
         ensures found { IfOk result (λ s.
-            is_at Self.Value.eq (value offer.now) (map.get (Self.entries self.now) s.birth)
+            is_at Self.Value.eq (value query.now) (map.get (Self.entries self.now) s.birth)
             ≡ true) }
         ensures none { OnErr result ((b : ℕ) →
-            is_at Self.Value.eq (value offer.now) (map.get (Self.entries self.now) b) ≡ false) }
-        ensures hash { IfErr result (λ h. h ≡ hash_of offer.now) };
+            is_at Self.Value.eq (value query.now) (map.get (Self.entries self.now) b) ≡ false) }
+        ensures hash { IfErr result (λ h. h ≡ hash_of query.now) };
+}
 
+/// A table that takes what is offered by such a query.
+pub trait Takes<O>: Finds<O> {
     /// Adds an entry under its hash and a birth above all others, and tells its place. Where there
     /// is no memory the offer comes back.
     fn insert(&mut self, birth: u64, hash: u64, offer: O, count: u64) -> Result<usize, O>
         requires above { (b : ℕ) → IsSome (map.get (Self.entries self.old) b) → b < birth }
-        requires hash { hash ≡ Self.hash_of offer }
+        requires hash { hash ≡ Self.Finds.hash_of offer }
         ensures ok { OnOk result (Self.entries self.new ≡ map.insert (Self.entries self.old) birth
-            (record { value = value offer; count = count })) }
+            (record { value = Self.Finds.value offer; count = count })) }
         ensures err { OnErr result (Self.entries self.new ≡ Self.entries self.old) }
         ensures back { IfErr result (λ back. back ≡ offer) };
 }

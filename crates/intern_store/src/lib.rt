@@ -5,6 +5,6 @@ mod entries;
 mod names;
 mod store;
 
-pub use entries::{Entries, Marks, Removes, Sweeps, Takes};
+pub use entries::{Entries, Finds, Marks, Removes, Sweeps, Takes};
 pub use names::{EntryKey, Limits, Name, Refusal, Refused, Spot};
 pub use store::Store;

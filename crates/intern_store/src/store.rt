@@ -4,9 +4,9 @@ ghost use Rattle.std.specs.Result.{result_ok};
 ghost use Rattle.std.specs.FinMap as map;
 ghost use Rattle.std.specs.Option.{option_map};
 ghost use Rattle.intern_store.specs.Outcome.{Owes, MayWantBack, Becomes};
-ghost use Rattle.intern_store.specs.State.{IsState, new_state, name_in, entry_at, count_at, counts, counted_up, counted_down, taken, added_with, birth_of, is_new, interned, interned_name, interned_counted, given_back, due, due_at, due_adding, due_interning, full, zero_count, any_count, freed, released, kept};
+ghost use Rattle.intern_store.specs.State.{IsState, new_state, name_in, entry_at, count_at, counts, counted_up, counted_down, taken, added_with, birth_of, is_new, interned, interned_name, interned_counted, given_back, name_of_value, due, due_at, due_adding, due_interning, full, zero_count, any_count, freed, released, kept};
 
-use crate::entries::{Entries, Marks, Removes, Sweeps, Takes};
+use crate::entries::{Entries, Finds, Marks, Removes, Sweeps, Takes};
 use crate::names::{EntryKey, Limits, Name, Refusal, Refused, Spot};
 use std::alloc::Global;
 use std::marker::Model;
@@ -163,18 +163,28 @@ impl<E: Entries> Store<E> {
         Ok(key)
     }
 
-    // An entry whose value equals the one offered, or else the offer's hash.
-    fn find<O>(&self, offer: &O) -> Result<Spot, u64>
+    // An entry whose value equals the one that a query names, or else its hash.
+    fn search<Q>(&self, query: &Q) -> Result<Spot, u64>
     where
-        E: Takes<O>,
+        E: Finds<Q>,
         ensures birth { option_map (λ s. s.birth) (result_ok result)
-            ≡ birth_of E.Value.eq self.now (E.value offer.now) }
+            ≡ birth_of E.Value.eq self.now (E.value query.now) }
         ensures there { IfOk result (λ s. IsSome (entry_at self.now s.birth)) }
-        ensures hash { IfErr result (λ h. h ≡ E.hash_of offer.now) }
+        ensures hash { IfErr result (λ h. h ≡ E.hash_of query.now) }
     {
         // A field that is read brings in the invariant, which the table alone doesn't know.
         let _next = self.next;
-        self.table.find(offer)
+        self.table.find(query)
+    }
+
+    /// The key of the entry whose value equals the one that a query names.
+    pub fn find<Q>(&self, query: &Q) -> Option<EntryKey>
+    where
+        E: Finds<Q>,
+        ensures { option_map (λ k. k.name) result
+            ≡ name_of_value E.Value.eq self.now (E.value query.now) }
+    {
+        Some(self.key(self.search(query).ok()?))
     }
 
     // Adds an entry under its hash, with a count of its own.
@@ -249,7 +259,7 @@ impl<E: Entries> Store<E> {
         ensures state { Becomes result self.old self.new
             (interned E.Value.eq self.old (E.value offer)).state }
     {
-        match self.find(&offer) {
+        match self.search(&offer) {
             Ok(spot) => Ok((self.key(spot), Some(offer))),
             Err(hash) => Ok((self.add(hash, offer, 0)?, None)),
         }
@@ -272,7 +282,7 @@ impl<E: Entries> Store<E> {
     {
         // A field that is read brings in the invariant, which the table alone doesn't know.
         let _top = self.top;
-        match self.find(&offer) {
+        match self.search(&offer) {
             Ok(spot) => match self.raise(spot) {
                 Ok(()) => Ok((self.key(spot), Some(offer))),
                 Err(why) => Err(Refused { why, back: offer }),

@@ -6,8 +6,8 @@ use Rattle.ra_ap_intern.specs.declared.intern.InternedRef.{InternedRef}
 module _ {V : Type 0} where
   -- the name of an owned handle
   abbrev pub name_of : Interned V → Name
-  name_of h = h.key.name
+  name_of h = h.key.entry.name
 
   -- the name of a reference
   abbrev pub ref_name : InternedRef V → Name
-  ref_name h = h.key.name
+  ref_name h = h.key.entry.name

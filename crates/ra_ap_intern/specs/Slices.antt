@@ -10,11 +10,11 @@ use Rattle.ra_ap_intern.specs.declared.intern_slice.InternedSliceRef.{InternedSl
 module _ {V : Type 0} where
   -- the name of an owned handle
   abbrev pub slice_name : InternedSlice V → Name
-  slice_name h = h.key.name
+  slice_name h = h.key.entry.name
 
   -- the name of a reference
   abbrev pub slice_ref_name : InternedSliceRef V → Name
-  slice_ref_name h = h.key.name
+  slice_ref_name h = h.key.entry.name
 
 -- the pair of a header and its items
 abbrev pub slice_of : {H I : Type 0} → H → List I → Sliced H I

@@ -11,11 +11,12 @@ ghost use Rattle.intern_store.specs.Outcome.{Owes, OwesBack, MayWantBack, Become
 ghost use Rattle.intern_store.specs.State.{IsState, new_state, name_in, entry_at, reads, counts, counted_up, counted_down, is_new, interned, interned_name, interned_counted, given_back, due, due_at, due_interning, full, zero_count, any_count, freed, released};
 ghost use Rattle.ra_ap_intern.specs.Handle.{name_of, ref_name};
 
-use intern_store::{EntryKey, Limits, Name, Refusal, Refused, Store};
+use crate::typed_key::TypedKey;
+use intern_store::{Limits, Name, Refusal, Refused, Store};
 use intern_table::Table;
 use std::alloc::Global;
 use std::hash::Hash;
-use std::marker::{Model, PhantomData};
+use std::marker::Model;
 
 /// A type whose values a storage keeps.
 pub trait Internable: Hash + Eq {
@@ -55,35 +56,13 @@ impl<T: Internable> Model for InternStorage<T> {
 #[derive(Drop)]
 #[derive_where(PartialEq, Eq, Hash)]
 pub struct Interned<T> {
-    key: EntryKey,
-    #[derive_where(skip)]
-    marker: PhantomData<*const T>,
+    key: TypedKey<T>,
 }
 
 /// A reference, which counts nothing. It is compared and hashed by its name alone.
 #[derive_where(Clone, Copy, PartialEq, Eq, Hash)]
 pub struct InternedRef<T> {
-    key: EntryKey,
-    #[derive_where(skip)]
-    marker: PhantomData<*const T>,
-}
-
-fn owned<T>(key: EntryKey) -> Interned<T>
-    ensures { name_of result ≡ key.name }
-{
-    Interned {
-        key,
-        marker: PhantomData,
-    }
-}
-
-fn reference<T>(key: EntryKey) -> InternedRef<T>
-    ensures { ref_name result ≡ key.name }
-{
-    InternedRef {
-        key,
-        marker: PhantomData,
-    }
+    key: TypedKey<T>,
 }
 
 impl<T: Internable> InternStorage<T> {
@@ -135,7 +114,7 @@ impl<T: Internable> InternStorage<T> {
     pub fn count(&self, reference: InternedRef<T>) -> Option<u64>
         ensures { result ≡ counts self.now (ref_name reference) }
     {
-        self.store.count(reference.key)
+        self.store.count(reference.key.entry)
     }
 }
 
@@ -159,8 +138,9 @@ impl<T: Internable> Interned<T> {
         ensures state { Becomes result storage.old storage.new
             (interned_counted T.eq storage.old obj) }
     {
-        let (key, back) = storage.store.intern_counted(obj)?;
-        Ok((owned(key), back))
+        let (entry, back) = storage.store.intern_counted(obj)?;
+        let key = TypedKey::new(entry);
+        Ok((Interned { key }, back))
     }
 
     /// Collected mode: a reference to the value, which counts nothing.
@@ -180,8 +160,9 @@ impl<T: Internable> Interned<T> {
         ensures state { Becomes result storage.old storage.new
             (interned T.eq storage.old obj).state }
     {
-        let (key, back) = storage.store.intern(obj)?;
-        Ok((reference(key), back))
+        let (entry, back) = storage.store.intern(obj)?;
+        let key = TypedKey::new(entry);
+        Ok((InternedRef { key }, back))
     }
 
     /// An owned handle of the entry of a birth, which takes over one count that a handle left
@@ -190,7 +171,8 @@ impl<T: Internable> Interned<T> {
         ensures ok { IfOk result (λ h. name_of h ≡ name_in storage.now birth) }
         ensures refused { Owes result (due_at (entry_at storage.now birth) zero_count) }
     {
-        Ok(owned(storage.store.counted_entry(birth)?))
+        let key = TypedKey::new(storage.store.counted_entry(birth)?);
+        Ok(Interned { key })
     }
 
     /// The value, borrowed from the storage.
@@ -224,7 +206,7 @@ impl<T: Internable> Interned<T> {
     {
         storage
             .store
-            .release(self.key, T::USE_GC)
+            .release(self.key.entry, T::USE_GC)
             .map_err(|why| Refused { why, back: self })
     }
 }
@@ -234,7 +216,7 @@ impl<T> Interned<T> {
     pub fn as_ref(&self) -> InternedRef<T>
         ensures { ref_name result ≡ name_of self.now }
     {
-        reference(self.key)
+        InternedRef { key: self.key }
     }
 }
 
@@ -244,7 +226,8 @@ impl<T: Internable> InternedRef<T> {
         ensures ok { IfOk result (λ h. ref_name h ≡ name_in storage.now birth) }
         ensures refused { Owes result (due_at (entry_at storage.now birth) any_count) }
     {
-        Ok(reference(storage.store.entry(birth)?))
+        let key = TypedKey::new(storage.store.entry(birth)?);
+        Ok(InternedRef { key })
     }
 
     /// The value, borrowed from the storage.
@@ -252,7 +235,8 @@ impl<T: Internable> InternedRef<T> {
     pub fn get<'a>(self, storage: &'a InternStorage<T>) -> Option<&'a T>
         ensures { option_copied result ≡ reads storage.now (ref_name self) }
     {
-        storage.store.own(self.key)?.get(self.key.spot())
+        let key = self.key.entry;
+        storage.store.own(key)?.get(key.spot())
     }
 
     /// An owned handle of the entry, which counts one more, also from zero.
@@ -263,8 +247,8 @@ impl<T: Internable> InternedRef<T> {
         ensures state { Becomes result storage.old storage.new
             (counted_up storage.old (ref_name self).birth) }
     {
-        storage.store.count_up(self.key)?;
-        Ok(owned(self.key))
+        storage.store.count_up(self.key.entry)?;
+        Ok(Interned { key: self.key })
     }
 
     /// Takes one count back that a handle left behind. The entry stays, also at zero and in counted
@@ -274,7 +258,7 @@ impl<T: Internable> InternedRef<T> {
         ensures state { Becomes result storage.old storage.new
             (counted_down storage.old (ref_name self).birth) }
     {
-        storage.store.count_down(self.key)
+        storage.store.count_down(self.key.entry)
     }
 }
 
@@ -283,13 +267,13 @@ impl<T> InternedRef<T> {
     pub fn as_raw(self) -> u64
         ensures { result ≡ (ref_name self).birth }
     {
-        self.key.name.birth
+        self.key.entry.name.birth
     }
 
     /// The entry's name: the storage's number and the birth.
     pub fn name(self) -> Name
         ensures { result ≡ ref_name self }
     {
-        self.key.name
+        self.key.entry.name
     }
 }

@@ -13,11 +13,12 @@ ghost use Rattle.intern_table.specs.Read.{read};
 ghost use Rattle.intern_table.specs.Sliced.{sliced_eq};
 ghost use Rattle.ra_ap_intern.specs.Slices.{slice_name, slice_ref_name, sized, slice_in, slice_name_in, slice_back, due_slice, is_new_slice};
 
-use intern_store::{EntryKey, Limits, Name, Refusal, Refused, Store};
+use crate::typed_key::TypedKey;
+use intern_store::{Limits, Name, Refusal, Refused, Store};
 use intern_table::{HeaderSlice, SliceTable};
 use std::alloc::Global;
 use std::hash::Hash;
-use std::marker::{Model, PhantomData};
+use std::marker::Model;
 
 /// A kind of headers with items that a storage keeps.
 pub trait SliceInternable {
@@ -59,35 +60,13 @@ impl<T: SliceInternable> Model for InternSliceStorage<T> {
 #[derive(Drop)]
 #[derive_where(PartialEq, Eq, Hash)]
 pub struct InternedSlice<T> {
-    key: EntryKey,
-    #[derive_where(skip)]
-    marker: PhantomData<*const T>,
+    key: TypedKey<T>,
 }
 
 /// A reference, which counts nothing. It is compared and hashed by its name alone.
 #[derive_where(Clone, Copy, PartialEq, Eq, Hash)]
 pub struct InternedSliceRef<T> {
-    key: EntryKey,
-    #[derive_where(skip)]
-    marker: PhantomData<*const T>,
-}
-
-fn owned<T>(key: EntryKey) -> InternedSlice<T>
-    ensures { slice_name result ≡ key.name }
-{
-    InternedSlice {
-        key,
-        marker: PhantomData,
-    }
-}
-
-fn reference<T>(key: EntryKey) -> InternedSliceRef<T>
-    ensures { slice_ref_name result ≡ key.name }
-{
-    InternedSliceRef {
-        key,
-        marker: PhantomData,
-    }
+    key: TypedKey<T>,
 }
 
 impl<T: SliceInternable> InternSliceStorage<T> {
@@ -139,7 +118,7 @@ impl<T: SliceInternable> InternSliceStorage<T> {
     pub fn count(&self, reference: InternedSliceRef<T>) -> Option<u64>
         ensures { result ≡ counts self.now (slice_ref_name reference) }
     {
-        self.store.count(reference.key)
+        self.store.count(reference.key.entry)
     }
 }
 
@@ -168,7 +147,10 @@ impl<T: SliceInternable> InternedSlice<T> {
             (slice_in eq storage.old header slice.now).state }
     {
         match storage.store.intern((header, slice)) {
-            Ok((key, back)) => Ok((reference(key), back.map(|pair| pair.0))),
+            Ok((entry, back)) => {
+                let key = TypedKey::new(entry);
+                Ok((InternedSliceRef { key }, back.map(|pair| pair.0)))
+            }
             Err(Refused { why, back }) => Err(Refused { why, back: back.0 }),
         }
     }
@@ -208,7 +190,7 @@ impl<T: SliceInternable> InternedSlice<T> {
     {
         storage
             .store
-            .count_down(self.key)
+            .count_down(self.key.entry)
             .map_err(|why| Refused { why, back: self })
     }
 }
@@ -218,7 +200,7 @@ impl<T> InternedSlice<T> {
     pub fn as_ref(&self) -> InternedSliceRef<T>
         ensures { slice_ref_name result ≡ slice_name self.now }
     {
-        reference(self.key)
+        InternedSliceRef { key: self.key }
     }
 }
 
@@ -232,7 +214,8 @@ impl<T: SliceInternable> InternedSliceRef<T> {
         ensures { option_map read result
             ≡ option_map sized (reads storage.now (slice_ref_name self)) }
     {
-        storage.store.own(self.key)?.get(self.key.spot())
+        let key = self.key.entry;
+        storage.store.own(key)?.get(key.spot())
     }
 
     /// An owned handle of the entry, which counts one more, also from zero.
@@ -244,8 +227,8 @@ impl<T: SliceInternable> InternedSliceRef<T> {
         ensures state { Becomes result storage.old storage.new
             (counted_up storage.old (slice_ref_name self).birth) }
     {
-        storage.store.count_up(self.key)?;
-        Ok(owned(self.key))
+        storage.store.count_up(self.key.entry)?;
+        Ok(InternedSlice { key: self.key })
     }
 
     /// Takes one count back that a handle left behind. The entry stays.
@@ -255,7 +238,7 @@ impl<T: SliceInternable> InternedSliceRef<T> {
         ensures state { Becomes result storage.old storage.new
             (counted_down storage.old (slice_ref_name self).birth) }
     {
-        storage.store.count_down(self.key)
+        storage.store.count_down(self.key.entry)
     }
 }
 
@@ -264,6 +247,6 @@ impl<T> InternedSliceRef<T> {
     pub fn name(self) -> Name
         ensures { result ≡ slice_ref_name self }
     {
-        self.key.name
+        self.key.entry.name
     }
 }

@@ -5,6 +5,7 @@ mod intern;
 mod intern_slice;
 pub mod laws;
 mod symbol;
+mod typed_key;
 
 pub use intern::{InternStorage, Internable, Interned, InternedRef};
 pub use intern_slice::{InternSliceStorage, InternedSlice, InternedSliceRef, SliceInternable};

@@ -5,4 +5,4 @@ use Rattle.intern_store.proofs.store.Store.intern_counted.Goals as goal
 pub returns-in_ok-add-in-Err-clause-state : goal.returns-in_ok-add-in-Err-clause-state
 returns-in_ok-add-in-Err-clause-state g c =
     c.in_ok-add-in-Err.ensures.state
-    ∙ sym (counted_up-interned g.E.Value.PartialEq.eq c.args.self.now (g.E.Takes.value c.args.offer) (sym c.in-Err.ensures.birth))
+    ∙ sym (counted_up-interned g.E.Value.PartialEq.eq c.args.self.now (g.E.Finds.value c.args.offer) (sym c.in-Err.ensures.birth))

@@ -1,5 +1,0 @@
-use Rattle.intern_store.proofs.Births.{birth_is}
-use Rattle.intern_store.proofs.store.Store.find.Goals as goal
-
-pub returns-clause-birth : goal.returns-clause-birth
-returns-clause-birth g c = birth_is g.E.Value.PartialEq.eq (λ s. s.birth) g.met.E.Value.Eq.laws _ _ c.self.view_is c.self.invariant (g.E.Takes.value c.args.offer.now) c.find.result c.find.ensures.found c.find.ensures.none
