@@ -11,7 +11,7 @@ use crate::equivalent::hash_value;
 use crate::pool::{SlicePayload, compact, part};
 use crate::slice::{HeaderSlice, HeaderWithLength, SliceValue};
 use intern_index::{BirthOrder, Index, Query};
-use intern_store::{Entries, Marks, Spot, Sweeps, Takes};
+use intern_store::{Entries, Finds, Marks, Spot, Sweeps, Takes};
 use std::alloc::Global;
 use std::cmp::Eq;
 use std::hash::Hash;
@@ -127,22 +127,37 @@ impl<H: Hash + Eq, S: Hash + Eq + Copy> Entries for SliceTable<H, S> {
     }
 }
 
-impl<'a, H: Hash + Eq, S: Hash + Eq + Copy> Takes<(H, &'a [S])> for SliceTable<H, S> {
+// A header and a slice that are looked up, both borrowed.
+impl<'a, H: Hash + Eq, S: Hash + Eq + Copy> Finds<(&'a H, &'a [S])> for SliceTable<H, S> {
+    ghost value = { λ q. record { header = q.0.now; items = q.1.now } };
+
+    ghost hash_of = { λ q. hash_of
+        (sliced_input H.hash_input S.hash_input (record { header = q.0.now; items = q.1.now })) };
+
+    fn find(&self, query: &(&'a H, &'a [S])) -> Result<Spot, u64> {
+        let equal = EqualSlice {
+            header: query.0,
+            items: query.1,
+            all: self.items.as_slice(),
+        };
+        let hash = hash_value(query);
+        self.index.find(hash, &equal).ok_or(hash)
+    }
+}
+
+// The same of a header that is offered.
+impl<'a, H: Hash + Eq, S: Hash + Eq + Copy> Finds<(H, &'a [S])> for SliceTable<H, S> {
     ghost value = { λ o. record { header = o.0; items = o.1.now } };
 
     ghost hash_of = { λ o. hash_of
         (sliced_input H.hash_input S.hash_input (record { header = o.0; items = o.1.now })) };
 
     fn find(&self, offer: &(H, &'a [S])) -> Result<Spot, u64> {
-        let equal = EqualSlice {
-            header: &offer.0,
-            items: offer.1,
-            all: self.items.as_slice(),
-        };
-        let hash = hash_value(offer);
-        self.index.find(hash, &equal).ok_or(hash)
+        self.find(&(&offer.0, offer.1))
     }
+}
 
+impl<'a, H: Hash + Eq, S: Hash + Eq + Copy> Takes<(H, &'a [S])> for SliceTable<H, S> {
     fn insert(
         &mut self,
         birth: u64,

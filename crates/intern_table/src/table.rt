@@ -7,7 +7,7 @@ ghost use Rattle.intern_table.specs.Hashes.{hash_of};
 use crate::counts::{Lower, Raise};
 use crate::equivalent::Equivalent;
 use intern_index::{BirthTable, Index, Query};
-use intern_store::{Entries, Marks, Removes, Spot, Sweeps, Takes};
+use intern_store::{Entries, Finds, Marks, Removes, Spot, Sweeps, Takes};
 use std::alloc::Global;
 use std::cmp::Eq;
 use std::hash::Hash;
@@ -103,7 +103,7 @@ impl<T: Hash + Eq> Removes for Table<T> {
     }
 }
 
-impl<T: Hash + Eq, O: Equivalent<T>> Takes<O> for Table<T> {
+impl<T: Hash + Eq, O: Equivalent<T>> Finds<O> for Table<T> {
     ghost value = { O.value };
 
     ghost hash_of = { λ o. hash_of (T.hash_input (O.value o)) };
@@ -112,7 +112,9 @@ impl<T: Hash + Eq, O: Equivalent<T>> Takes<O> for Table<T> {
         let hash = offer.hashed();
         self.index.find(hash, &Equal { offer }).ok_or(hash)
     }
+}
 
+impl<T: Hash + Eq, O: Equivalent<T>> Takes<O> for Table<T> {
     fn insert(&mut self, birth: u64, hash: u64, offer: O, count: u64) -> Result<usize, O> {
         self.index.insert(birth, hash, offer, count)
     }

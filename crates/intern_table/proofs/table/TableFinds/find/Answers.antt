@@ -2,7 +2,7 @@ use Rattle.std.proofs.Common.{ap, refl}
 use Rattle.intern_table.specs.Hashes.{hash_of}
 use Rattle.intern_index.specs.Seen.{kept_entry}
 use Rattle.intern_index.proofs.Seen.{finds, finds_none}
-use Rattle.intern_table.proofs.table.TableTakes.find.Goals as goal
+use Rattle.intern_table.proofs.table.TableFinds.find.Goals as goal
 
 pub returns-clause-found : goal.returns-clause-found
 returns-clause-found g c =
