@@ -148,9 +148,23 @@ module _ {T N : Type 0} where
           read_as new q (map_get (held old.slots) q) (λ p e there birth. elsewhere q differs p e there birth (cases_eq p key)) (nowhere q differs)
           ∙ ap (λ t. cond t (option_map (seen key) o) (map_get (held old.slots) q)) (sym (ne_eqb q b differs))
 
+  -- no two of these slots have one birth
+  abbrev pub IsApartFrom : List (Option (Entry T N)) → Type 0
+  IsApartFrom slots = (p q : ℕ) (d e : Entry T N) → get_or slots p None ≡ Some d → get_or slots q None ≡ Some e → d.birth ≡ e.birth → p ≡ q
+
+  pub apart_from : (s : Slab (Entry T N)) → IsApart s → IsApartFrom s.slots
+  apart_from s apart p q d e one two same = apart p q e.birth (birth_there s p e.birth d one same) (birth_there s q e.birth e two refl)
+
+  -- the birth of the first slot is at none behind it
+  pub absent_behind : (first : ℕ) (d : Entry T N) (slots : List (Option (Entry T N))) → IsApartFrom (Some d ∷ slots) → map_get (held_from (first + 1) slots) d.birth ≡ None
+  absent_behind first d slots apart = absent (in_or_out_from (first + 1) slots d.birth)
+    where
+      absent : IsIn (first + 1) slots d.birth ⊎ IsOut (first + 1) slots d.birth → map_get (held_from (first + 1) slots) d.birth ≡ None
+      absent (inl is) = let no = apart 0 (suc is.place) d is.entry refl is.there (sym is.birth) in absurd (omega arith)
+      absent (inr out) = out.read
+
   -- the map has as many births as the slab has entries
-  len-held_from : (first : ℕ) (slots : List (Option (Entry T N))) → ((p q : ℕ) (d e : Entry T N) → get_or slots p None ≡ Some d → get_or slots q None ≡ Some e → d.birth ≡ e.birth → p ≡ q)
-      → len (held_from first slots) ≡ count_by is_some slots
+  len-held_from : (first : ℕ) (slots : List (Option (Entry T N))) → IsApartFrom slots → len (held_from first slots) ≡ count_by is_some slots
   unfolding held_from
   len-held_from first [] apart = len-empty nat_cmp (IndexEntry T N)
   len-held_from first (None ∷ slots) apart =
@@ -159,11 +173,7 @@ module _ {T N : Type 0} where
       let rest = len-held_from (first + 1) slots (λ p q d e one two same. let is = apart (suc p) (suc q) d e one two same in omega arith) in
       let more : len (held_from (first + 1) slots) + 1 ≡ count_by is_some (Some d ∷ slots) = omega (arith, rest, sum_by-cons (λ (o : Option (Entry T N)). cond (is_some o) 1 0) (Some d) slots) in
       len-insert nat_cmp_total (held_from (first + 1) slots) d.birth (seen first d)
-      ∙ ap (λ o. cond (is_some o) (len (held_from (first + 1) slots)) (len (held_from (first + 1) slots) + 1)) (absent (in_or_out_from (first + 1) slots d.birth)) ∙ more
-    where
-      absent : IsIn (first + 1) slots d.birth ⊎ IsOut (first + 1) slots d.birth → map_get (held_from (first + 1) slots) d.birth ≡ None
-      absent (inl is) = let no = apart 0 (suc is.place) d is.entry refl is.there (sym is.birth) in absurd (omega arith)
-      absent (inr out) = out.read
+      ∙ ap (λ o. cond (is_some o) (len (held_from (first + 1) slots)) (len (held_from (first + 1) slots) + 1)) (absent_behind first d slots apart) ∙ more
 
   -- a slab without slots makes the empty map
   pub held-empty : (slots : List (Option (Entry T N))) → slots ≡ [] → held slots ≡ empty
@@ -183,7 +193,7 @@ module _ {T N : Type 0} where
 
   -- as many births are seen as the slab has entries
   pub len-seen : (s : Slab (Entry T N)) (m : FinMap nat_cmp (IndexEntry T N)) → held s.slots ≡ m → IsApart s → slab_len s ≡ len m
-  len-seen s m view apart = sym (len-held_from 0 s.slots (λ p q d e one two same. apart p q e.birth (birth_there s p e.birth d one same) (birth_there s q e.birth e two refl))) ∙ ap len view
+  len-seen s m view apart = sym (len-held_from 0 s.slots (apart_from s apart)) ∙ ap len view
 
   -- what is seen under a birth that is at a place, or at none
   pub seen_at : (s : Slab (Entry T N)) (m : FinMap nat_cmp (IndexEntry T N)) → held s.slots ≡ m → IsApart s → (p b : ℕ) → birth_at s p ≡ Some b → option_map (seen p) (get s p) ≡ map_get m b

@@ -1,6 +1,7 @@
 mod Changes
 mod Finds
 mod Held
+mod Listings
 mod Orders
 mod Probing
 mod Ranks

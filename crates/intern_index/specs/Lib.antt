@@ -1,6 +1,7 @@
 pub mod Entries
 pub mod IndexEntry
 pub mod Leading
+pub mod Listed
 pub mod Mixed
 pub mod Ordered
 pub mod Probing

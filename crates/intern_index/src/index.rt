@@ -1,15 +1,17 @@
 //! Values with payloads, each under a birth and a hash.
-ghost use Rattle.std.specs.Prelude.{◌≡◌, ℕ, ◌<◌, option_copied, IsSome, is_some, Some, None, IfOk, OnErr, IfErr, IfSome, IfNone, true, false};
+ghost use Rattle.std.specs.Prelude.{◌≡◌, ℕ, ◌<◌, option_copied, IsSome, is_some, IsPermutation, Some, None, IfOk, OnErr, IfErr, IfSome, IfNone, true, false};
 ghost use Rattle.std.specs.Option.{option_map};
 ghost use Rattle.std.specs.List.{slice_get};
 ghost use Rattle.std.specs.FinMap as map;
 ghost use Rattle.intern_index.specs.IndexEntry.{IndexEntry, has_hash, is_sought, with_payload};
+ghost use Rattle.intern_index.specs.Listed.{listed};
 
 use crate::birth_order::BirthOrder;
 use crate::births::{Births, find_birth, locate};
 use crate::buckets::PLACES;
 use crate::change::Change;
 use crate::entry::Entry;
+use crate::iter::Iter;
 use crate::offer::Offer;
 use crate::query::{OfHash, Query};
 use crate::search::search;
@@ -204,6 +206,15 @@ impl<T, N: Copy, B: Births> Index<T, N, B> {
         let place = search(&self.slots, &self.tables.by_hash, hash, &test)?;
         let birth = self.slots[place].birth;
         Some(Spot { birth, place })
+    }
+
+    /// The entries, in the order of their places.
+    pub fn iter(&self) -> Iter<'_, T, N>
+        ensures { IsPermutation result (listed self.now) }
+    {
+        Iter {
+            slots: self.slots.iter(),
+        }
     }
 
     /// Drops every entry that isn't marked. It takes no memory.

@@ -1,6 +1,7 @@
 pub mod Chosen
 pub mod Compared
 pub mod Later
+pub mod Listing
 pub mod Maps
 pub mod Sorted
 pub mod States
