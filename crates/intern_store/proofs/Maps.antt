@@ -75,6 +75,15 @@ module _ {X Y : Type 0} (f : X → Y) where
       through true o = refl
       through false o = refl
 
+  -- a list that both maps give
+  pub listed_through : {A : Type 0} (read : ℕ × X → A) (show : ℕ × Y → A) → ((e : ℕ × X) → read e ≡ show (e.0, f e.1))
+      → (m : FinMap nat_cmp X) (n : FinMap nat_cmp Y) → map_values f m ≡ n → list_map read (entries m) ≡ list_map show (entries n)
+  listed_through {A} read show same m n view = go (entries m) ∙ ap (list_map show) (sym (entries-map_values m) ∙ ap entries view)
+    where
+      go : (es : List (ℕ × X)) → list_map read es ≡ list_map show (list_map (λ e. (e.0, f e.1)) es)
+      go [] = refl
+      go (e ∷ es) = ap (λ x. x ∷ list_map read es) (same e) ∙ ap (λ xs. show (e.0, f e.1) ∷ xs) (go es)
+
 module _ {X Y : Type 0} (f : X → Y) (m : FinMap nat_cmp X) (k : FinMap nat_cmp Y) (view : map_values f m ≡ k) where
   -- what is seen at a birth
   pub seen : (b : ℕ) → get k b ≡ option_map f (get m b)

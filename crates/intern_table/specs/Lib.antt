@@ -1,5 +1,6 @@
 pub mod Forms
 pub mod Hashes
 pub mod Joined
+pub mod Listed
 pub mod Read
 pub mod Sliced

@@ -5,12 +5,15 @@ mod counts;
 mod equivalent;
 mod pool;
 mod slice;
+mod slice_iter;
 mod slice_table;
 mod table;
 mod text;
 
 pub use equivalent::Equivalent;
+pub use intern_index::Iter;
 pub use slice::{HeaderSlice, HeaderWithLength, SliceValue};
+pub use slice_iter::SliceIter;
 pub use slice_table::SliceTable;
 pub use table::Table;
 pub use text::Text;

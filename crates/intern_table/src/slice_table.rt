@@ -1,15 +1,17 @@
 //! Headers with slices of items and counts, each stored once under a birth.
-ghost use Rattle.std.specs.Prelude.{◌≡◌, take, drop};
+ghost use Rattle.std.specs.Prelude.{◌≡◌, IsPermutation, take, drop};
 ghost use Rattle.std.specs.Option.{option_map};
 ghost use Rattle.std.specs.FinMap as map;
 ghost use Rattle.intern_table.specs.Sliced.{sliced_eq, sliced_input};
 ghost use Rattle.intern_table.specs.Hashes.{hash_of};
+ghost use Rattle.intern_table.specs.Listed.{listed_slices};
 ghost use Rattle.intern_table.specs.Read.{read, shown};
 
 use crate::counts::{Lower, OfCount, Raise};
 use crate::equivalent::hash_value;
 use crate::pool::{SlicePayload, compact, part};
 use crate::slice::{HeaderSlice, HeaderWithLength, SliceValue};
+use crate::slice_iter::SliceIter;
 use intern_index::{BirthOrder, Index, Query};
 use intern_store::{Entries, Finds, Marks, Spot, Sweeps, Takes};
 use std::alloc::Global;
@@ -83,6 +85,16 @@ impl<H: Hash + Eq, S: Hash + Eq + Copy> SliceTable<H, S> {
                 slice: part(self.items.as_slice(), payload.start, payload.length),
             }),
             None => None,
+        }
+    }
+
+    /// The entries, in no promised order.
+    pub fn iter(&self) -> SliceIter<'_, H, S>
+        ensures { IsPermutation result (listed_slices self.now) }
+    {
+        SliceIter {
+            headers: self.index.iter(),
+            items: self.items.as_slice(),
         }
     }
 }

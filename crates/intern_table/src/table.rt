@@ -1,12 +1,13 @@
 //! Values with counts, each stored once under a birth.
-ghost use Rattle.std.specs.Prelude.{◌≡◌, option_copied};
+ghost use Rattle.std.specs.Prelude.{◌≡◌, IsPermutation, option_copied};
 ghost use Rattle.std.specs.Option.{option_map};
 ghost use Rattle.std.specs.FinMap as map;
 ghost use Rattle.intern_table.specs.Hashes.{hash_of};
+ghost use Rattle.intern_table.specs.Listed.{listed_values};
 
 use crate::counts::{Lower, Raise};
 use crate::equivalent::Equivalent;
-use intern_index::{BirthTable, Index, Query};
+use intern_index::{BirthTable, Index, Iter, Query};
 use intern_store::{Entries, Finds, Marks, Removes, Spot, Sweeps, Takes};
 use std::alloc::Global;
 use std::cmp::Eq;
@@ -62,6 +63,13 @@ impl<T: Hash + Eq> Table<T> {
         ensures { option_copied result ≡ option_map (λ k. k.value) (map.get self.now spot.birth) }
     {
         self.index.get(spot)
+    }
+
+    /// The entries, in no promised order.
+    pub fn iter(&self) -> Iter<'_, T, u64>
+        ensures { IsPermutation result (listed_values self.now) }
+    {
+        self.index.iter()
     }
 }
 

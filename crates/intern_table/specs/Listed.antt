@@ -1,0 +1,27 @@
+-- What the iterators of tables give.
+use Rattle.std.specs.Prelude.{ℕ, List, take, drop, map as list_map}
+use Rattle.std.specs.Ordering.{nat_cmp}
+use Rattle.std.specs.FinMap.{FinMap, entries}
+use Rattle.intern_store.specs.Kept.{Kept}
+use Rattle.intern_table.specs.Read.{shown}
+use Rattle.intern_table.specs.Sliced.{Sliced}
+use Rattle.intern_table.specs.declared.pool.SlicePayload.{SlicePayload}
+
+-- each birth with its value and its count
+abbrev pub listed_values : {T : Type 0} → FinMap nat_cmp (Kept T) → List (ℕ × (T × ℕ))
+listed_values m = list_map (λ e. (e.0, (e.1.value, e.1.count))) (entries m)
+
+module _ {H S : Type 0} where
+  -- each birth with its header and items, and how many these are
+  abbrev pub listed_slices : FinMap nat_cmp (Kept (Sliced H S)) → List (ℕ × (Sliced H S × ℕ))
+  listed_slices m = list_map (λ e. (e.0, shown e.1)) (entries m)
+
+  -- what is given of a header whose items are among these
+  abbrev pub slice_among : List S → ℕ × (H × SlicePayload) → ℕ × (Sliced H S × ℕ)
+  slice_among xs e = (
+    e.0,
+    shown (record {
+      value = record { header = e.1.0; items = take e.1.1.length (drop e.1.1.start xs) };
+      count = e.1.1.count;
+    }),
+  )
