@@ -27,4 +27,6 @@ mod steps;
 #[cfg(test)]
 mod terms;
 #[cfg(test)]
+mod tour;
+#[cfg(test)]
 mod words;
