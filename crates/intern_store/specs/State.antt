@@ -1,5 +1,5 @@
 -- What a storage holds, and the words of its contracts.
-use Rattle.std.specs.Prelude.{◌≡◌, ℕ, ◌+◌, ◌-◌, ◌<◌, ◌≤◌, Bool, true, not, if◌then◌else◌, ◌==◌, ◌&&◌, Option, Some, None, IsSome, is_none, option_and_then, IsTrue, refl}
+use Rattle.std.specs.Prelude.{List, map as list_map, ◌≡◌, ℕ, ◌+◌, ◌-◌, ◌<◌, ◌≤◌, Bool, true, not, if◌then◌else◌, ◌==◌, ◌&&◌, Option, Some, None, IsSome, is_none, option_and_then, IsTrue, refl}
 use Rattle.std.specs.Option.{option_map, option_eq}
 use Rattle.std.specs.List.{find}
 use Rattle.std.specs.Coded.{Coded, code_by, coded×, coded_ℕ}
@@ -126,6 +126,10 @@ module _ {V : Type 0} where
   -- the name of the entry whose value equals v
   abbrev pub name_of_value : (V → V → Bool) → State V → V → Option Name
   name_of_value eq s v = option_map (name_in s) (birth_of eq s v)
+
+  -- the name of each entry, with its value
+  abbrev pub named_values : State V → List (Name × V)
+  named_values s = list_map (λ e. (name_in s e.0, e.1.value)) (map.entries s.map)
 
   -- whether no value equals v
   abbrev pub is_new : (V → V → Bool) → State V → V → Bool

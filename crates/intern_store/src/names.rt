@@ -46,6 +46,21 @@ pub struct EntryKey {
     pub place: usize,
 }
 
+impl Spot {
+    /// The key of the entry in the storage of this number.
+    pub fn in_storage(self, number: u64) -> EntryKey
+        ensures { result.name ≡ record { storage = number; birth = self.birth } }
+    {
+        EntryKey {
+            name: Name {
+                storage: number,
+                birth: self.birth,
+            },
+            place: self.place,
+        }
+    }
+}
+
 impl EntryKey {
     /// Where the entry is.
     pub fn spot(self) -> Spot

@@ -7,7 +7,7 @@ ghost use Rattle.intern_store.specs.Outcome.{Owes, MayWantBack, Becomes};
 ghost use Rattle.intern_store.specs.State.{IsState, new_state, name_in, entry_at, count_at, counts, counted_up, counted_down, taken, added_with, birth_of, is_new, interned, interned_name, interned_counted, given_back, name_of_value, due, due_at, due_adding, due_interning, full, zero_count, any_count, freed, released, kept};
 
 use crate::entries::{Entries, Finds, Marks, Removes, Sweeps, Takes};
-use crate::names::{EntryKey, Limits, Name, Refusal, Refused, Spot};
+use crate::names::{EntryKey, Limits, Refusal, Refused, Spot};
 use std::alloc::Global;
 use std::marker::Model;
 
@@ -108,6 +108,13 @@ impl<E: Entries> Store<E> {
         Ok(key.spot())
     }
 
+    /// The table.
+    pub fn table(&self) -> &E
+        ensures { E.entries result.now ≡ self.now.map }
+    {
+        &self.table
+    }
+
     /// The table, where a key is of this storage.
     pub fn own(&self, key: EntryKey) -> Option<&E>
         ensures own { IfSome result (λ t.
@@ -131,13 +138,7 @@ impl<E: Entries> Store<E> {
     fn key(&self, spot: Spot) -> EntryKey
         ensures { result.name ≡ name_in self.now spot.birth }
     {
-        EntryKey {
-            name: Name {
-                storage: self.number,
-                birth: spot.birth,
-            },
-            place: spot.place,
-        }
+        spot.in_storage(self.number)
     }
 
     /// The key of the entry of a birth.

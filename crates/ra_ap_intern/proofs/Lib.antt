@@ -1,3 +1,4 @@
+mod Listings
 mod Slices
 mod Tables
 mod Texts

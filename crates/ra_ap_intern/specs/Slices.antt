@@ -1,6 +1,7 @@
 -- The names of slice handles, and what is read of an entry.
-use Rattle.std.specs.Prelude.{ℕ, Bool, List, length, Option}
-use Rattle.intern_store.specs.State.{State, Stored, interned, interned_name, is_new, due_interning, any_count, given_back}
+use Rattle.std.specs.Prelude.{ℕ, Bool, List, map as list_map, length, Option}
+use Rattle.std.specs.FinMap as map
+use Rattle.intern_store.specs.State.{State, Stored, name_in, interned, interned_name, is_new, due_interning, any_count, given_back}
 use Rattle.intern_store.specs.declared.names.Name.{Name}
 use Rattle.intern_store.specs.declared.names.Refusal.{Refusal}
 use Rattle.intern_table.specs.Sliced.{Sliced}
@@ -23,6 +24,14 @@ slice_of header items = record { header = header; items = items }
 -- a header with its items, and how many these are
 abbrev pub sized : {H I : Type 0} → Sliced H I → Sliced H I × ℕ
 sized v = (v, length v.items)
+
+-- a slice that a table lists under its birth, with its name in the storage of this number
+abbrev pub slice_with_name : {H I : Type 0} → ℕ → ℕ × (Sliced H I × ℕ) → Name × (Sliced H I × ℕ)
+slice_with_name number e = (record { storage = number; birth = e.0 }, e.1)
+
+-- the name of each entry, with its header and items, and how many these are
+abbrev pub named_slices : {H I : Type 0} → State (Sliced H I) → List (Name × (Sliced H I × ℕ))
+named_slices s = list_map (λ e. (name_in s e.0, sized e.1.value)) (map.entries s.map)
 
 module _ {H I : Type 0} (eq : Sliced H I → Sliced H I → Bool) (s : State (Sliced H I))
     (header : H) (items : List I) where

@@ -1,12 +1,15 @@
 -- What symbols are, and what a table of texts holds.
-use Rattle.std.specs.Prelude.{◌≡◌, ℕ, ◌<◌, Bool, ◌&&◌, List, Option, Some, None, is_none}
+use Rattle.std.specs.Prelude.{◌≡◌, ℕ, ◌<◌, Bool, ◌&&◌, List, Option, Some, None, is_none, map as list_map}
+use Rattle.std.specs.FinMap as map
+use Rattle.std.specs.Option.{option_map}
 use Rattle.std.specs.Str.{bytes_eq}
 use Rattle.intern_presets.specs.Presets.{preset_text, place_of}
 use Rattle.intern_store.specs.Kept.{Kept}
-use Rattle.intern_store.specs.State.{State, entry_at, reads, counts, is_new, interned_name, interned_counted, due, due_interning, full}
+use Rattle.intern_store.specs.State.{State, entry_at, name_in, name_of_value, reads, counts, is_new, interned_name, interned_counted, due, due_interning, full}
 use Rattle.intern_store.specs.declared.names.Name.{Name}
 use Rattle.intern_store.specs.declared.names.Refusal.{Refusal}
 use Rattle.ra_ap_intern.specs.declared.symbol.Symbol.{Symbol}
+use Rattle.ra_ap_intern.specs.declared.symbol.SymbolRef.{SymbolRef}
 use Rattle.ra_ap_intern.specs.declared.symbol.Kind.{Kind}
 use Rattle.ra_ap_intern.specs.declared.symbol.Kind.TheVariants.{Preset, Runtime}
 
@@ -20,12 +23,15 @@ pub data Named : Type 0 where
   preset : ℕ → Named
   entry : Name → Named
 
+abbrev pub kind_name : Kind → Named
+kind_name (Preset place) = preset place
+kind_name (Runtime key) = entry key.name
+
 abbrev pub symbol_name : Symbol → Named
 symbol_name s = kind_name s.0
-  where
-    kind_name : Kind → Named
-    kind_name (Preset place) = preset place
-    kind_name (Runtime key) = entry key.name
+
+abbrev pub symbol_ref_name : SymbolRef → Named
+symbol_ref_name s = kind_name s.0
 
 -- the text of a symbol, while it can be read
 abbrev pub text_of : State (List ℕ) → Named → Option (List ℕ)
@@ -70,6 +76,22 @@ due_symbol_at None s t = due_interning bytes_eq s t (full s.top)
 
 abbrev pub due_symbol : State (List ℕ) → List ℕ → Option Refusal
 due_symbol s t = due_symbol_at (place_of t) s t
+
+-- what names a text: a preset, or the entry that has it
+abbrev pub named_at : Option ℕ → State (List ℕ) → List ℕ → Option Named
+named_at (Some place) s t = Some (preset place)
+named_at None s t = option_map entry (name_of_value bytes_eq s t)
+
+abbrev pub named_in : State (List ℕ) → List ℕ → Option Named
+named_in s t = named_at (place_of t) s t
+
+-- a text that a table lists under its birth, with what names it
+abbrev pub text_with_name : ℕ → ℕ × (List ℕ × ℕ) → Named × List ℕ
+text_with_name number e = (entry (record { storage = number; birth = e.0 }), e.1.0)
+
+-- each entry, with its text
+abbrev pub named_texts : State (List ℕ) → List (Named × List ℕ)
+named_texts s = list_map (λ e. (entry (name_in s e.0), e.1.value)) (map.entries s.map)
 
 -- whether a text is neither a preset nor stored
 abbrev pub is_new_text : State (List ℕ) → List ℕ → Bool

@@ -5,15 +5,19 @@
 //! works with [`InternedRef`]s, which count nothing.
 //!
 //! A handle that is let fall keeps its count: give it back by `release`.
-ghost use Rattle.std.specs.Prelude.{◌≡◌, ◌<◌, ◌==◌, true, false, Bool, Some, IfOk, option_copied};
+ghost use Rattle.std.specs.Prelude.{◌≡◌, ◌<◌, ◌==◌, true, false, Bool, Some, IsPermutation, IfOk, option_copied};
 ghost use Rattle.std.specs.FinMap as map;
+ghost use Rattle.std.specs.Option.{option_map};
 ghost use Rattle.intern_store.specs.Outcome.{Owes, OwesBack, MayWantBack, Becomes};
-ghost use Rattle.intern_store.specs.State.{IsState, new_state, name_in, entry_at, reads, counts, counted_up, counted_down, is_new, interned, interned_name, interned_counted, given_back, due, due_at, due_interning, full, zero_count, any_count, freed, released};
+ghost use Rattle.intern_store.specs.State.{IsState, new_state, name_in, entry_at, reads, counts, counted_up, counted_down, is_new, interned, interned_name, interned_counted, given_back, name_of_value, named_values, due, due_at, due_interning, full, zero_count, any_count, freed, released};
 ghost use Rattle.ra_ap_intern.specs.Handle.{name_of, ref_name};
+
+mod iter;
 
 use crate::typed_key::TypedKey;
 use intern_store::{Limits, Name, Refusal, Refused, Store};
 use intern_table::Table;
+pub use iter::Iter;
 use std::alloc::Global;
 use std::hash::Hash;
 use std::marker::Model;
@@ -107,6 +111,24 @@ impl<T: Internable> InternStorage<T> {
         ensures { result ≡ (map.len self.now.map == 0) }
     {
         self.store.is_empty()
+    }
+
+    /// A reference to the entry whose value equals this one. None where no equal value is stored.
+    pub fn get(&self, obj: &T) -> Option<InternedRef<T>>
+        ensures { option_map ref_name result ≡ name_of_value T.eq self.now obj.now }
+    {
+        let key = TypedKey::new(self.store.find(obj)?);
+        Some(InternedRef { key })
+    }
+
+    /// The entries, each with a reference to it, in no promised order. It takes no memory.
+    pub fn iter(&self) -> Iter<'_, T>
+        ensures { IsPermutation result (named_values self.now) }
+    {
+        Iter {
+            number: self.store.number(),
+            entries: self.store.table().iter(),
+        }
     }
 
     /// The count of the entry that a reference names: how many owners it has.

@@ -4,18 +4,21 @@
 //! entries stay until a collection. The items of all entries lie in one vector.
 //!
 //! A handle that is let fall keeps its count: give it back by `release`.
-ghost use Rattle.std.specs.Prelude.{◌≡◌, ◌<◌, ◌==◌, true, Bool, IfOk};
+ghost use Rattle.std.specs.Prelude.{◌≡◌, ◌<◌, ◌==◌, true, Bool, IsPermutation, IfOk};
 ghost use Rattle.std.specs.FinMap as map;
 ghost use Rattle.std.specs.Option.{option_map};
 ghost use Rattle.intern_store.specs.Outcome.{Owes, OwesBack, MayWantBack, Becomes};
-ghost use Rattle.intern_store.specs.State.{IsState, new_state, reads, counts, counted_up, counted_down, due, full, zero_count};
+ghost use Rattle.intern_store.specs.State.{IsState, new_state, name_of_value, reads, counts, counted_up, counted_down, due, full, zero_count};
 ghost use Rattle.intern_table.specs.Read.{read};
 ghost use Rattle.intern_table.specs.Sliced.{sliced_eq};
-ghost use Rattle.ra_ap_intern.specs.Slices.{slice_name, slice_ref_name, sized, slice_in, slice_name_in, slice_back, due_slice, is_new_slice};
+ghost use Rattle.ra_ap_intern.specs.Slices.{slice_name, slice_ref_name, slice_of, sized, named_slices, slice_in, slice_name_in, slice_back, due_slice, is_new_slice};
+
+mod iter;
 
 use crate::typed_key::TypedKey;
 use intern_store::{Limits, Name, Refusal, Refused, Store};
 use intern_table::{HeaderSlice, SliceTable};
+pub use iter::SliceIter;
 use std::alloc::Global;
 use std::hash::Hash;
 use std::marker::Model;
@@ -111,6 +114,26 @@ impl<T: SliceInternable> InternSliceStorage<T> {
         ensures { result ≡ (map.len self.now.map == 0) }
     {
         self.store.is_empty()
+    }
+
+    /// A reference to the entry with this header and these items. None where no equal pair is
+    /// stored.
+    pub fn get(&self, header: &T::Header, slice: &[T::SliceType]) -> Option<InternedSliceRef<T>>
+        ensures { let eq = sliced_eq T.Header.eq T.SliceType.eq in option_map slice_ref_name result
+            ≡ name_of_value eq self.now (slice_of header.now slice.now) }
+    {
+        let key = TypedKey::new(self.store.find(&(header, slice))?);
+        Some(InternedSliceRef { key })
+    }
+
+    /// The entries, each with a reference to it, in no promised order. It takes no memory.
+    pub fn iter(&self) -> SliceIter<'_, T>
+        ensures { IsPermutation result (named_slices self.now) }
+    {
+        SliceIter {
+            number: self.store.number(),
+            entries: self.store.table().iter(),
+        }
     }
 
     /// The count of the entry that a reference names: how many owners it has.

@@ -7,8 +7,10 @@ pub mod laws;
 mod symbol;
 mod typed_key;
 
-pub use intern::{InternStorage, Internable, Interned, InternedRef};
-pub use intern_slice::{InternSliceStorage, InternedSlice, InternedSliceRef, SliceInternable};
+pub use intern::{InternStorage, Internable, Interned, InternedRef, Iter};
+pub use intern_slice::{
+    InternSliceStorage, InternedSlice, InternedSliceRef, SliceInternable, SliceIter,
+};
 pub use intern_store::{Limits, Name, Refusal, Refused};
 pub use intern_table::{HeaderSlice, HeaderWithLength};
-pub use symbol::{Symbol, SymbolTable, symbols as sym};
+pub use symbol::{Symbol, SymbolIter, SymbolRef, SymbolTable, symbols as sym};

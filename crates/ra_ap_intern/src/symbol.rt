@@ -4,20 +4,22 @@
 //! nothing of any table; every other text is stored in a [`SymbolTable`] while it is counted.
 //!
 //! A symbol that is let fall keeps its count: give it back by `release`.
-ghost use Rattle.std.specs.Prelude.{◌≡◌, ◌<◌, ◌==◌, false, Some, IfOk};
+ghost use Rattle.std.specs.Prelude.{◌≡◌, ◌<◌, ◌==◌, false, Some, IsPermutation, IfOk};
 ghost use Rattle.std.specs.FinMap as map;
 ghost use Rattle.std.specs.Option.{option_map};
 ghost use Rattle.std.specs.Str.{bytes_eq};
 ghost use Rattle.intern_store.specs.Outcome.{Owes, OwesBack, MayWant, Becomes};
 ghost use Rattle.intern_store.specs.State.{IsState, new_state, counted_up, full, any_count, released};
-ghost use Rattle.ra_ap_intern.specs.Symbols.{IsTable, symbol_name, text_of, count_of, symbol_in, due_of, due_symbol, is_new_text, at_entry};
+ghost use Rattle.ra_ap_intern.specs.Symbols.{IsTable, symbol_name, symbol_ref_name, named_in, named_texts, text_of, count_of, symbol_in, due_of, due_symbol, is_new_text, at_entry};
 ghost use Rattle.ra_ap_intern.specs.declared.symbol.symbols.TheConstants as sym;
 
+mod iter;
 mod numbered;
 pub mod symbols;
 
 use intern_store::{EntryKey, Limits, Refusal, Refused, Store};
 use intern_table::{Table, Text};
+pub use iter::SymbolIter;
 use std::alloc::Global;
 use std::marker::Model;
 
@@ -52,7 +54,11 @@ impl Model for SymbolTable {
 #[derive(PartialEq, Eq, Hash)]
 pub struct Symbol(Kind);
 
-#[derive(PartialEq, Eq, Hash, Drop)]
+/// A reference to a symbol, which counts nothing. It is compared and hashed by what it names alone.
+#[derive(Clone, Copy, PartialEq, Eq, Hash)]
+pub struct SymbolRef(Kind);
+
+#[derive(Clone, Copy, PartialEq, Eq, Hash)]
 enum Kind {
     Preset(u16),
     Runtime(EntryKey),
@@ -103,6 +109,29 @@ impl SymbolTable {
         self.store.is_empty()
     }
 
+    /// A reference to the symbol of a text: a preset's, or that of a text that the table keeps. None
+    /// for any other text.
+    pub fn get(&self, text: &str) -> Option<SymbolRef>
+        ensures { option_map symbol_ref_name result ≡ named_in self.now text.now }
+    {
+        let kind = match intern_presets::place(text) {
+            Some(place) => Kind::Preset(place),
+            None => Kind::Runtime(self.store.find(&text)?),
+        };
+        Some(SymbolRef(kind))
+    }
+
+    /// The texts that the table keeps, each with a reference to its symbol, in no promised order.
+    /// Presets are none of them. It takes no memory.
+    pub fn iter(&self) -> SymbolIter<'_>
+        ensures { IsPermutation result (named_texts self.now) }
+    {
+        SymbolIter {
+            number: self.store.number(),
+            entries: self.store.table().iter(),
+        }
+    }
+
     /// The count of a symbol's text. None for a preset, for a symbol of another table, and for one
     /// whose text is gone.
     pub fn count(&self, symbol: &Symbol) -> Option<u64>
@@ -144,18 +173,19 @@ impl Symbol {
         symbols::_empty_sym
     }
 
+    /// A reference to the symbol.
+    pub fn as_ref(&self) -> SymbolRef
+        ensures { symbol_ref_name result ≡ symbol_name self.now }
+    {
+        SymbolRef(self.0)
+    }
+
     /// The text: a preset's, whatever the table, or else the one that the table keeps.
     /// None for a symbol of another table, and for one whose text is gone.
     pub fn as_str<'a>(&self, table: &'a SymbolTable) -> Option<&'a str>
         ensures { option_map (λ t. t.now) result ≡ text_of table.now (symbol_name self.now) }
     {
-        match self.0 {
-            Kind::Preset(place) => intern_presets::text(place),
-            Kind::Runtime(key) => {
-                let text = table.store.own(key)?.get(key.spot())?;
-                Some(text.as_str())
-            }
-        }
+        self.as_ref().as_str(table)
     }
 
     /// A second symbol of the same text, which counts one more unless it is a preset.
@@ -167,13 +197,7 @@ impl Symbol {
         ensures state { Becomes result table.old table.new
             (at_entry counted_up table.old (symbol_name self.now)) }
     {
-        match self.0 {
-            Kind::Preset(place) => Ok(Symbol(Kind::Preset(place))),
-            Kind::Runtime(key) => {
-                table.store.count_up(key)?;
-                Ok(Symbol(Kind::Runtime(key)))
-            }
-        }
+        self.as_ref().to_owned(table)
     }
 
     /// Gives the symbol up, with its count. With the last one the text goes. A preset stays.
@@ -198,6 +222,40 @@ impl Symbol {
             (at_entry (released false) table.old (symbol_name self.old)) }
     {
         table.lower(self)
+    }
+}
+
+impl SymbolRef {
+    /// The text: a preset's, whatever the table, or else the one that the table keeps.
+    /// None for a symbol of another table, and for one whose text is gone.
+    pub fn as_str<'a>(self, table: &'a SymbolTable) -> Option<&'a str>
+        ensures { option_map (λ t. t.now) result ≡ text_of table.now (symbol_ref_name self) }
+    {
+        match self.0 {
+            Kind::Preset(place) => intern_presets::text(place),
+            Kind::Runtime(key) => {
+                let text = table.store.own(key)?.get(key.spot())?;
+                Some(text.as_str())
+            }
+        }
+    }
+
+    /// A symbol of the same text, which counts one more unless it is a preset.
+    /// Refused, never for a preset: `Foreign`, `Gone`, `CountFull`.
+    pub fn to_owned(self, table: &mut SymbolTable) -> Result<Symbol, Refusal>
+        ensures ok { IfOk result (λ s. symbol_name s ≡ symbol_ref_name self) }
+        ensures refused { Owes result
+            (due_of table.old (symbol_ref_name self) (full table.old.top)) }
+        ensures state { Becomes result table.old table.new
+            (at_entry counted_up table.old (symbol_ref_name self)) }
+    {
+        match self.0 {
+            Kind::Preset(_) => Ok(Symbol(self.0)),
+            Kind::Runtime(key) => {
+                table.store.count_up(key)?;
+                Ok(Symbol(self.0))
+            }
+        }
     }
 }
 

@@ -1,0 +1,53 @@
+//! The entries of a storage of slices, one after the other.
+ghost use Rattle.std.specs.Iterator.{YieldsFirstBy, item_count};
+ghost use Rattle.intern_table.specs.Read.{read};
+ghost use Rattle.ra_ap_intern.specs.Slices.{slice_ref_name};
+
+use super::{InternedSliceRef, SliceInternable};
+use crate::typed_key::TypedKey;
+use intern_table::{HeaderSlice, SliceIter as TableIter};
+use std::marker::Model;
+
+/// The entries of a storage of slices, each with a reference to it. It is seen as the list of those
+/// that are left.
+#[derive(Drop)]
+pub struct SliceIter<'a, T: SliceInternable> {
+    pub(super) number: u64,
+    pub(super) entries: TableIter<'a, T::Header, T::SliceType>,
+}
+
+impl<'a, T: SliceInternable> Model for SliceIter<'a, T> {
+    ghost use Rattle.std.specs.Prelude.{ℕ, List, map};
+    ghost use Rattle.intern_store.specs.declared.names.Name.{Name};
+    ghost use Rattle.intern_table.specs.Sliced.{Sliced};
+
+    ghost Value = { List (Name × (Sliced T.Header T.SliceType × ℕ)) };
+
+    ghost use Rattle.ra_ap_intern.specs.Slices.{slice_with_name};
+
+    ghost view = { λ it. map (slice_with_name it.number) it.entries };
+}
+
+impl<'a, T: SliceInternable> Iterator for SliceIter<'a, T> {
+    type Item = (
+        InternedSliceRef<T>,
+        HeaderSlice<'a, T::Header, T::SliceType>,
+    );
+
+    ghost next_gives = { YieldsFirstBy (λ e. (slice_ref_name e.0, read e.1)) (λ rest. rest) };
+
+    ghost remaining = { item_count (λ rest. rest) };
+
+    fn next(
+        &mut self,
+    ) -> Option<
+        (
+            InternedSliceRef<T>,
+            HeaderSlice<'a, T::Header, T::SliceType>,
+        ),
+    > {
+        let (spot, slice) = self.entries.next()?;
+        let key = TypedKey::new(spot.in_storage(self.number));
+        Some((InternedSliceRef { key }, slice))
+    }
+}
