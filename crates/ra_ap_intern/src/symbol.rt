@@ -109,8 +109,8 @@ impl SymbolTable {
         self.store.is_empty()
     }
 
-    /// A reference to the symbol of a text: a preset's, or that of a text that the table keeps. None
-    /// for any other text.
+    /// A reference to the symbol of a text: a preset's, or that of a text that the table keeps.
+    /// None for any other text.
     pub fn get(&self, text: &str) -> Option<SymbolRef>
         ensures { option_map symbol_ref_name result ≡ named_in self.now text.now }
     {

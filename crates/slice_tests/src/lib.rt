@@ -7,6 +7,8 @@ mod calls;
 #[cfg(test)]
 mod churn;
 #[cfg(test)]
+mod entries;
+#[cfg(test)]
 mod hostile;
 #[cfg(test)]
 mod kinds;

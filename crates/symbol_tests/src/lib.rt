@@ -8,6 +8,8 @@ mod constants;
 #[cfg(test)]
 mod counted;
 #[cfg(test)]
+mod entries;
+#[cfg(test)]
 mod hostile;
 #[cfg(test)]
 mod large;

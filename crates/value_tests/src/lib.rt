@@ -11,6 +11,8 @@ mod collected;
 #[cfg(test)]
 mod counted;
 #[cfg(test)]
+mod entries;
+#[cfg(test)]
 mod hostile;
 #[cfg(test)]
 mod kinds;

@@ -6,8 +6,8 @@ use super::{Kind, SymbolRef};
 use intern_table::{Iter as TableIter, Text};
 use std::marker::Model;
 
-/// The texts that a table keeps, each with a reference to its symbol. It is seen as the list of those
-/// that are left.
+/// The texts that a table keeps, each with a reference to its symbol. It is seen as the list of
+/// those that are left.
 #[derive(Drop)]
 pub struct SymbolIter<'a> {
     pub(super) number: u64,

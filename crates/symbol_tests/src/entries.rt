@@ -1,0 +1,70 @@
+//! Look-ups that intern nothing, the texts of a table one after the other, and references.
+use crate::steps::{integer, intern_new, is_stored, keeps, release};
+use ra_ap_intern::{Symbol, SymbolTable, sym};
+use std::process::Abort;
+
+#[test]
+fn look_ups(rt: HostRuntime) {
+    let mut table = SymbolTable::new(rt.alloc(), 1);
+    finds(&rt, &table, "x", None);
+    let x = intern_new(&rt, &mut table, "x", 1);
+    finds(&rt, &table, "x", Some(&x));
+    finds(&rt, &table, "Clone", Some(&sym::Clone));
+    let number = integer(&rt, &mut table, 255);
+    finds(&rt, &table, "255", Some(&number));
+    finds(&rt, &table, "256", None);
+    release(&rt, &mut table, x, 0);
+    finds(&rt, &table, "x", None);
+}
+
+/// A look-up of a text gives a reference to this symbol, or none.
+fn finds(rt: &impl Abort, table: &SymbolTable, text: &str, symbol: Option<&Symbol>) {
+    let found = table.get(text);
+    assert!(rt; found == symbol.map(Symbol::as_ref));
+    assert_eq!(rt;
+        found.and_then(|found| found.as_str(table)),
+        symbol.map(|_| text)
+    );
+}
+
+#[test]
+fn entries(rt: HostRuntime) {
+    let mut table = SymbolTable::new(rt.alloc(), 1);
+    assert!(rt; table.is_empty());
+    assert_eq!(rt; table.iter().count(), 0);
+    let x = intern_new(&rt, &mut table, "x", 1);
+    let y = intern_new(&rt, &mut table, "y", 2);
+    assert!(rt; !table.is_empty());
+    assert_eq!(rt; table.iter().count(), 2);
+    gives(&rt, &table, &x, "x");
+    gives(&rt, &table, &y, "y");
+}
+
+/// Among the entries is one of this symbol, with this text.
+fn gives(rt: &impl Abort, table: &SymbolTable, symbol: &Symbol, text: &str) {
+    let mut found = false;
+    for (reference, kept) in table.iter() {
+        if reference == symbol.as_ref() {
+            assert!(rt; !found);
+            assert_eq!(rt; kept, text);
+            found = true;
+        }
+    }
+    assert!(rt; found);
+}
+
+#[test]
+fn references(rt: HostRuntime) {
+    let mut table = SymbolTable::new(rt.alloc(), 1);
+    let x = intern_new(&rt, &mut table, "x", 1);
+    let reference = x.as_ref();
+    let second = reference.to_owned(&mut table).expect(&rt, "counted");
+    is_stored(&rt, &table, &second, "x", 2);
+    keeps(&rt, &table, 1);
+    let clone = sym::Clone
+        .as_ref()
+        .to_owned(&mut table)
+        .expect(&rt, "a preset");
+    assert!(rt; clone == sym::Clone);
+    keeps(&rt, &table, 1);
+}
