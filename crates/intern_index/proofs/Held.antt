@@ -1,5 +1,5 @@
 -- What the map of a slab's entries has under each birth, and what a change of one place does to it.
-use Rattle.std.proofs.Common.{◌≡◌, ◌≢◌, ◌⊎◌, inl, inr, ℕ, zero, suc, ◌+◌, ◌<◌, ◌^◌, Bool, true, false, cond, List, [], ◌∷◌, get_or, Option, Some, None, is_some, IfSome, IfNone, count_by, nat_eq, refl, sym, ap, subst, ◌∙◌, add-zero, zero-add, arith}
+use Rattle.std.proofs.Common.{◌≡◌, ◌≢◌, ◌⊎◌, inl, inr, ℕ, zero, suc, ◌+◌, ◌<◌, ◌^◌, Bool, true, false, cond, List, [], ◌∷◌, get_or, Option, Some, None, is_some, IfSome, IfNone, count_by, nat_eq, refl, sym, ap, ◌∙◌, add-zero, zero-add, arith}
 use Rattle.std.specs.Option.{option_map}
 use Rattle.std.specs.Ordering.{nat_cmp}
 use Rattle.std.specs.Cmp.{nat_cmp_total}
@@ -204,6 +204,16 @@ module _ {T N : Type 0} where
   pub seen_nowhere : (s : Slab (Entry T N)) (m : FinMap nat_cmp (IndexEntry T N)) → held s.slots ≡ m → (b : ℕ) → ((p : ℕ) → birth_at s p ≢ Some b) → map_get m b ≡ None
   seen_nowhere s m view b none = ap (λ n. map_get n b) (sym view) ∙ read_nowhere s b none
 
+  -- a birth is at the place that is seen under it
+  pub at_seen : (s : Slab (Entry T N)) (m : FinMap nat_cmp (IndexEntry T N)) → held s.slots ≡ m → (b p : ℕ) (e : Entry T N) → Some (seen p e) ≡ map_get m b → birth_at s p ≡ Some b
+  at_seen s m view b p e is =
+      elim (in_or_out s.slots b) [
+        | inl at ↦
+            let same = same_Some _ _ (is ∙ ap (λ n. map_get n b) (sym view) ∙ at.read) in
+            ap (birth_at s) (ap (λ (r : IndexEntry T N). r.place) same ∙ zero-add at.place) ∙ birth_there s at.place b at.entry at.there at.birth
+        | inr out ↦ let none = is ∙ ap (λ n. map_get n b) (sym view) ∙ out.read in absurd (cc)
+      ]
+
   -- a search for a birth tells the place that is seen
   pub place_where : (s : Slab (Entry T N)) (m : FinMap nat_cmp (IndexEntry T N)) → held s.slots ≡ m → IsApart s → (b : ℕ) (r : Option ℕ) → IfSome r (λ p. birth_at s p ≡ Some b) → IfNone r ((p : ℕ) → birth_at s p ≢ Some b)
       → r ≡ option_map (λ (e : IndexEntry T N). e.place) (map_get m b)
@@ -211,13 +221,3 @@ module _ {T N : Type 0} where
   place_where s m view apart b (Some p) found absent =
       let w = entry_there s p b found in
       ap (λ o. option_map (λ (e : IndexEntry T N). e.place) (option_map (seen p) o)) (sym w.1) ∙ ap (option_map (λ (e : IndexEntry T N). e.place)) (seen_at s m view apart p b found)
-
-  -- and whether it is
-  pub seen_where : (s : Slab (Entry T N)) (m : FinMap nat_cmp (IndexEntry T N)) → held s.slots ≡ m → IsApart s → (b : ℕ) (r : Option ℕ) → IfSome r (λ p. birth_at s p ≡ Some b) → IfNone r ((p : ℕ) → birth_at s p ≢ Some b) → is_some r ≡ is_some (map_get m b)
-  seen_where s m view apart b None found absent = sym (ap is_some (seen_nowhere s m view b absent))
-  seen_where s m view apart b (Some p) found absent = let w = entry_there s p b found in ap (λ o. is_some (option_map (seen p) o)) (sym w.1) ∙ ap is_some (seen_at s m view apart p b found)
-
--- what holds of what is found holds of the place
-pub known_at : (P : ℕ → Type 0) (r : Option ℕ) (p : ℕ) → r ≡ Some p → IfSome r P → P p
-known_at P None p is found = absurd (cc)
-known_at P (Some q) p is found = subst P (same_Some _ _ is) found

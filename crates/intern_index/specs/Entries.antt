@@ -1,5 +1,5 @@
 -- The entries of a slab, and the map that they make.
-use Rattle.std.specs.Prelude.{◌≡◌, ℕ, ◌+◌, ◌<◌, ◌^◌, true, List, [], ◌∷◌, Option, Some, None}
+use Rattle.std.specs.Prelude.{◌≡◌, ℕ, ◌+◌, ◌<◌, ◌^◌, Bool, true, List, [], ◌∷◌, Option, Some, None}
 use Rattle.std.specs.Option.{option_map}
 use Rattle.std.specs.Ordering.{nat_cmp}
 use Rattle.std.specs.FinMap.{FinMap, empty, insert}
@@ -26,6 +26,10 @@ module _ {T N : Type 0} where
   -- the birth at a place
   abbrev pub birth_at : Slab (Entry T N) → ℕ → Option ℕ
   birth_at s p = option_map (λ e. e.birth) (get s p)
+
+  -- the entry at a place passes a test
+  abbrev pub PassesAt : (Entry T N → Bool) → Slab (Entry T N) → ℕ → Type 0
+  PassesAt passes s p = option_map passes (get s p) ≡ Some true
 
   -- buckets tell the places of the entries apart
   abbrev pub AreTold : Slab (Entry T N) → Type 0

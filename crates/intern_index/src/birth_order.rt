@@ -68,6 +68,7 @@ impl Births for BirthOrder {
         }
     }
 
+    #[cold]
     fn find<T, N: Copy>(&self, slots: &Slab<Entry<T, N>>, birth: u64) -> Option<usize> {
         match self
             .places

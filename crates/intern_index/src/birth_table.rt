@@ -1,5 +1,5 @@
 //! Births in a table of buckets.
-ghost use Rattle.std.specs.Prelude.{◌≡◌, ◌==◌, ℕ, ◌*◌, ◌%◌, ◌^◌, ◌<◌, true, Some};
+ghost use Rattle.std.specs.Prelude.{◌≡◌, ◌==◌, ℕ, ◌<◌, true, Some};
 ghost use Rattle.std.specs.Vec.{vec_len, vec_capacity};
 ghost use Rattle.intern_index.specs.Leading.{leads};
 ghost use Rattle.intern_index.specs.Mixed.{mixed};
@@ -15,8 +15,8 @@ use std::alloc::{AllocError, Global};
 // Half of the bits of the golden ratio.
 const FACTOR: u64 = 0x9E37_79B9_7F4A_7C15;
 
-/// The places of births in a table of buckets. A birth that goes leaves its bucket behind, until the
-/// table is built anew.
+/// The places of births in a table of buckets. A birth that goes leaves its bucket behind, until
+/// the table is built anew.
 #[derive(Drop)]
 pub struct BirthTable {
     buckets: Buckets,
@@ -62,7 +62,8 @@ impl BirthTable {
 }
 
 impl Births for BirthTable {
-    ghost IsFor = { λ t at. (p b : ℕ) → at p ≡ Some b → leads t.buckets (mixed b) p ≡ true };
+    ghost IsFor = { λ t at. (p b : ℕ) →
+        at p ≡ Some b → leads t.buckets (mixed b) p ≡ true };
 
     ghost HasRoom = { λ t. vec_len t.buckets.buckets < vec_capacity t.buckets.buckets };
 
@@ -72,6 +73,7 @@ impl Births for BirthTable {
         }
     }
 
+    #[cold]
     fn find<T, N: Copy>(&self, slots: &Slab<Entry<T, N>>, birth: u64) -> Option<usize> {
         search(slots, &self.buckets, mix(birth), &OfBirth(birth))
     }

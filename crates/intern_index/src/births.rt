@@ -1,9 +1,9 @@
 //! How the place of a birth is found.
-ghost use Rattle.std.specs.Prelude.{◌≡◌, ◌≢◌, ℕ, ◌+◌, ◌<◌, ◌^◌, Some, None, Option, IfSome, IfNone, OnOk};
+ghost use Rattle.std.specs.Prelude.{◌≡◌, ◌≢◌, ℕ, ◌+◌, ◌<◌, ◌^◌};
+ghost use Rattle.std.specs.Prelude.{Some, None, Option, IfSome, IfNone, OnOk};
 ghost use Rattle.intern_index.specs.Entries.{birth_at, AreTold};
 
 use crate::entry::Entry;
-use intern_store::Spot;
 use slab::Slab;
 use std::alloc::{AllocError, Global};
 
@@ -37,7 +37,8 @@ pub trait Births: Sized {
         requires small { place + 1 < 2 ^ 48 }
         ensures { (old new : ℕ → Option ℕ) → IsFor self.old old
             → old place ≡ None → ((p b : ℕ) → old p ≡ Some b → b < birth)
-            → new place ≡ Some birth → ((p : ℕ) → p ≢ place → new p ≡ old p) → IsFor self.new new };
+            → new place ≡ Some birth → ((p : ℕ) → p ≢ place → new p ≡ old p)
+            → IsFor self.new new };
 
     /// Built anew for so many births, those of these entries among them.
     fn rebuild<T, N: Copy>(
@@ -53,37 +54,6 @@ pub trait Births: Sized {
     /// Forgets the births that are gone. It takes no memory.
     fn forget<T, N: Copy>(&mut self, slots: &Slab<Entry<T, N>>)
         ensures { (old : ℕ → Option ℕ) → IsFor self.old old
-            → ((p b : ℕ) → birth_at slots.now p ≡ Some b → old p ≡ Some b) → IsFor self.new (birth_at slots.now) };
-}
-
-/// The place of a birth: the one that is guessed where it is right, and else what is found.
-pub(crate) fn locate<T, N: Copy, B: Births>(
-    slots: &Slab<Entry<T, N>>,
-    births: &B,
-    spot: Spot,
-) -> Option<usize>
-    requires known { B.IsFor births.now (birth_at slots.now) }
-    requires told { AreTold slots.now }
-    ensures found { IfSome result (λ p. birth_at slots.now p ≡ Some spot.birth) }
-    ensures absent { IfNone result ((p : ℕ) → birth_at slots.now p ≢ Some spot.birth) }
-{
-    match slots.get(spot.place) {
-        Some(entry) if entry.birth == spot.birth => Some(spot.place),
-        _ => find_birth(slots, births, spot.birth),
-    }
-}
-
-// The place of a birth that isn't where it was found.
-#[cold]
-pub(crate) fn find_birth<T, N: Copy, B: Births>(
-    slots: &Slab<Entry<T, N>>,
-    births: &B,
-    birth: u64,
-) -> Option<usize>
-    requires known { B.IsFor births.now (birth_at slots.now) }
-    requires told { AreTold slots.now }
-    ensures found { IfSome result (λ p. birth_at slots.now p ≡ Some birth) }
-    ensures absent { IfNone result ((p : ℕ) → birth_at slots.now p ≢ Some birth) }
-{
-    births.find(slots, birth)
+            → ((p b : ℕ) → birth_at slots.now p ≡ Some b → old p ≡ Some b)
+            → IsFor self.new (birth_at slots.now) };
 }

@@ -1,5 +1,6 @@
 //! A hash table of places.
-ghost use Rattle.std.specs.Prelude.{◌≡◌, ℕ, ◌+◌, ◌/◌, ◌%◌, ◌*◌, ◌<◌, ◌≤◌, ◌^◌, [], length, Some, true, nat_eq, IfOk, OnOk};
+ghost use Rattle.std.specs.Prelude.{◌≡◌, ℕ, ◌+◌, ◌/◌, ◌%◌, ◌*◌, ◌<◌, ◌≤◌, ◌^◌};
+ghost use Rattle.std.specs.Prelude.{[], length, Some, true, nat_eq, IfOk, OnOk};
 ghost use Rattle.std.specs.Vec.{vec_len, vec_capacity};
 ghost use Rattle.intern_index.specs.Probing.{home, bucket, is_empty, full_count};
 
@@ -72,7 +73,8 @@ impl Buckets {
 
     /// An empty table with homes for so many places.
     pub(crate) fn with_room(alloc: Global, places: usize) -> Result<Buckets, AllocError>
-        ensures { IfOk result (λ t. full_count t.buckets.items ≡ 0) }
+        ensures empty { IfOk result (λ t. full_count t.buckets.items ≡ 0) }
+        ensures room { IfOk result (λ t. places ≤ t.homes) }
     {
         let homes = places.saturating_add(places / 7);
         let mut buckets = Vec::with_capacity(alloc, homes.saturating_add(SPARE))?;
@@ -108,6 +110,7 @@ impl Buckets {
     pub(crate) fn enter(&mut self, hash: u64, place: usize)
         requires small { place + 1 < 2 ^ 48 }
         requires room { vec_len self.old.buckets < vec_capacity self.old.buckets }
+        ensures homes { self.new.homes ≡ self.old.homes }
         ensures entered { leads self.new hash place ≡ true }
         ensures still { (h p : ℕ) →
             leads self.old h p ≡ true → leads self.new h p ≡ true }

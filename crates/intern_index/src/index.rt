@@ -1,13 +1,15 @@
 //! Values with payloads, each under a birth and a hash.
-ghost use Rattle.std.specs.Prelude.{◌≡◌, ℕ, ◌<◌, option_copied, IsSome, is_some, IsPermutation, Some, None, IfOk, OnErr, IfErr, IfSome, IfNone, true, false};
+ghost use Rattle.std.specs.Prelude.{◌≡◌, ℕ, ◌<◌, option_copied, IsSome, is_some, Some, None};
+ghost use Rattle.std.specs.Prelude.{IsPermutation, IfOk, OnErr, IfErr, IfSome, IfNone, true, false};
 ghost use Rattle.std.specs.Option.{option_map};
 ghost use Rattle.std.specs.List.{slice_get};
 ghost use Rattle.std.specs.FinMap as map;
+ghost use Rattle.intern_index.specs.Entries.{seen};
 ghost use Rattle.intern_index.specs.IndexEntry.{IndexEntry, has_hash, is_sought, with_payload};
 ghost use Rattle.intern_index.specs.Listed.{listed};
 
 use crate::birth_order::BirthOrder;
-use crate::births::{Births, find_birth, locate};
+use crate::births::Births;
 use crate::buckets::PLACES;
 use crate::change::Change;
 use crate::entry::Entry;
@@ -76,19 +78,16 @@ impl<T, N: Copy, B: Births> Index<T, N, B> {
         self.tables.births.find(&self.slots, birth)
     }
 
-    /// The entry of a birth, where it has one.
-    fn entry(&self, spot: Spot) -> Option<&Entry<T, N>>
-        ensures value { option_map (λ e. e.value) (option_copied result)
-            ≡ option_map (λ e. e.value) (map.get self.now spot.birth) }
-        ensures payload { option_map (λ e. e.payload) (option_copied result)
-            ≡ option_map (λ e. e.payload) (map.get self.now spot.birth) }
+    // The entry of a birth, and its place, which is looked up only where the spot tells a wrong one.
+    fn entry(&self, spot: Spot) -> Option<(usize, &Entry<T, N>)>
+        ensures { option_map (λ f. seen f.0 f.1.now) result ≡ map.get self.now spot.birth }
     {
-        // What `locate` does, but with one look at the slot: reads are what is called most.
         match self.slots.get(spot.place) {
-            Some(entry) if entry.birth == spot.birth => Some(entry),
-            _ => self
-                .slots
-                .get(find_birth(&self.slots, &self.tables.births, spot.birth)?),
+            Some(entry) if entry.birth == spot.birth => Some((spot.place, entry)),
+            _ => {
+                let place = self.tables.births.find(&self.slots, spot.birth)?;
+                Some((place, &self.slots[place]))
+            }
         }
     }
 
@@ -97,20 +96,16 @@ impl<T, N: Copy, B: Births> Index<T, N, B> {
         ensures { option_copied result
             ≡ option_map (λ e. e.value) (map.get self.now spot.birth) }
     {
-        match self.entry(spot) {
-            Some(entry) => Some(&entry.value),
-            None => None,
-        }
+        let (_, entry) = self.entry(spot)?;
+        Some(&entry.value)
     }
 
     /// The payload of an entry.
     pub fn payload(&self, spot: Spot) -> Option<N>
         ensures { result ≡ option_map (λ e. e.payload) (map.get self.now spot.birth) }
     {
-        match self.entry(spot) {
-            Some(entry) => Some(entry.payload),
-            None => None,
-        }
+        let (_, entry) = self.entry(spot)?;
+        Some(entry.payload)
     }
 
     /// The value and the payload of an entry.
@@ -120,19 +115,17 @@ impl<T, N: Copy, B: Births> Index<T, N, B> {
         ensures payload { option_map (λ r. r.1) result
             ≡ option_map (λ e. e.payload) (map.get self.now spot.birth) }
     {
-        match self.entry(spot) {
-            Some(entry) => Some((&entry.value, entry.payload)),
-            None => None,
-        }
+        let (_, entry) = self.entry(spot)?;
+        Some((&entry.value, entry.payload))
     }
 
     /// Changes the payload of an entry, and gives the one that it had.
     pub fn change<C: Change<N>>(&mut self, spot: Spot, change: &C) -> Option<N>
         ensures payload { result ≡ option_map (λ e. e.payload) (map.get self.old spot.birth) }
-        ensures state { self.new
-            ≡ with_payload (C.changed change.now) self.old spot.birth (map.get self.old spot.birth) }
+        ensures state { let entry = map.get self.old spot.birth in
+            self.new ≡ with_payload (C.changed change.now) self.old spot.birth entry }
     {
-        let place = locate(&self.slots, &self.tables.births, spot)?;
+        let (place, _) = self.entry(spot)?;
         let entry = &mut self.slots[place];
         let payload = entry.payload;
         entry.payload = change.changed(payload);
@@ -144,7 +137,7 @@ impl<T, N: Copy, B: Births> Index<T, N, B> {
         ensures value { result ≡ option_map (λ e. e.value) (map.get self.old spot.birth) }
         ensures removed { self.new ≡ map.remove self.old spot.birth }
     {
-        let place = locate(&self.slots, &self.tables.births, spot)?;
+        let (place, _) = self.entry(spot)?;
         let entry = self.slots.remove(place);
         self.tables.births.forget(&self.slots);
         let Entry { value, .. } = entry;

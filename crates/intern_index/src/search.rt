@@ -1,8 +1,7 @@
 //! The search for an entry along a probe sequence.
 ghost use Rattle.std.specs.Prelude.{◌≡◌, ℕ, Bool, true, false, Some, IfSome, IfNone};
-ghost use Rattle.std.specs.Option.{option_map};
 ghost use Rattle.slab.specs.Slab.{get};
-ghost use Rattle.intern_index.specs.Entries.{AreTold};
+ghost use Rattle.intern_index.specs.Entries.{AreTold, PassesAt};
 ghost use Rattle.intern_index.specs.Leading.{leads};
 ghost use Rattle.intern_index.specs.Probing.{bucket as bucket_of};
 ghost use Rattle.intern_index.specs.declared.entry.Entry.{Entry as Kept};
@@ -29,10 +28,9 @@ fn place_of<T, N: Copy, Q: Test<T, N>>(
     test: &Q,
 ) -> Option<usize>
     requires { AreTold slots.now }
-    ensures found { IfSome result (λ p.
-        option_map (Q.passes test.now) (get slots.now p) ≡ Some true) }
-    ensures none { IfNone result ((p : ℕ) (e : Kept T N) →
-        get slots.now p ≡ Some e → bucket ≡ bucket_of hash p → Q.passes test.now e ≡ false) }
+    ensures found { IfSome result (PassesAt (Q.passes test.now) slots.now) }
+    ensures none { IfNone result ((p : ℕ) (e : Kept T N) → get slots.now p ≡ Some e
+        → bucket ≡ bucket_of hash p → Q.passes test.now e ≡ false) }
 {
     let place = bucket.place(hash)?;
     let entry = slots.get(place)?;
@@ -51,10 +49,9 @@ pub(crate) fn search<T, N: Copy, Q: Test<T, N>>(
     test: &Q,
 ) -> Option<usize>
     requires { AreTold slots.now }
-    ensures found { IfSome result (λ p.
-        option_map (Q.passes test.now) (get slots.now p) ≡ Some true) }
-    ensures none { IfNone result ((p : ℕ) (e : Kept T N) →
-        get slots.now p ≡ Some e → leads table.now hash p ≡ true → Q.passes test.now e ≡ false) }
+    ensures found { IfSome result (PassesAt (Q.passes test.now) slots.now) }
+    ensures none { IfNone result ((p : ℕ) (e : Kept T N) → get slots.now p ≡ Some e
+        → leads table.now hash p ≡ true → Q.passes test.now e ≡ false) }
 {
     for bucket in table.probe(hash) {
         if bucket.is_empty() {

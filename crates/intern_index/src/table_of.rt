@@ -1,5 +1,5 @@
 //! Tables built from the entries.
-ghost use Rattle.std.specs.Prelude.{◌≡◌, ℕ, true, Some, IfOk};
+ghost use Rattle.std.specs.Prelude.{◌≡◌, ◌≤◌, ℕ, true, Some, IfOk};
 ghost use Rattle.slab.specs.Slab.{get, slab_len};
 ghost use Rattle.intern_index.specs.Entries.{AreTold};
 ghost use Rattle.intern_index.specs.Leading.{leads};
@@ -33,6 +33,7 @@ pub(crate) fn table_of<T, N: Copy, K: Key<T, N>>(
         get slots.now p ≡ Some e → leads t (K.key by.now e) p ≡ true) }
     ensures once { IfOk result (λ t.
         full_count t.buckets.items ≡ slab_len slots.now) }
+    ensures room { IfOk result (λ t. room ≤ t.homes) }
 {
     let mut table = Buckets::with_room(alloc, room)?;
     for (place, entry) in slots.iter() {

@@ -50,7 +50,8 @@ impl<B: Births> Tables<B> {
         }
     }
 
-    // Builds the tables anew, with room for twice as many entries as there are.
+    // Builds the tables anew, with room for twice as many entries as there are. That goes over all
+    // slots, vacant ones too, so there is room for as many insertions as there are slots: they pay.
     fn rebuild<T, N: Copy>(
         &mut self,
         alloc: Global,
@@ -62,7 +63,7 @@ impl<B: Births> Tables<B> {
             (full_count self.new.by_hash.buckets.items ≡ slab_len slots.now) }
     {
         let entries = slots.len();
-        let room = entries.saturating_mul(2).max(LEAST);
+        let room = entries.saturating_mul(2).max(slots.capacity()).max(LEAST);
         let by_hash = table_of(alloc, slots, room, &ByHash)?;
         self.births.rebuild(alloc, slots, room)?;
         self.by_hash = by_hash;
@@ -99,7 +100,8 @@ impl<B: Births> Tables<B> {
             leads self.old.by_hash h p ≡ true → leads self.new.by_hash h p ≡ true }
         ensures found { (old new : ℕ → Option ℕ) → B.IsFor self.old.births old
             → old place ≡ None → ((p b : ℕ) → old p ≡ Some b → b < birth)
-            → new place ≡ Some birth → ((p : ℕ) → p ≢ place → new p ≡ old p) → B.IsFor self.new.births new }
+            → new place ≡ Some birth → ((p : ℕ) → p ≢ place → new p ≡ old p)
+            → B.IsFor self.new.births new }
     {
         self.by_hash.enter(hash, place);
         self.births.enter(birth, place);

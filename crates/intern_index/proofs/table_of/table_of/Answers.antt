@@ -11,7 +11,8 @@ loop-place-init g c =
     let all = c.into_iter-place-iterator.ensures.into_iter_gives ∙ c.iter-place-items.ensures.rest in record {
       left = λ p e is. (Contains-entries c.args.slots.now p e).0 (rw all at is);
       led = λ p e there. inr (rw all ((Contains-entries c.args.slots.now p e).1 there));
-      once = let count = ap length all in omega (arith, length-entries c.args.slots.now, c.in_ok-table.ensures);
+      once = let count = ap length all in omega (arith, length-entries c.args.slots.now, c.in_ok-table.ensures.empty);
+      room = c.in_ok-table.ensures.room;
     }
 
 pub enter-requires-clause-small : goal.enter-requires-clause-small
@@ -39,6 +40,7 @@ loop-place-preserved g c =
                   | inr rest ↦ inr rest
                 ]
           ];
+      room = omega (arith, before.room, room.homes, entered.homes);
       once =
           let one = ap length next in
           let kept = ap full_count room.buckets in

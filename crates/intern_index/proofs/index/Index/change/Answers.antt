@@ -6,17 +6,20 @@ use Rattle.slab.proofs.SlabLemmas.{Updates-with_value}
 use Rattle.intern_index.specs.IndexEntry.{IndexEntry, with_payload}
 use Rattle.intern_index.specs.Entries.{seen}
 use Rattle.intern_index.specs.declared.entry.Entry.{Entry}
-use Rattle.intern_index.proofs.Held.{seen_at, seen_nowhere}
+use Rattle.intern_index.proofs.Held.{entry_there, at_seen, seen_at}
 use Rattle.intern_index.proofs.Changes.{repaid_tied, written_seen}
 use Rattle.intern_index.proofs.index.Index.change.Goals as goal
 
 pub returns-in_err-place-clause-payload : goal.returns-in_err-place-clause-payload
 returns-in_err-place-clause-payload g c =
-    c.from_residual.ensures ∙ sym (ap (option_map (λ (e : IndexEntry g.row.T.Denot g.row.N.Denot). e.payload)) (seen_nowhere c.self.inside.slots _ c.self.view_is c.args.spot.birth c.in_err-place.ensures.absent))
+    c.from_residual.ensures ∙ ap (option_map (λ (e : IndexEntry g.row.T.Denot g.row.N.Denot). e.payload)) c.in_err-place.ensures
 
 pub returns-in_err-place-clause-state : goal.returns-in_err-place-clause-state
 returns-in_err-place-clause-state g c =
-    ap (with_payload (g.C.Change.changed c.args.change.now) c.args.self.now c.args.spot.birth) (sym (seen_nowhere c.self.inside.slots _ c.self.view_is c.args.spot.birth c.in_err-place.ensures.absent))
+    ap (with_payload (g.C.Change.changed c.args.change.now) c.args.self.now c.args.spot.birth) c.in_err-place.ensures
+
+pub index_mut-entry-requires : goal.index_mut-entry-requires
+index_mut-entry-requires g c = ap is_some (entry_there c.self.inside.slots _ _ (at_seen c.self.inside.slots _ c.self.view_is c.args.spot.birth c.in_ok-place.place c.in_ok-place.field-0-1.now c.in_ok-place.ensures)).1
 
 pub invariant_of-self : goal.invariant_of-self
 invariant_of-self g c =
@@ -26,15 +29,16 @@ invariant_of-self g c =
 
 pub returns-clause-payload : goal.returns-clause-payload
 returns-clause-payload g c =
+    let at = at_seen c.self.inside.slots _ c.self.view_is c.args.spot.birth c.in_ok-place.place c.in_ok-place.field-0-1.now c.in_ok-place.ensures in
     ap (option_map (λ (e : IndexEntry g.row.T.Denot g.row.N.Denot). e.payload))
-    (ap (option_map (seen c.in_ok-place.place)) (sym c.index_mut-entry.ensures.value) ∙ seen_at c.self.inside.slots _ c.self.view_is c.self.invariant.apart c.in_ok-place.place c.args.spot.birth c.in_ok-place.ensures.found)
+    (ap (option_map (seen c.in_ok-place.place)) (sym c.index_mut-entry.ensures.value) ∙ seen_at c.self.inside.slots _ c.self.view_is c.self.invariant.apart c.in_ok-place.place c.args.spot.birth at)
 
 pub returns-clause-state : goal.returns-clause-state
 returns-clause-state g c =
     let s = c.self.inside.slots in
     let there = c.index_mut-entry.ensures.value in
     let birth = c.args.spot.birth in
-    let at = c.in_ok-place.ensures.found in
+    let at = at_seen c.self.inside.slots _ c.self.view_is c.args.spot.birth c.in_ok-place.place c.in_ok-place.field-0-1.now c.in_ok-place.ensures in
     let here = same_Some _ _ (sym (ap (option_map (λ (e : Entry g.row.T.Denot g.row.N.Denot). e.birth)) there) ∙ at) in
     let entry = ap (option_map (seen c.in_ok-place.place)) (sym there) ∙ seen_at s _ c.self.view_is c.self.invariant.apart c.in_ok-place.place birth at in
     written_seen s _ _ _ c.self.invariant _ c.self.view_is c.in_ok-place.place birth _ here

@@ -1,17 +1,20 @@
-use Rattle.std.proofs.Common.{ap, sym, ◌∙◌}
+use Rattle.std.proofs.Common.{is_some, ap, sym, ◌∙◌}
 use Rattle.std.specs.Option.{option_map}
 use Rattle.intern_index.specs.IndexEntry.{IndexEntry}
 use Rattle.intern_index.specs.Entries.{birth_at}
-use Rattle.intern_index.proofs.Held.{entry_there, birth_there, seen_at, seen_nowhere}
+use Rattle.intern_index.proofs.Held.{entry_there, birth_there, at_seen, seen_at}
 use Rattle.intern_index.proofs.Changes.{less_tied, left_there, removed_seen, unremoved}
 use Rattle.intern_index.proofs.index.Index.remove.Goals as goal
 
 pub returns-in_err-place-clause-value : goal.returns-in_err-place-clause-value
 returns-in_err-place-clause-value g c =
-    c.from_residual.ensures ∙ sym (ap (option_map (λ (e : IndexEntry g.row.T.Denot g.row.N.Denot). e.value)) (seen_nowhere c.self.inside.slots _ c.self.view_is c.args.spot.birth c.in_err-place.ensures.absent))
+    c.from_residual.ensures ∙ ap (option_map (λ (e : IndexEntry g.row.T.Denot g.row.N.Denot). e.value)) c.in_err-place.ensures
 
 pub returns-in_err-place-clause-removed : goal.returns-in_err-place-clause-removed
-returns-in_err-place-clause-removed g c = unremoved _ c.args.spot.birth (seen_nowhere c.self.inside.slots _ c.self.view_is c.args.spot.birth c.in_err-place.ensures.absent)
+returns-in_err-place-clause-removed g c = unremoved _ c.args.spot.birth (sym c.in_err-place.ensures)
+
+pub remove-entry-requires : goal.remove-entry-requires
+remove-entry-requires g c = ap is_some (entry_there c.self.inside.slots _ _ (at_seen c.self.inside.slots _ c.self.view_is c.args.spot.birth c.in_ok-place.place c.in_ok-place.field-0-1.now c.in_ok-place.ensures)).1
 
 pub invariant_of-self : goal.invariant_of-self
 invariant_of-self g c =
@@ -22,9 +25,11 @@ invariant_of-self g c =
 
 pub returns-clause-value : goal.returns-clause-value
 returns-clause-value g c =
+    let at = at_seen c.self.inside.slots _ c.self.view_is c.args.spot.birth c.in_ok-place.place c.in_ok-place.field-0-1.now c.in_ok-place.ensures in
     ap (λ o. option_map (λ (e : IndexEntry g.row.T.Denot g.row.N.Denot). e.value) o)
-    (ap (option_map _) (sym c.remove-entry.ensures.value) ∙ seen_at c.self.inside.slots _ c.self.view_is c.self.invariant.apart c.in_ok-place.place c.args.spot.birth c.in_ok-place.ensures.found)
+    (ap (option_map _) (sym c.remove-entry.ensures.value) ∙ seen_at c.self.inside.slots _ c.self.view_is c.self.invariant.apart c.in_ok-place.place c.args.spot.birth at)
 
 pub returns-clause-removed : goal.returns-clause-removed
 returns-clause-removed g c =
-    removed_seen c.self.inside.slots c.remove-entry.new.self _ _ c.self.invariant _ c.self.view_is c.in_ok-place.place c.args.spot.birth c.in_ok-place.ensures.found c.remove-entry.ensures.updates
+    let at = at_seen c.self.inside.slots _ c.self.view_is c.args.spot.birth c.in_ok-place.place c.in_ok-place.field-0-1.now c.in_ok-place.ensures in
+    removed_seen c.self.inside.slots c.remove-entry.new.self _ _ c.self.invariant _ c.self.view_is c.in_ok-place.place c.args.spot.birth at c.remove-entry.ensures.updates
