@@ -10,7 +10,7 @@ use Rattle.std.proofs.lemmas.List.Elements.{All-get_or}
 use Rattle.std.proofs.lemmas.List.Sums.{AllPass-from_list_all}
 use Rattle.std.proofs.lemmas.Option.{slice_get_within, slice_get-get_or, get_or_from_slice_get}
 use Rattle.intern_presets.specs.Numbers.{number_value}
-use Rattle.intern_presets.specs.Table.{table}
+use Rattle.intern_presets.specs.Table.{table, table_length}
 use Rattle.intern_presets.specs.Presets.{Rises}
 use Rattle.intern_presets.proofs.Rising.{each_below_next, sorted_from_test}
 
@@ -21,7 +21,7 @@ each_text_below_next = refl
 pub table_rises : Rises table
 table_rises = sorted_from_test (slice_cmp nat_cmp) nat_list_cmp_total table each_text_below_next
 
-pub length_of_table : length table ≡ 535
+pub length_of_table : length table ≡ table_length
 unfolding table
 length_of_table = refl
 

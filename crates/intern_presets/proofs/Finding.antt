@@ -8,7 +8,7 @@ use Rattle.std.proofs.lemmas.Option.{none-some}
 use Rattle.std.proofs.lemmas.Slice.Eq.{bytes_eq-Decides}
 use Rattle.std.proofs.lemmas.Fmt.{decimal_injective}
 use Rattle.intern_presets.specs.Numbers.{number_value}
-use Rattle.intern_presets.specs.Presets.{generated_text, preset_text, place_of}
+use Rattle.intern_presets.specs.Presets.{generated_text, number_of_presets, preset_text, place_of}
 use Rattle.intern_presets.proofs.Parsed.{number_value-decimal}
 use Rattle.intern_presets.proofs.Standing.{Stands, stands, is_preset, at_low, no_number, generated_no_number, generated_injective, middle_is_not_high, one_place, ends}
 
@@ -46,13 +46,13 @@ standing (Some u) t e = let same : u ≡ t = cc e in (bytes_eq-Decides u t).1 sa
 
 pub place_is : (t : List ℕ) (p : ℕ) → (place_of t ≡ Some p) ↔ (preset_text p ≡ Some t)
 unfolding place_of
-place_is t p = (λ e. stands_at _ t (passes (λ q. option_eq bytes_eq (preset_text q) (Some t)) (range_with_len 0 1047) p e), λ at. found (find (λ q. option_eq bytes_eq (preset_text q) (Some t)) (range_with_len 0 1047)) refl at)
+place_is t p = (λ e. stands_at _ t (passes (λ q. option_eq bytes_eq (preset_text q) (Some t)) (range_with_len 0 number_of_presets) p e), λ at. found (find (λ q. option_eq bytes_eq (preset_text q) (Some t)) (range_with_len 0 number_of_presets)) refl at)
   where
-    found : (o : Option ℕ) → find (λ q. option_eq bytes_eq (preset_text q) (Some t)) (range_with_len 0 1047) ≡ o → preset_text p ≡ Some t → o ≡ Some p
-    found (Some q) e at = ap Some (one_place q p t (stands_at _ t (passes (λ q. option_eq bytes_eq (preset_text q) (Some t)) (range_with_len 0 1047) q e)) at)
+    found : (o : Option ℕ) → find (λ q. option_eq bytes_eq (preset_text q) (Some t)) (range_with_len 0 number_of_presets) ≡ o → preset_text p ≡ Some t → o ≡ Some p
+    found (Some q) e at = ap Some (one_place q p t (stands_at _ t (passes (λ q. option_eq bytes_eq (preset_text q) (Some t)) (range_with_len 0 number_of_presets) q e)) at)
     found None e at =
-        let below : p < 1047 = (ends p).0 (subst IsSome (sym at) refl) in
-        absurd (true≢false (sym (standing _ t at) ∙ fail (λ q. option_eq bytes_eq (preset_text q) (Some t)) 0 1047 p e (omega arith) (omega (arith, below))))
+        let below : p < number_of_presets = (ends p).0 (subst IsSome (sym at) refl) in
+        absurd (true≢false (sym (standing _ t at) ∙ fail (λ q. option_eq bytes_eq (preset_text q) (Some t)) 0 number_of_presets p e (omega arith) (omega (arith, below))))
 
 -- what is at each place where the text stands, and at no other, is its place
 pub determined : (t : List ℕ) (r : Option ℕ) → ((p : ℕ) → (r ≡ Some p) ↔ (preset_text p ≡ Some t)) → r ≡ place_of t

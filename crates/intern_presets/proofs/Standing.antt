@@ -8,8 +8,8 @@ use Rattle.std.proofs.lemmas.Fmt.{decimal_injective}
 use Rattle.std.proofs.lemmas.Option.{slice_get_within, slice_get-get_or}
 use Rattle.std.proofs.lemmas.Cmp.{nat_list_cmp_total}
 use Rattle.intern_presets.specs.Numbers.{number_value}
-use Rattle.intern_presets.specs.Table.{table}
-use Rattle.intern_presets.specs.Presets.{generated_text, preset_text}
+use Rattle.intern_presets.specs.Table.{table, table_length}
+use Rattle.intern_presets.specs.Presets.{generated_text, number_of_presets, preset_text}
 use Rattle.intern_presets.proofs.Parsed.{number_value-decimal}
 use Rattle.intern_presets.proofs.Rising.{one_index}
 use Rattle.intern_presets.proofs.Computed.{passes_at, starts_generated, constant_test, all_pass, table_rises, length_of_table}
@@ -137,25 +137,25 @@ nowhere p t no_integer no_generated no_constant e = by (stands p t e)
 some_from : {A : Type 0} (o : Option A) (x : A) → o ≡ Some x → IsSome o
 some_from o x e = subst IsSome (sym e) refl
 
--- the places are those below 1047
-pub ends : (p : ℕ) → IsSome (preset_text p) ↔ (p < 1047)
+-- the places are those below the number of presets
+pub ends : (p : ℕ) → IsSome (preset_text p) ↔ (p < number_of_presets)
 ends p = (below, there)
   where
-    below : IsSome (preset_text p) → p < 1047
+    below : IsSome (preset_text p) → p < number_of_presets
     below some = by (preset_text p) refl some
       where
-        by : (o : Option (List ℕ)) → preset_text p ≡ o → IsSome o → p < 1047
+        by : (o : Option (List ℕ)) → preset_text p ≡ o → IsSome o → p < number_of_presets
         by None e is = absurd (true≢false (sym is))
         by (Some t) e is = in_list (stands p t e)
           where
-            in_list : Stands p t → p < 1047
+            in_list : Stands p t → p < number_of_presets
             in_list (inl a) = omega (arith, a.0)
             in_list (inr (inl a)) = omega (arith, a.1, a.2)
             in_list (inr (inr a)) =
-                let within : a.0 < 535 = subst (λ n. a.0 < n) length_of_table (slice_get_within table a.0 t a.2) in
+                let within : a.0 < table_length = subst (λ n. a.0 < n) length_of_table (slice_get_within table a.0 t a.2) in
                 omega (arith, within, a.1)
 
-    there : p < 1047 → IsSome (preset_text p)
+    there : p < number_of_presets → IsSome (preset_text p)
     there lt = ⊎_elim low (λ le. ⊎_elim (middle le) high (cases_lt p 512)) (cases_lt p 256)
       where
         low : p < 256 → IsSome (preset_text p)

@@ -3,16 +3,16 @@ ghost use Rattle.std.specs.Prelude.{◌≡◌, ◌<◌, ◌≤◌, ◌+◌, ◌^
 ghost use Rattle.std.specs.Option.{ForSome};
 ghost use Rattle.intern_presets.specs.Numbers.{number_value};
 ghost use Rattle.intern_presets.specs.Table.{table};
-ghost use Rattle.intern_presets.specs.Presets.{Rises, generated_text, preset_text, place_of};
+ghost use Rattle.intern_presets.specs.Presets.{Rises, generated_text, number_of_presets, preset_text, place_of};
 
 /// The texts of the constants rise in the order of their bytes.
 pub fn texts_rise()
     ensures { Rises table }
 {}
 
-/// The places are those below 1047.
+/// The places are those below the number of presets.
 pub fn places_end()
-    ensures { (p : ℕ) → IsSome (preset_text p) ↔ (p < 1047) }
+    ensures { (p : ℕ) → IsSome (preset_text p) ↔ (p < number_of_presets) }
 {}
 
 /// A text has a place exactly if it is that place's text.

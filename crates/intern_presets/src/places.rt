@@ -16,7 +16,7 @@ const FIRST_GENERATED: u16 = 256;
 /// The place of the first constant's text.
 const FIRST_CONSTANT: u16 = 512;
 
-/// The text at a place, and `None` past the last one, which is 1046.
+/// The text at a place, and `None` past the last one.
 ///
 /// Takes no memory.
 pub fn text(place: u16) -> Option<&'static str>

@@ -1,30 +1,25 @@
+mod places;
+
 use super::{digits, generated, laws, number, place, text};
+use places::{END, PLACES};
 use std::test::Fail;
 
 #[test]
 fn each_place_is_that_of_its_text(rt: HostRuntime) {
-    for at in 0..1047u16 {
+    for at in 0..END {
         assert_eq!(rt; text(at).and_then(|it| place(it)), Some(at));
     }
-    assert_eq!(rt; text(1047), None);
+    assert_eq!(rt; text(END), None);
     assert_eq!(rt; text(u16::MAX), None);
 }
 
 #[test]
 fn finds_presets_and_no_other_texts(rt: HostRuntime) {
     for (it, want) in [
-        ("unsafe", Some(1030)),
         ("", Some(512)),
-        ("preserve-none", Some(913)),
         ("rust-preserve-none", None),
         ("preserve_none", None),
         ("unsafe_", None),
-        ("proc_macro", Some(915)),
-        ("proc-macro", Some(914)),
-        ("clone", Some(668)),
-        ("Clone", Some(530)),
-        ("isize", Some(807)),
-        ("default", Some(700)),
         ("hello", None),
         ("\u{e9}", None),
         ("0", Some(0)),
@@ -43,57 +38,11 @@ fn finds_presets_and_no_other_texts(rt: HostRuntime) {
     }
 }
 
-// Every text that is not the name of its constant.
 #[test]
 fn reads_what_it_finds(rt: HostRuntime) {
-    for (it, at) in [
-        ("...", 516),
-        ("", 512),
-        ("unsafe", 1030),
-        ("in", 795),
-        ("super", 993),
-        ("self", 970),
-        ("Self", 588),
-        ("'static", 515),
-        ("'_", 514),
-        ("$crate", 513),
-        ("[missing name]", 595),
-        ("fn", 747),
-        ("crate", 696),
-        ("_", 596),
-        ("true", 1014),
-        ("false", 735),
-        ("let", 817),
-        ("const", 680),
-        ("impl", 794),
-        ("proc-macro", 914),
-        ("aapcs-unwind", 599),
-        ("avr-interrupt", 634),
-        ("avr-non-blocking-interrupt", 635),
-        ("C-cmse-nonsecure-call", 523),
-        ("C-cmse-nonsecure-entry", 524),
-        ("C-unwind", 525),
-        ("cdecl-unwind", 659),
-        ("fastcall-unwind", 737),
-        ("msp430-interrupt", 841),
-        ("ptx-kernel", 919),
-        ("riscv-interrupt-m", 935),
-        ("riscv-interrupt-s", 936),
-        ("rust-call", 937),
-        ("rust-cold", 938),
-        ("rust-intrinsic", 939),
-        ("stdcall-unwind", 985),
-        ("system-unwind", 997),
-        ("sysv64-unwind", 999),
-        ("thiscall-unwind", 1007),
-        ("vectorcall-unwind", 1041),
-        ("win64-unwind", 1045),
-        ("x86-interrupt", 1046),
-        ("preserve-none", 913),
-        ("0_u8", 517),
-    ] {
-        assert_eq!(rt; place(it), Some(at), "the place of {it}");
-        assert_eq!(rt; text(at), Some(it), "the text at {at}");
+    for (it, at) in &PLACES {
+        assert_eq!(rt; place(it), Some(*at), "the place of {it}");
+        assert_eq!(rt; text(*at), Some(*it), "the text at {at}");
     }
 }
 

@@ -1,7 +1,7 @@
 -- What symbols are, and what a table of texts holds.
 use Rattle.std.specs.Prelude.{◌≡◌, ℕ, ◌<◌, Bool, ◌&&◌, List, Option, Some, None, is_none, map as list_map}
 use Rattle.std.specs.FinMap as map
-use Rattle.std.specs.Option.{option_map}
+use Rattle.std.specs.Option.{option_eq, option_map}
 use Rattle.std.specs.Str.{bytes_eq}
 use Rattle.intern_presets.specs.Presets.{preset_text, place_of}
 use Rattle.intern_store.specs.Kept.{Kept}
@@ -37,6 +37,15 @@ symbol_ref_name s = kind_name s.0
 abbrev pub text_of : State (List ℕ) → Named → Option (List ℕ)
 text_of s (preset place) = preset_text place
 text_of s (entry name) = reads s name
+
+-- the text of a preset; an entry has one only in its table
+abbrev pub own_text : Named → Option (List ℕ)
+own_text (preset place) = preset_text place
+own_text (entry name) = None
+
+-- whether a symbol is the preset of a text
+abbrev pub has_its_text : Symbol × List ℕ → Bool
+has_its_text c = option_eq bytes_eq (own_text (symbol_name c.0)) (Some c.1)
 
 -- the count of a symbol's text; presets have none
 abbrev pub count_of : State (List ℕ) → Named → Option ℕ

@@ -1,6 +1,6 @@
 use Rattle.std.proofs.Common.{◌≡◌, ◌<◌, ◌+◌, ◌++◌, codes, decimal, refl, sym, ◌∙◌, ap, subst, arith, inl, inr}
 use Rattle.std.proofs.lemmas.Option.{none-some, slice_get_within}
-use Rattle.intern_presets.specs.Table.{table}
+use Rattle.intern_presets.specs.Table.{table, table_length}
 use Rattle.intern_presets.proofs.Computed.{length_of_table}
 use Rattle.intern_presets.proofs.Standing.{alone, is_preset, generated_injective, nowhere, middle_is_not_high}
 use Rattle.intern_presets.proofs.Finding.{determined}
@@ -35,7 +35,7 @@ returns-in-None c =
 pub overflow_add-result-in-Some-index_of : goal.overflow_add-result-in-Some-index_of
 overflow_add-result-in-Some-index_of c =
     let is = (c.in-Some-index_of.ensures c.in-Some-index_of.index).0 refl in
-    let within : c.in-Some-index_of.index < 535 = subst (λ n. c.in-Some-index_of.index < n) length_of_table (slice_get_within table c.in-Some-index_of.index c.args.text.now is) in
+    let within : c.in-Some-index_of.index < table_length = subst (λ n. c.in-Some-index_of.index < n) length_of_table (slice_get_within table c.in-Some-index_of.index c.args.text.now is) in
     omega (arith, within)
 
 pub returns-in-Some-index_of : goal.returns-in-Some-index_of

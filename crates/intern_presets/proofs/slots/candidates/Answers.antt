@@ -3,7 +3,7 @@ use Rattle.std.specs.List.{list_all, enumerate_from}
 use Rattle.std.proofs.lemmas.Bool.{or_cases, eqb-true}
 use Rattle.std.proofs.lemmas.List.FromFn.{length-enumerate_from, get_or-enumerate_from}
 use Rattle.std.proofs.lemmas.Option.{slice_get_within, slice_get-get_or, get_or_from_slice_get}
-use Rattle.intern_presets.specs.declared.slots.TheConstants.{SLOTS}
+use Rattle.intern_presets.specs.declared.table.TheConstants.{SLOTS}
 use Rattle.intern_presets.specs.Slots.{slot_of}
 use Rattle.intern_presets.specs.Table.{table}
 use Rattle.intern_presets.proofs.Computed.{passes_at}
