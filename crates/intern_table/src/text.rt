@@ -1,5 +1,5 @@
 //! The texts that a table keeps.
-ghost use Rattle.std.specs.Prelude.{◌≡◌, nat_eq};
+ghost use Rattle.std.specs.Prelude.{◌≡◌, ◌≤◌, length, IfOk, IsOk, nat_eq};
 ghost use Rattle.std.specs.Cmp.Lexicographic.{pointwise};
 ghost use Rattle.std.specs.Cmp.Rules.{comparing, hashing};
 ghost use Rattle.std.specs.Hash as fed;
@@ -8,8 +8,9 @@ ghost use Rattle.std.proofs.Common.{rules};
 use crate::equivalent::{Equivalent, hash_value};
 use arrayvec::ArrayString;
 use intern_index::Offer;
-use std::alloc::Global;
+use std::alloc::{AllocError, Global};
 use std::cmp::Eq;
+use std::fmt;
 use std::hash::{Hash, Hasher};
 use std::marker::Model;
 
@@ -56,6 +57,12 @@ impl Eq for Text {
     ghost laws = { Prim.search (comparing, rules) };
 }
 
+impl fmt::Debug for Text {
+    fn fmt<W: fmt::Write>(&self, f: &mut fmt::Formatter<W>) -> fmt::Result {
+        fmt::Debug::fmt(self.as_str(), f)
+    }
+}
+
 impl Hash for Text {
     ghost hash_input = { fed.str };
 
@@ -67,6 +74,18 @@ impl Hash for Text {
 }
 
 impl Text {
+    /// A copy of a text. One of up to 24 bytes takes no memory.
+    pub fn new(alloc: Global, text: &str) -> Result<Text, AllocError>
+        ensures copy { IfOk result (λ t. t ≡ text.now) }
+        ensures short { length text.now ≤ 24 → IsOk result }
+    {
+        let form = match ArrayString::from(text) {
+            Ok(short) => Form::Short(short),
+            Err(_) => Form::Long(String::from_str(alloc, text)?),
+        };
+        Ok(Text { form })
+    }
+
     /// The text.
     pub fn as_str(&self) -> &str
         ensures { result.now ≡ self.now }
@@ -83,15 +102,8 @@ impl<'a> Offer<Text> for &'a str {
     ghost value = { λ s. s.now };
 
     fn into_value(self, alloc: Global) -> Result<Text, &'a str> {
-        if let Ok(text) = ArrayString::from(self) {
-            return Ok(Text {
-                form: Form::Short(text),
-            });
-        }
-        match String::from_str(alloc, self) {
-            Ok(text) => Ok(Text {
-                form: Form::Long(text),
-            }),
+        match Text::new(alloc, self) {
+            Ok(text) => Ok(text),
             Err(_) => Err(self),
         }
     }

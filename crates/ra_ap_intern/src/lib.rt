@@ -5,6 +5,7 @@ mod intern;
 mod intern_slice;
 pub mod laws;
 mod symbol;
+mod text;
 mod typed_key;
 
 pub use intern::{InternStorage, Internable, Interned, InternedRef, Iter};
@@ -12,5 +13,5 @@ pub use intern_slice::{
     InternSliceStorage, InternedSlice, InternedSliceRef, SliceInternable, SliceIter,
 };
 pub use intern_store::{Limits, Name, Refusal, Refused};
-pub use intern_table::{HeaderSlice, HeaderWithLength};
+pub use intern_table::{HeaderSlice, HeaderWithLength, Text};
 pub use symbol::{Symbol, SymbolIter, SymbolRef, SymbolTable, symbols as sym};

@@ -29,6 +29,8 @@ mod steps;
 #[cfg(test)]
 mod terms;
 #[cfg(test)]
+mod texts;
+#[cfg(test)]
 mod tour;
 #[cfg(test)]
 mod words;
