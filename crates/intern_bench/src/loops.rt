@@ -7,7 +7,7 @@ use anyhow::{Result, ensure};
 use ra_ap_intern::Refusal;
 use std::alloc::{AllocError, Global};
 
-/// The inputs of so many entries.
+/// The inputs of this many entries.
 pub(crate) fn draw_inputs<S: Storage>(
     alloc: Global,
     entries: usize,
@@ -74,8 +74,8 @@ pub(crate) fn release_all<S: Storage, I: Iterator<Item = S::Handle> + Drop>(
     Ok(())
 }
 
-/// Room for so many handles. An entry's were there and were released, so the system has given the
-/// room's pages, and no loop's time or memory counts them.
+/// Room for this many handles. It is filled with handles of one entry and emptied again, so that
+/// the system has given its pages before any loop is measured.
 pub(crate) fn make_room<S: Storage>(
     alloc: Global,
     storage: &mut S,

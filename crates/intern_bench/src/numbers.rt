@@ -3,7 +3,7 @@ ghost use Rattle.std.specs.Prelude.{◌≤◌};
 
 use std::alloc::{AllocError, Global};
 
-/// A prime. The places of N entries are visited in steps of it, each once if N is no multiple.
+/// A prime. N places are visited in steps of it: each once, unless N is a multiple of it.
 pub(crate) const STRIDE: usize = 7_368_787;
 
 /// A linear congruential generator.

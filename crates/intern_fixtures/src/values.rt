@@ -29,7 +29,7 @@ pub fn make_word(alloc: Global, text: &str) -> Result<Word, AllocError> {
     Ok(Word(String::from_str(alloc, text)?))
 }
 
-/// A number, counted, whose hash writes nothing: all of them hash alike.
+/// A number, counted, whose hash writes nothing, so that all have the same hash.
 #[derive(Clone, Copy, Debug, PartialEq, Eq)]
 pub struct Unhashed(pub u64);
 

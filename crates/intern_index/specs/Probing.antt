@@ -14,7 +14,7 @@ is_empty b = nat_eq b.0 0
 abbrev pub full_count : List Bucket → ℕ
 full_count bs = count_by (λ b. not (is_empty b)) bs
 
--- where the probe sequence of a hash begins, among so many homes
+-- where the probe sequence of a hash begins, among this many homes
 abbrev pub home : ℕ → ℕ → ℕ
 home homes h = (h * homes) / 2 ^ 64
 

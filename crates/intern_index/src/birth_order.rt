@@ -12,7 +12,7 @@ use std::alloc::{AllocError, Global};
 
 /// The places of all entries, in the order of their births. They are found by a binary search.
 ///
-/// Each call that takes entries out goes over all places, be it for one entry or for a whole sweep.
+/// A removal goes over all places, and so does a sweep.
 #[derive(Drop)]
 pub struct BirthOrder {
     places: Vec<usize>,
@@ -43,14 +43,14 @@ fn keep_occupied<T, N: Copy>(places: &mut Vec<usize>, slots: &Slab<Entry<T, N>>)
 }
 
 impl BirthOrder {
-    /// The place of the birth of this number in the order.
+    /// The place of this rank in the order of births.
     pub(crate) fn place(&self, at: usize) -> Option<usize>
         ensures { result ≡ slice_get self.now.places.items at }
     {
         self.places.get(at).copied()
     }
 
-    /// How many places fit with no memory asked for.
+    /// How many places there is room for.
     #[cfg(test)]
     pub(crate) fn capacity(&self) -> usize {
         self.places.capacity()

@@ -22,7 +22,7 @@ pub struct BirthTable {
     buckets: Buckets,
 }
 
-// Births rise, so neighbours are told apart before they are entered.
+// Births that follow one another would fill neighbouring buckets.
 fn mix(birth: u64) -> u64
     ensures { result ≡ mixed birth }
 {
@@ -55,7 +55,7 @@ impl<T, N: Copy> Key<T, N> for ByBirth {
 
 #[cfg(test)]
 impl BirthTable {
-    /// How many buckets fit with no memory asked for.
+    /// How many buckets there is room for.
     pub(crate) fn capacity(&self) -> usize {
         self.buckets.capacity()
     }

@@ -7,7 +7,7 @@ use crate::entry::Entry;
 use slab::Slab;
 use std::alloc::{AllocError, Global};
 
-/// Finds the places of births. It is told each one when it is entered.
+/// Finds the places of births, each of which is entered with its place.
 pub trait Births: Sized {
     // Whether it finds each of these births, by their places.
     ghost IsFor: { Self → (ℕ → Option ℕ) → Type 0 };
@@ -40,7 +40,7 @@ pub trait Births: Sized {
             → new place ≡ Some birth → ((p : ℕ) → p ≢ place → new p ≡ old p)
             → IsFor self.new new };
 
-    /// Built anew for so many births, those of these entries among them.
+    /// Built anew from these entries, with room for this many births.
     fn rebuild<T, N: Copy>(
         &mut self,
         alloc: Global,

@@ -6,10 +6,10 @@ ghost use Rattle.intern_index.specs.Probing.{home, bucket, is_empty, full_count}
 
 use std::alloc::{AllocError, Global};
 
-/// How many places a bucket can tell apart. No memory holds so many entries.
+/// How many places a bucket can tell apart: more than any memory holds entries.
 pub(crate) const PLACES: usize = 1 << 48;
 
-// How many buckets have room behind the homes, before more is asked for.
+// How many buckets there is room for behind the homes at first.
 const SPARE: usize = 64;
 
 /// Where an entry may lie: 16 bits of its hash, its tag, above 48 bits of its place, counted from
@@ -71,7 +71,7 @@ impl Buckets {
         }
     }
 
-    /// An empty table with homes for so many places.
+    /// An empty table for this many places, with eight homes for each seven.
     pub(crate) fn with_room(alloc: Global, places: usize) -> Result<Buckets, AllocError>
         ensures empty { IfOk result (λ t. full_count t.buckets.items ≡ 0) }
         ensures room { IfOk result (λ t. places ≤ t.homes) }
@@ -127,7 +127,7 @@ impl Buckets {
         self.buckets.push_reserved(bucket);
     }
 
-    /// How many buckets fit with no memory asked for.
+    /// How many buckets there is room for.
     #[cfg(test)]
     pub(crate) fn capacity(&self) -> usize {
         self.buckets.capacity()

@@ -24,8 +24,8 @@ use slab::Slab;
 use std::alloc::Global;
 use std::marker::Model;
 
-/// Entries in a slab, with a table of their places by hashes that the caller gives, and what finds
-/// their places by births.
+/// Entries in a slab, a hash table of their places, and what finds their places by births. The
+/// caller gives the hashes.
 ///
 /// Only an insertion takes memory.
 #[derive(Drop)]
@@ -119,7 +119,7 @@ impl<T, N: Copy, B: Births> Index<T, N, B> {
         Some((&entry.value, entry.payload))
     }
 
-    /// Changes the payload of an entry, and gives the one that it had.
+    /// Changes the payload of an entry, and answers the one before.
     pub fn change<C: Change<N>>(&mut self, spot: Spot, change: &C) -> Option<N>
         ensures payload { result ≡ option_map (λ e. e.payload) (map.get self.old spot.birth) }
         ensures state { let entry = map.get self.old spot.birth in
@@ -132,7 +132,7 @@ impl<T, N: Copy, B: Births> Index<T, N, B> {
         Some(payload)
     }
 
-    /// Takes an entry out, and gives its value. A `BirthOrder` goes over all its places for it.
+    /// Removes an entry, and answers its value. With a `BirthOrder` this goes over all places.
     pub fn remove(&mut self, spot: Spot) -> Option<T>
         ensures value { result ≡ option_map (λ e. e.value) (map.get self.old spot.birth) }
         ensures removed { self.new ≡ map.remove self.old spot.birth }
@@ -222,7 +222,7 @@ impl<T, N: Copy, B: Births> Index<T, N, B> {
 }
 
 impl<T, N: Copy> Index<T, N, BirthOrder> {
-    /// The entry of this number in the order of births.
+    /// The entry of this rank in the order of births.
     pub fn spot(&self, at: usize) -> Option<Spot>
         ensures birth { option_map (λ s. s.birth) result
             ≡ option_map (λ e. e.0) (slice_get (map.entries self.now) at) }
@@ -240,7 +240,7 @@ impl<T, N: Copy> Index<T, N, BirthOrder> {
 
 #[cfg(test)]
 impl<T, N: Copy, B: Births> Index<T, N, B> {
-    /// How many slots and how many buckets by hashes fit with no memory asked for.
+    /// How many slots, and how many buckets of the hash table, there is room for.
     pub(crate) fn capacity(&self) -> (usize, usize) {
         (self.slots.capacity(), self.tables.by_hash.capacity())
     }

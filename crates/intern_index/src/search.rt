@@ -41,7 +41,7 @@ fn place_of<T, N: Copy, Q: Test<T, N>>(
     }
 }
 
-/// The place of an entry that passes a test, of those that the probe sequence of a hash leads to.
+/// The place of an entry that passes a test, among those that a hash's probe sequence leads to.
 pub(crate) fn search<T, N: Copy, Q: Test<T, N>>(
     slots: &Slab<Entry<T, N>>,
     table: &Buckets,

@@ -21,7 +21,7 @@ pub(crate) trait Key<T, N: Copy> {
         ensures { result ≡ key self.now entry.now };
 }
 
-/// A table of the places of all entries, each once, with homes for so many.
+/// A hash table of the places of all entries, each entered once, with homes for this many.
 pub(crate) fn table_of<T, N: Copy, K: Key<T, N>>(
     alloc: Global,
     slots: &Slab<Entry<T, N>>,

@@ -13,7 +13,7 @@ use crate::table_of::{Key, table_of};
 use slab::Slab;
 use std::alloc::{AllocError, Global};
 
-// How many entries have room at least.
+// The fewest entries that tables are built for.
 const LEAST: usize = 64;
 
 // Entries are entered under their hashes.

@@ -48,7 +48,7 @@ struct Numbers<B: Births> {
     ghost below: { (b : ℕ) → IsSome (map.get index b) → b < next },
 }
 
-// Hashes from a first one on, so far apart.
+// Hashes from a first one on, this far apart.
 #[derive(Clone, Copy)]
 struct Hashes {
     first: u64,
@@ -88,7 +88,7 @@ impl<B: Births> Numbers<B> {
         Spot { birth, place }
     }
 
-    // Takes a number out.
+    // Removes a number.
     fn take(&mut self, rt: &impl Abort, spot: Spot) {
         assert_eq!(rt; self.index.remove(spot), Some(spot.birth));
     }
@@ -222,6 +222,24 @@ fn shares_a_hash(rt: &impl Abort, alloc: Global, hash: u64) {
 fn an_index_of_one_hash_stays_small(rt: HostRuntime) {
     shares_a_hash(&rt, rt.alloc(), 0);
     shares_a_hash(&rt, rt.alloc(), u64::MAX);
+}
+
+// Building the tables goes over all slots, vacant ones too. As many insertions as there are slots
+// come before the next time, or a storage that was large once would be slow ever after.
+#[test]
+fn tables_have_room_for_as_many_entries_as_there_are_slots(rt: HostRuntime) {
+    let alloc = rt.alloc();
+    let mut numbers = Numbers::<BirthTable>::new(alloc, SPREAD);
+    for spot in &added(&rt, alloc, &mut numbers, 1_000) {
+        numbers.take(&rt, *spot);
+    }
+    for _ in 0..2_000 {
+        let spot = numbers.add(&rt);
+        numbers.take(&rt, spot);
+    }
+    let (slots, buckets) = numbers.index.capacity();
+    assert!(rt; slots >= 1_000, "{slots} slots");
+    assert!(rt; buckets >= slots, "{buckets} buckets for {slots} slots");
 }
 
 // Checks that these are the entries from a number on, in the order of births.

@@ -80,7 +80,7 @@ fn stands_at(text: &str, index: u16) -> bool
     text_at(table_texts(), index) == Some(text)
 }
 
-/// The number below 256 whose digits the text is.
+/// The number below 256 whose decimal digits the text consists of.
 fn small_number(text: &str) -> Option<u8>
     ensures { (n : ℕ) → (result ≡ Some n) ↔ ((n < 256) × (text.now ≡ decimal n)) }
 {

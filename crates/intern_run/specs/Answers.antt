@@ -64,7 +64,7 @@ handle_at slots n = option_and_then (λ slot. slot) (slice_get slots n)
 abbrev pub handle_in : DeskState → ℕ → Option Name
 handle_in d n = handle_at d.slots n
 
--- the reply of a command on the number of a slot with a handle
+-- the reply of a command on a slot with a handle
 abbrev pub at_handle : DeskState → Option Name → (Name → Reply) → Reply
 at_handle d None reply = no_slot d
 at_handle d (Some h) reply = reply h
@@ -125,7 +125,7 @@ release_reply d n h = unless_due d (due d.texts h zero_count) (
 abbrev pub len_reply : DeskState → Reply
 len_reply d = (d, codes "len " ++ decimal (map.len d.texts.map))
 
--- `sym TEXT`: the symbol is let fall, and keeps its count
+-- `sym TEXT`: the symbol is dropped, and keeps its count
 abbrev pub symbol_text : Option ℕ → ℕ → List ℕ
 symbol_text None len = codes "preset len " ++ decimal len
 symbol_text (Some count) len = codes "count " ++ decimal count ++ codes " len " ++ decimal len
@@ -134,7 +134,7 @@ abbrev pub symbol_reply : DeskState → List ℕ → Reply
 symbol_reply d text = let i = symbol_in d.symbols text in
     unless_due d (due_symbol d.symbols text) (record d { symbols = i.1 }, symbol_text (count_of i.1 i.0) (map.len i.1.map))
 
--- the reply to `same` with these numbers
+-- the reply to `same` with these slots
 abbrev pub same_at : DeskState → Option ℕ → Option ℕ → Reply
 same_at d None m = bad_command d
 same_at d (Some n) None = bad_command d

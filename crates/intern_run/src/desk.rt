@@ -19,7 +19,7 @@ const SYMBOLS: u64 = 2;
 
 /// One storage of texts, one table of symbols, and the handles that were given out, each in a slot.
 ///
-/// An error of its calls is want of memory.
+/// Its calls fail only for want of memory.
 #[derive(Drop)]
 pub struct Desk {
     alloc: Global,
@@ -85,7 +85,7 @@ impl Desk {
         self.refuse(out)
     }
 
-    // A command that there isn't.
+    // Any other line.
     fn refuse(&self, out: &mut String) -> Result<(), AllocError>
         ensures { OnOk result (Replies self.now (string_bytes out.old) (string_bytes out.new) (bad_command self.now)) }
     {
@@ -205,7 +205,7 @@ impl Desk {
         }
     }
 
-    // `sym TEXT`. The symbol is let fall, and keeps its count.
+    // `sym TEXT`. The symbol is dropped, and keeps its count.
     fn symbol(&mut self, text: &str, out: &mut String) -> Result<(), AllocError>
         ensures { OnOk result (Replies self.new (string_bytes out.old) (string_bytes out.new) (symbol_reply self.old text.now)) }
     {
@@ -324,7 +324,7 @@ fn tell(why: Refusal, out: &mut String) -> Result<(), AllocError>
     }
 }
 
-/// The parts of the text round its first such character.
+/// The parts of the text before and after the first such character.
 pub fn split_at(text: &str, at: char) -> Option<(&str, &str)>
     requires { at < 128 }
     ensures { SplitsAtFirst at text.now result }

@@ -47,7 +47,7 @@ impl<D> Watched<D> {
 impl<D: Read> Watched<D> {
     ghost use Rattle.intern_run.specs.Watching.{device_of, has_failed};
 
-    /// One read of the reader, with its answer. An error counts as failed, an interruption too.
+    /// Reads once, and answers what the reader does. Any error is a failure, also an interruption.
     pub fn read(&mut self, buf: &mut [u8]) -> io::Result<usize>
         ensures bound { ReadsAtMost result buf.new }
         ensures bytes { ReadConsumes (D.remaining (device_of self.old)) (D.remaining (device_of self.new)) result buf.new }
@@ -62,7 +62,7 @@ impl<D: Read> Watched<D> {
 impl<D: Write> Watched<D> {
     ghost use Rattle.intern_run.specs.Watching.{device_of, has_failed};
 
-    /// One write of the writer, with its answer. An error counts as failed, and so does a write
+    /// Writes once, and answers what the writer does. Any error is a failure, and so is a write
     /// that was offered a byte and took none.
     pub fn write(&mut self, buf: &[u8]) -> io::Result<usize>
         ensures bound { WritesAtMost result buf.now }

@@ -10,7 +10,7 @@ use Rattle.intern_store.specs.declared.names.Name.{Name}
 use Rattle.intern_store.specs.declared.names.Refusal.{Refusal}
 use Rattle.intern_store.specs.declared.names.Refusal.TheVariants.{Foreign, Gone, CountZero, CountFull, NumbersUsedUp, OutOfMemory}
 
--- a number, the next birth, the limits, and the entries
+-- the storage's number, the next birth, the limits of counts and of births, and the entries
 pub record State (V : Type 0) : Type 0 where
   pub number : ℕ
   pub next : ℕ
@@ -193,7 +193,7 @@ module _ {V : Type 0} where
   abbrev pub given_back : {O : Type 0} → (V → V → Bool) → State V → V → O → Option O
   given_back eq s v offer = option_map (λ b. offer) (birth_of eq s v)
 
--- the place of a refusal in their order
+-- the rank of a refusal in their order
 abbrev pub refusal_number : Refusal → ℕ
 refusal_number Foreign = 1
 refusal_number Gone = 2

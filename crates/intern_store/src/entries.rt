@@ -1,15 +1,13 @@
 //! What a store asks of the table that keeps its entries.
-ghost use Rattle.std.specs.Prelude.{◌≡◌, ℕ, ◌<◌, ◌-◌, Bool, nat_eq, IsSome, is_some, Some, None, OnOk, OnErr, IfOk, IfErr, true, false};
+ghost use Rattle.std.specs.Prelude.{◌≡◌, ℕ, ◌<◌, ◌-◌, Bool, IsSome, is_some, Some, None, OnOk, OnErr, IfOk, IfErr, true, false};
 ghost use Rattle.std.specs.Option.{option_map};
 ghost use Rattle.std.specs.FinMap as map;
 ghost use Rattle.std.specs.Ordering.{nat_cmp};
-ghost use Rattle.std.specs.HashSet.{contains};
 ghost use Rattle.intern_store.specs.Kept.{Kept, is_at, raised, recounted};
 
 use crate::names::Spot;
 use std::alloc::Global;
 use std::cmp::Eq;
-use std::collections::HashSet;
 
 /// Values with counts, each under a birth. Only an insertion takes memory.
 pub trait Entries: Sized {
@@ -43,7 +41,7 @@ pub trait Entries: Sized {
         ensures state { entries self.new ≡ recounted (raised top)
             (entries self.old) spot.birth (map.get (entries self.old) spot.birth) };
 
-    /// Counts an entry once less, where it is counted. It gives the count before.
+    /// Lowers the count of an entry, unless it is zero, and answers the count before.
     fn count_down(&mut self, spot: Spot) -> Option<u64>
         ensures count { result
             ≡ option_map (λ k. k.count) (map.get (entries self.old) spot.birth) }
@@ -51,9 +49,9 @@ pub trait Entries: Sized {
             (entries self.old) spot.birth (map.get (entries self.old) spot.birth) };
 }
 
-/// A table that gives its entries out one by one.
+/// A table from which single entries can be removed.
 pub trait Removes: Entries {
-    /// Takes an entry out, and gives its value.
+    /// Removes an entry, and answers its value.
     fn remove(&mut self, spot: Spot) -> Option<Self::Value>
         ensures value { result
             ≡ option_map (λ k. k.value) (map.get (Self.entries self.old) spot.birth) }
@@ -99,15 +97,6 @@ pub trait Marks {
     /// Whether the entry of a birth is kept.
     fn is_marked(&self, birth: u64) -> bool
         ensures { result ≡ marked self.now birth };
-}
-
-// A set of births keeps those that it has.
-impl Marks for HashSet<u64> {
-    ghost marked = { λ s. contains nat_eq s };
-
-    fn is_marked(&self, birth: u64) -> bool {
-        self.contains(&birth)
-    }
 }
 
 /// A table that can be cut to the entries that are marked.

@@ -1,4 +1,4 @@
-//! What every storage of interned values is: a table with a number, limits, counts and births.
+//! What all storages share: names, refusals, and a table with the storage's number and limits.
 #![tactic(auto)]
 
 mod entries;

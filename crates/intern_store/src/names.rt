@@ -91,7 +91,7 @@ pub enum Refusal {
     #[error("the entry's count is at its limit")]
     CountFull,
     /// The value isn't stored, and the storage has given all its births.
-    #[error("the storage has given all its numbers")]
+    #[error("the storage has given all its births")]
     NumbersUsedUp,
     /// A growth that the call needs was refused.
     #[error("out of memory")]
@@ -108,7 +108,7 @@ pub struct Refused<H> {
 }
 
 impl Refusal {
-    /// The refusal's number, from 1 in the order of the reasons.
+    /// The rank of the reason in their order, from 1.
     pub fn number(self) -> u8
         ensures { result ≡ refusal_number self }
     {

@@ -1,4 +1,4 @@
-//! A table with a number, limits, counts and births: what every storage is.
+//! What all storages share: a table with the storage's number, its limits and the next birth.
 ghost use Rattle.std.specs.Prelude.{◌≡◌, ◌<◌, ◌≤◌, ◌==◌, true, Some, None, IsSome, IfSome, IfNone, ◌≢◌, IfOk, IfErr};
 ghost use Rattle.std.specs.Result.{result_ok};
 ghost use Rattle.std.specs.FinMap as map;
@@ -95,7 +95,7 @@ impl<E: Entries> Store<E> {
         self.len() == 0
     }
 
-    // Where the entry of a key is looked for: nowhere for a key of another storage.
+    // Where the entry of a key is looked for. A key of another storage is refused.
     fn spot(&self, key: EntryKey) -> Result<Spot, Refusal>
         ensures own { IfOk result (λ s.
             (key.name.storage ≡ self.now.number) × (s.birth ≡ key.name.birth)) }
@@ -188,7 +188,7 @@ impl<E: Entries> Store<E> {
         Some(self.key(self.search(query).ok()?))
     }
 
-    // Adds an entry under its hash, with a count of its own.
+    // Adds an entry under its hash, with its first count.
     fn add<O>(&mut self, hash: u64, offer: O, count: u64) -> Result<EntryKey, Refused<O>>
     where
         E: Takes<O>,
@@ -231,7 +231,7 @@ impl<E: Entries> Store<E> {
         }
     }
 
-    // Lowers the count of an entry, and gives the count before.
+    // Lowers the count of an entry, and answers the count before.
     fn lower(&mut self, spot: Spot) -> Result<u64, Refusal>
         ensures ok { IfOk result (λ n. (0 < n) × (count_at self.old spot.birth ≡ Some n)) }
         ensures refused { Owes result (due_at (entry_at self.old spot.birth) zero_count) }
@@ -246,7 +246,7 @@ impl<E: Entries> Store<E> {
         }
     }
 
-    /// Stores what is offered with no count, or hands it back where an equal value is stored.
+    /// Stores what is offered, with count zero, or hands it back where an equal value is stored.
     pub fn intern<O>(&mut self, offer: O) -> Result<(EntryKey, Option<O>), Refused<O>>
     where
         E: Takes<O>,
@@ -266,8 +266,8 @@ impl<E: Entries> Store<E> {
         }
     }
 
-    /// Stores what is offered, or hands it back where an equal value is stored. It is counted once
-    /// more.
+    /// Stores what is offered, or hands it back where an equal value is stored. The entry is counted
+    /// once more.
     pub fn intern_counted<O>(&mut self, offer: O) -> Result<(EntryKey, Option<O>), Refused<O>>
     where
         E: Takes<O>,
@@ -313,7 +313,7 @@ impl<E: Entries> Store<E> {
 }
 
 impl<E: Removes> Store<E> {
-    // Takes an entry out.
+    // Removes an entry, and answers its value.
     fn take(&mut self, spot: Spot) -> Option<E::Value>
         ensures value { result ≡ option_map (λ k. k.value) (entry_at self.old spot.birth) }
         ensures state { self.new ≡ taken self.old spot.birth }
@@ -321,7 +321,8 @@ impl<E: Removes> Store<E> {
         self.table.remove(spot)
     }
 
-    /// Gives a count up. The last one takes the entry out and frees its value, unless entries stay.
+    /// Counts an entry once less. With the last count the entry is removed and its value comes
+    /// back, unless entries stay.
     pub fn release(&mut self, key: EntryKey, stays: bool) -> Result<Option<E::Value>, Refusal>
         ensures value { IfOk result (λ v. v ≡ freed stays self.old key.name.birth) }
         ensures refused { Owes result (due self.old key.name zero_count) }
@@ -338,7 +339,7 @@ impl<E: Removes> Store<E> {
 }
 
 impl<E: Entries> Store<E> {
-    /// Drops every entry that isn't marked. It takes no memory, and the births stay given.
+    /// Drops every entry that isn't marked. It takes no memory. Their births are not given again.
     pub fn keep<M: Marks>(&mut self, marks: &M)
     where
         E: Sweeps<M>,

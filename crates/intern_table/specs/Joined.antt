@@ -13,12 +13,12 @@ module _ {H : Type 0} where
   abbrev pub end_of : IndexEntry H SlicePayload → ℕ
   end_of r = r.payload.start + r.payload.length
 
-  -- the lists lie among so many items, in the order of their births
+  -- the lists lie among this many items, in the order of their births
   pub record IsLaid (m : FinMap nat_cmp (IndexEntry H SlicePayload)) (n : ℕ) : Type 0 where
     pub within : (b : ℕ) (r : IndexEntry H SlicePayload) → get m b ≡ Some r → end_of r ≤ n
     pub apart : (b c : ℕ) (r s : IndexEntry H SlicePayload) → b < c → get m b ≡ Some r → get m c ≡ Some s → end_of r ≤ s.payload.start
 
-  -- an entry's list has the item of this number
+  -- an entry's list has the item at this index
   pub record IsCovered (m : FinMap nat_cmp (IndexEntry H SlicePayload)) (i : ℕ) : Type 0 where
     pub birth : ℕ
     pub row : IndexEntry H SlicePayload

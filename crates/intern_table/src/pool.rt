@@ -14,7 +14,7 @@ pub(crate) struct SlicePayload {
     pub(crate) count: u64,
 }
 
-/// So many items from a start on, as far as there are any.
+/// The items from a start on, at most this many.
 pub(crate) fn part<S>(items: &[S], start: usize, count: usize) -> &[S]
     ensures { result.now ≡ take count (drop start items.now) }
 {
@@ -39,8 +39,8 @@ impl Change<SlicePayload> for MoveTo {
     }
 }
 
-/// Moves the slices of all entries down to the first items, in the order of births, and cuts the
-/// rest. It takes no memory.
+/// Moves the items of all entries down, in the order of births, and cuts off what is behind the
+/// last. It takes no memory.
 pub(crate) fn compact<H, S: Copy>(
     index: &mut Index<H, SlicePayload, BirthOrder>,
     items: &mut Vec<S>,

@@ -22,8 +22,8 @@ use std::marker::Model;
 /// The table of slices: an index of the headers, and one vector with the items of every slice, in
 /// the order of births.
 ///
-/// Interning takes expected constant time, but for the insertions that build the index anew, and
-/// compares only slices of one hash. What goes by a handle touches its entry and its items. Only an
+/// Interning takes expected constant time, unless the hash table is built anew, and compares only
+/// slices of one hash. A call on a handle touches its entry, and a read its items too. Only an
 /// insertion takes memory.
 #[derive(Drop)]
 pub struct SliceTable<H: Hash + Eq, S: Hash + Eq + Copy> {

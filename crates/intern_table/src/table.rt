@@ -16,9 +16,8 @@ use std::marker::Model;
 
 /// The table of values: an index whose payloads are the counts.
 ///
-/// Interning takes expected constant time, but for the insertions that build the index anew, and
-/// compares only values of one hash. What goes by a handle touches its entry alone. Only an
-/// insertion takes memory.
+/// Interning takes expected constant time, unless the hash tables are built anew, and compares only
+/// values of one hash. A call on a handle touches its entry alone. Only an insertion takes memory.
 #[derive(Drop)]
 pub struct Table<T: Hash + Eq> {
     index: Index<T, u64, BirthTable>,

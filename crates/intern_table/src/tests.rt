@@ -1,8 +1,9 @@
 //! Sweeps, also after churn; items that take no room; values that share a hash; and refused memory.
-ghost use Rattle.std.specs.Prelude.{[], refl};
+ghost use Rattle.std.specs.Prelude.{[], nat_eq, refl};
+ghost use Rattle.std.specs.HashSet.{contains};
 
 use crate::{SliceTable, Table};
-use intern_store::{Refusal, Store};
+use intern_store::{Marks, Refusal, Store};
 use std::alloc::Global;
 use std::cmp::Eq;
 use std::collections::HashSet;
@@ -35,24 +36,36 @@ fn reads<S: Hash + Eq + Copy>(store: &Store<SliceTable<u64, S>>, birth: u64, ite
     }
 }
 
+// Keeps the births that the set has.
+#[derive(Drop)]
+struct Marked(HashSet<u64>);
+
+impl Marks for Marked {
+    ghost marked = { λ m. contains nat_eq m.0 };
+
+    fn is_marked(&self, birth: u64) -> bool {
+        self.0.contains(&birth)
+    }
+}
+
 // Marks that keep these births.
-fn marks_of(rt: &impl Abort, alloc: Global, births: &[u64]) -> HashSet<u64> {
+fn marks_of(rt: &impl Abort, alloc: Global, births: &[u64]) -> Marked {
     let mut marks = HashSet::new(alloc);
     for birth in births {
         marks.insert(*birth).expect(rt, "memory");
     }
-    marks
+    Marked(marks)
 }
 
 // Marks that keep the births below this one that a step divides.
-fn marks_by(rt: &impl Abort, alloc: Global, births: u64, step: u64) -> HashSet<u64> {
+fn marks_by(rt: &impl Abort, alloc: Global, births: u64, step: u64) -> Marked {
     let mut marks = HashSet::new(alloc);
     for birth in 0..births {
         if birth.checked_rem(step) == Some(0) {
             marks.insert(birth).expect(rt, "memory");
         }
     }
-    marks
+    Marked(marks)
 }
 
 #[test]

@@ -4,7 +4,7 @@
 //! [`Interned`] of a value frees it. In collected mode entries stay until a collection, and one
 //! works with [`InternedRef`]s, which count nothing.
 //!
-//! A handle that is let fall keeps its count: give it back by `release`.
+//! A handle that is dropped without `release` keeps its count.
 ghost use Rattle.std.specs.Prelude.{◌≡◌, ◌<◌, ◌==◌, true, false, Bool, Some, IsPermutation, IfOk, option_copied};
 ghost use Rattle.std.specs.FinMap as map;
 ghost use Rattle.std.specs.Option.{option_map};
@@ -187,8 +187,9 @@ impl<T: Internable> Interned<T> {
         Ok((InternedRef { key }, back))
     }
 
-    /// An owned handle of the entry of a birth, which takes over one count that a handle left
-    /// behind. No count changes. Refused: `Gone`; `CountZero` where there is no count to take over.
+    /// An owned handle of the entry of a birth. It takes over the count of a handle that was
+    /// dropped without `release`, so no count changes. Refused: `Gone`; `CountZero` where there is
+    /// no count to take over.
     pub fn from_raw(storage: &InternStorage<T>, birth: u64) -> Result<Interned<T>, Refusal>
         ensures ok { IfOk result (λ h. name_of h ≡ name_in storage.now birth) }
         ensures refused { Owes result (due_at (entry_at storage.now birth) zero_count) }
@@ -273,8 +274,8 @@ impl<T: Internable> InternedRef<T> {
         Ok(Interned { key: self.key })
     }
 
-    /// Takes one count back that a handle left behind. The entry stays, also at zero and in counted
-    /// mode. Refused: `Foreign`, `Gone`, `CountZero`.
+    /// Takes back the count of a handle that was dropped without `release`. The entry stays, also
+    /// at zero and in counted mode. Refused: `Foreign`, `Gone`, `CountZero`.
     pub fn decrement_refcount(self, storage: &mut InternStorage<T>) -> Result<(), Refusal>
         ensures refused { Owes result (due storage.old (ref_name self) zero_count) }
         ensures state { Becomes result storage.old storage.new

@@ -3,7 +3,7 @@
 //! A storage keeps one copy of each equal pair of a header and a list of items, in collected mode:
 //! entries stay until a collection. The items of all entries lie in one vector.
 //!
-//! A handle that is let fall keeps its count: give it back by `release`.
+//! A handle that is dropped without `release` keeps its count.
 ghost use Rattle.std.specs.Prelude.{◌≡◌, ◌<◌, ◌==◌, true, Bool, IsPermutation, IfOk};
 ghost use Rattle.std.specs.FinMap as map;
 ghost use Rattle.std.specs.Option.{option_map};
@@ -23,7 +23,7 @@ use std::alloc::Global;
 use std::hash::Hash;
 use std::marker::Model;
 
-/// A kind of headers with items that a storage keeps.
+/// What kind of headers and items a storage keeps.
 pub trait SliceInternable {
     /// What stands before the items.
     type Header: Eq + Hash;
@@ -254,7 +254,7 @@ impl<T: SliceInternable> InternedSliceRef<T> {
         Ok(InternedSlice { key: self.key })
     }
 
-    /// Takes one count back that a handle left behind. The entry stays.
+    /// Takes back the count of a handle that was dropped without `release`. The entry stays.
     /// Refused: `Foreign`, `Gone`, `CountZero`.
     pub fn decrement_refcount(self, storage: &mut InternSliceStorage<T>) -> Result<(), Refusal>
         ensures refused { Owes result (due storage.old (slice_ref_name self) zero_count) }

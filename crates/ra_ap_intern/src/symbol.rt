@@ -1,9 +1,9 @@
 //! Interning of texts.
 //!
-//! A [`Symbol`] stands for a text. Those of the presets, as `sym::Clone`, are constants and take
-//! nothing of any table; every other text is stored in a [`SymbolTable`] while it is counted.
+//! A [`Symbol`] stands for a text. The presets are in no table, and many of them are constants,
+//! such as `sym::Clone`; every other text is stored in a [`SymbolTable`] while it is counted.
 //!
-//! A symbol that is let fall keeps its count: give it back by `release`.
+//! A symbol that is dropped without `release` keeps its count.
 ghost use Rattle.std.specs.Prelude.{◌≡◌, ◌<◌, ◌==◌, false, Some, IsPermutation, IfOk};
 ghost use Rattle.std.specs.FinMap as map;
 ghost use Rattle.std.specs.Option.{option_map};
@@ -212,8 +212,8 @@ impl Symbol {
             .map_err(|why| Refused { why, back: self })
     }
 
-    /// Takes one count back that a symbol left behind. With the last one the text goes. The symbol
-    /// itself stays as it is, and so does a preset.
+    /// Takes back the count of a symbol that was dropped without `release`. With the last count the
+    /// text goes. This symbol stays as it is, and so does a preset.
     /// Refused, never for a preset: `Foreign`, `Gone`.
     pub fn decrease_refcount(&mut self, table: &mut SymbolTable) -> Result<(), Refusal>
         ensures refused { Owes result (due_of table.old (symbol_name self.old) any_count) }

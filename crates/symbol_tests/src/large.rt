@@ -24,7 +24,7 @@ fn ten_thousand_texts_are_kept_apart(rt: HostRuntime) {
     keeps(&rt, &table, 0);
 }
 
-/// Interns the text of this number, after which the table keeps so many texts.
+/// Interns the text of this number, after which the table keeps this many texts.
 fn intern_numbered(
     rt: &impl Abort,
     alloc: Global,

@@ -94,7 +94,7 @@ fn the_largest_number_has_a_text(rt: HostRuntime) {
     has_length(&rt, &table, &name, 31);
 }
 
-/// The symbol's text has so many bytes.
+/// The symbol's text has this many bytes.
 fn has_length(rt: &impl Abort, table: &SymbolTable, symbol: &Symbol, len: usize) {
     assert_eq!(rt; symbol.as_str(table).map(|text| text.len()), Some(len));
 }

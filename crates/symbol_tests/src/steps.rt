@@ -1,12 +1,12 @@
 //! Steps of many tests over a table of symbols, each with the answer that it must get.
 //!
-//! A step that doesn't get it ends the test.
+//! A step that gets another answer ends the test.
 use intern_fixtures::{allowed, refusal};
 use ra_ap_intern::sym::{Integer, RaGeneratedName};
 use ra_ap_intern::{Refusal, Refused, Symbol, SymbolTable};
 use std::process::Abort;
 
-/// The table keeps so many texts.
+/// The table keeps this many texts.
 pub fn keeps(rt: &impl Abort, table: &SymbolTable, len: usize) {
     assert_eq!(rt; table.len(), len);
 }
@@ -48,7 +48,7 @@ pub fn intern(rt: &impl Abort, table: &mut SymbolTable, text: &str) -> Symbol {
     Symbol::intern(table, text).expect(rt, "the text is interned")
 }
 
-/// Interns a text that isn't stored, after which the table keeps so many texts.
+/// Interns a text that isn't stored, after which the table keeps this many texts.
 pub fn intern_new(rt: &impl Abort, table: &mut SymbolTable, text: &str, len: usize) -> Symbol {
     let symbol = intern(rt, table, text);
     is_stored(rt, table, &symbol, text, 1);
@@ -65,7 +65,7 @@ pub fn intern_again(rt: &impl Abort, table: &mut SymbolTable, text: &str, count:
     symbol
 }
 
-/// Interns a preset's text, which leaves the table with so many texts.
+/// Interns a preset's text, which leaves the table with this many texts.
 pub fn intern_preset(rt: &impl Abort, table: &mut SymbolTable, text: &str, len: usize) -> Symbol {
     let symbol = intern(rt, table, text);
     is_preset(rt, table, &symbol, text);
@@ -127,7 +127,7 @@ pub fn not_cloned(rt: &impl Abort, table: &mut SymbolTable, symbol: &Symbol, rea
     assert_eq!(rt; refusal(symbol.clone(table)), Some(reason));
 }
 
-/// Releases a symbol, after which the table keeps so many texts.
+/// Releases a symbol, after which the table keeps this many texts.
 pub fn release(rt: &impl Abort, table: &mut SymbolTable, symbol: Symbol, len: usize) {
     assert_eq!(rt; allowed(symbol.release(table)), Ok(()));
     keeps(rt, table, len);
@@ -153,7 +153,7 @@ pub fn decrease(rt: &impl Abort, table: &mut SymbolTable, symbol: &mut Symbol, c
     assert_eq!(rt; table.count(symbol), count);
 }
 
-/// Takes the last count back, after which the text is gone and the table keeps so many.
+/// Takes the last count back, after which the text is gone and the table keeps this many.
 pub fn free(rt: &impl Abort, table: &mut SymbolTable, symbol: &mut Symbol, len: usize) {
     decrease(rt, table, symbol, None);
     reads_nothing(rt, table, symbol);
