@@ -1,5 +1,5 @@
 mod Lines
+mod Names
 mod Reply
 mod Sent
-mod Slots
 mod Written

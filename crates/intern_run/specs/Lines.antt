@@ -1,7 +1,6 @@
 -- The lines and the words of a text.
-use Rattle.std.specs.Prelude.{◌≡◌, ℕ, ◌<◌, List, [], ◌∷◌, length, Bool, ◌==◌, if◌then◌else◌, nat_lt, Option, MatchOption}
-use Rattle.std.specs.Borrow.{Bor}
-use Rattle.std.specs.List.{slice_split, before_first, after_first, position_or_len}
+use Rattle.std.specs.Prelude.{ℕ, List, [], ◌∷◌, length, Bool, ◌==◌, if◌then◌else◌, nat_lt}
+use Rattle.std.specs.List.{slice_split, position_or_len}
 
 -- the byte c
 abbrev pub is_byte : ℕ → ℕ → Bool
@@ -26,8 +25,3 @@ without_empty_last (x ∷ y ∷ more) = x ∷ without_empty_last (y ∷ more)
 -- the lines of a text: what stands between its line feeds
 unfoldable pub lines : List ℕ → List (List ℕ)
 lines t = without_empty_last (slice_split is_line_feed t)
-
--- r is the parts round the first byte c of t, or nothing where t has none
-abbrev pub SplitsAtFirst : ℕ → List ℕ → Option (Bor (List ℕ) × Bor (List ℕ)) → Type 0
-SplitsAtFirst c t r = MatchOption r (position_or_len (is_byte c) t ≡ length t)
-    (λ parts. (parts.0.now ≡ before_first (is_byte c) t) × (parts.1.now ≡ after_first (is_byte c) t) × (position_or_len (is_byte c) t < length t))

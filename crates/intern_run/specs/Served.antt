@@ -10,9 +10,11 @@ ReadsAll old new t = Consumes old new t × IsAtEnd new
 
 -- the writer took a beginning of bs
 abbrev pub AppendsBeginning : Option (List ℕ) → Option (List ℕ) → List ℕ → Type 0
-AppendsBeginning old new bs = (sent : List ℕ) × (rest : List ℕ) × (bs ≡ sent ++ rest) × Appends old new sent
+AppendsBeginning old new bs =
+    (sent : List ℕ) × (rest : List ℕ) × (bs ≡ sent ++ rest) × Appends old new sent
 
--- a fact for each outcome of a run that read all its input: it went well, the input is no text, the output failed
+-- a fact for each outcome of a run that read all its input: it went well, the input is no text,
+-- the output failed
 abbrev pub MatchServed : {X : Type 0} → Result X Fault → Type 0 → Type 0 → Type 0 → Type 0
 MatchServed (Ok _) well no_text cut_short = well
 MatchServed (Err Input) well no_text cut_short = Unit {0}

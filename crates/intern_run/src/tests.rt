@@ -1,4 +1,5 @@
-//! Readers and writers over memory that fail at a call of their own, and claim nothing of their bytes.
+//! Readers and writers over memory that fail at a call of their own, and claim nothing of their
+//! bytes.
 use crate::fault::{Fault, status};
 use crate::serve::serve;
 use crate::watched::Watched;

@@ -50,7 +50,8 @@ impl<D: Read> Watched<D> {
     /// Reads once, and answers what the reader does. Any error is a failure, also an interruption.
     pub fn read(&mut self, buf: &mut [u8]) -> io::Result<usize>
         ensures bound { ReadsAtMost result buf.new }
-        ensures bytes { ReadConsumes (D.remaining (device_of self.old)) (D.remaining (device_of self.new)) result buf.new }
+        ensures bytes { ReadConsumes (D.remaining (device_of self.old))
+            (D.remaining (device_of self.new)) result buf.new }
         ensures failed { has_failed self.new ≡ (has_failed self.old || is_err result) }
     {
         let answer = self.device.read(buf);
@@ -66,8 +67,10 @@ impl<D: Write> Watched<D> {
     /// that was offered a byte and took none.
     pub fn write(&mut self, buf: &[u8]) -> io::Result<usize>
         ensures bound { WritesAtMost result buf.now }
-        ensures bytes { WriteAppends (D.contents (device_of self.old)) (D.contents (device_of self.new)) result buf.now }
-        ensures failed { has_failed self.new ≡ (has_failed self.old || fails_writing result buf.now) }
+        ensures bytes { WriteAppends (D.contents (device_of self.old))
+            (D.contents (device_of self.new)) result buf.now }
+        ensures failed { has_failed self.new
+            ≡ (has_failed self.old || fails_writing result buf.now) }
     {
         let answer = self.device.write(buf);
         let failed = match &answer {
