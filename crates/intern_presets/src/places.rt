@@ -41,15 +41,11 @@ pub fn place(text: &str) -> Option<u16>
         return Some(n as u16);
     }
     if let Some(digits) = text.strip_prefix(PREFIX) {
-        return match small_number(digits) {
-            Some(n) => Some(n as u16 + FIRST_GENERATED),
-            None => None,
-        };
+        let n = small_number(digits)?;
+        return Some(n as u16 + FIRST_GENERATED);
     }
-    match index_of(text) {
-        Some(index) => Some(index + FIRST_CONSTANT),
-        None => None,
-    }
+    let index = index_of(text)?;
+    Some(index + FIRST_CONSTANT)
 }
 
 /// The text at an index, if there is one.

@@ -121,10 +121,8 @@ impl<E: Entries> Store<E> {
             (key.name.storage ≡ self.now.number) × (E.entries t.now ≡ self.now.map)) }
         ensures foreign { IfNone result (key.name.storage ≢ self.now.number) }
     {
-        match self.spot(key) {
-            Ok(_) => Some(&self.table),
-            Err(_) => None,
-        }
+        self.spot(key).ok()?;
+        Some(&self.table)
     }
 
     /// The count of the entry of a key.

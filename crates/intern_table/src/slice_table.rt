@@ -76,16 +76,14 @@ impl<H: Hash + Eq, S: Hash + Eq + Copy> SliceTable<H, S> {
     pub fn get(&self, spot: Spot) -> Option<HeaderSlice<'_, H, S>>
         ensures { option_map read result ≡ option_map shown (map.get self.now spot.birth) }
     {
-        match self.index.read(spot) {
-            Some((header, payload)) => Some(HeaderSlice {
-                header: HeaderWithLength {
-                    header,
-                    length: payload.length,
-                },
-                slice: part(self.items.as_slice(), payload.start, payload.length),
-            }),
-            None => None,
-        }
+        let (header, payload) = self.index.read(spot)?;
+        Some(HeaderSlice {
+            header: HeaderWithLength {
+                header,
+                length: payload.length,
+            },
+            slice: part(self.items.as_slice(), payload.start, payload.length),
+        })
     }
 
     /// The entries, in no promised order.

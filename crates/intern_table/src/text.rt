@@ -102,10 +102,7 @@ impl<'a> Offer<Text> for &'a str {
     ghost value = { λ s. s.now };
 
     fn into_value(self, alloc: Global) -> Result<Text, &'a str> {
-        match Text::new(alloc, self) {
-            Ok(text) => Ok(text),
-            Err(_) => Err(self),
-        }
+        Text::new(alloc, self).map_err(|_| self)
     }
 }
 

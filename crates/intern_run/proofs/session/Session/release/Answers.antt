@@ -15,6 +15,6 @@ returns-in-Err c =
     let n = c.in_ok-n.n in
     let h = c.in_ok-handle.handle in
     let slots : c.put_back.new.self ≡ c.self.inside.slots =
-    c.put_back.ensures ∙ ap (λ back. slice_set c.take.new.self n (Some (name_of back))) c.in-Err.ensures.back
+    c.put_back.ensures ∙ ap (λ back. slice_set c.take.new.self n (Some (name_of back))) c.in-Err.ensures.refused.1
     ∙ ap (λ left. slice_set left n (Some (name_of h))) c.take.ensures.slots ∙ put_again _ n _ c.in_ok-handle.ensures.handle in
     rw slots (search rules)
