@@ -74,7 +74,7 @@ impl Buckets {
     /// An empty table for this many places, with eight homes for each seven.
     pub(crate) fn with_room(alloc: Global, places: usize) -> Result<Buckets, AllocError>
         ensures empty { IfOk result (λ t. full_count t.buckets.items ≡ 0) }
-        ensures room { IfOk result (λ t. places ≤ t.homes) }
+        ensures homes { IfOk result (λ t. places ≤ t.homes) }
     {
         let homes = places.saturating_add(places / 7);
         let mut buckets = Vec::with_capacity(alloc, homes.saturating_add(SPARE))?;

@@ -33,7 +33,7 @@ pub(crate) fn table_of<T, N: Copy, K: Key<T, N>>(
         get slots.now p ≡ Some e → leads t (K.key by.now e) p ≡ true) }
     ensures once { IfOk result (λ t.
         full_count t.buckets.items ≡ slab_len slots.now) }
-    ensures room { IfOk result (λ t. room ≤ t.homes) }
+    ensures homes { IfOk result (λ t. room ≤ t.homes) }
 {
     let mut table = Buckets::with_room(alloc, room)?;
     for (place, entry) in slots.iter() {

@@ -1,5 +1,5 @@
 //! What finds the places of entries.
-ghost use Rattle.std.specs.Prelude.{◌≡◌, ◌≢◌, ℕ, ◌+◌, ◌<◌, ◌^◌, true, Option, Some, None, OnOk};
+ghost use Rattle.std.specs.Prelude.{◌≡◌, ◌≢◌, ℕ, ◌+◌, ◌<◌, ◌≤◌, ◌^◌, true, Option, Some, None, OnOk};
 ghost use Rattle.std.specs.Vec.{vec_len, vec_capacity};
 ghost use Rattle.intern_index.specs.Entries.{IsTied};
 ghost use Rattle.slab.specs.Slab.{slab_len};
@@ -35,6 +35,7 @@ pub(crate) struct Tables<B: Births> {
     pub(crate) births: B,
     // how many entries may be entered before the tables are built anew
     left: usize,
+    ghost homed: { full_count by_hash.buckets.items + left ≤ by_hash.homes },
 }
 
 impl<B: Births> Tables<B> {
@@ -61,6 +62,7 @@ impl<B: Births> Tables<B> {
         ensures tied { IsTied slots.now self.new.by_hash (B.IsFor self.new.births) }
         ensures once { OnOk result
             (full_count self.new.by_hash.buckets.items ≡ slab_len slots.now) }
+        ensures left { OnOk result (0 < self.new.left) }
     {
         let entries = slots.len();
         let room = entries.saturating_mul(2).max(slots.capacity()).max(LEAST);
@@ -82,6 +84,7 @@ impl<B: Births> Tables<B> {
         ensures bucket { OnOk result
             (vec_len self.new.by_hash.buckets < vec_capacity self.new.by_hash.buckets) }
         ensures birth { OnOk result (B.HasRoom self.new.births) }
+        ensures left { OnOk result (0 < self.new.left) }
     {
         if self.left == 0 {
             self.rebuild(alloc, slots)?;
@@ -95,6 +98,7 @@ impl<B: Births> Tables<B> {
         requires small { place + 1 < 2 ^ 48 }
         requires bucket { vec_len self.old.by_hash.buckets < vec_capacity self.old.by_hash.buckets }
         requires birth { B.HasRoom self.old.births }
+        requires left { 0 < self.old.left }
         ensures entered { leads self.new.by_hash hash place ≡ true }
         ensures still { (h p : ℕ) →
             leads self.old.by_hash h p ≡ true → leads self.new.by_hash h p ≡ true }
@@ -102,9 +106,10 @@ impl<B: Births> Tables<B> {
             → old place ≡ None → ((p b : ℕ) → old p ≡ Some b → b < birth)
             → new place ≡ Some birth → ((p : ℕ) → p ≢ place → new p ≡ old p)
             → B.IsFor self.new.births new }
+        ensures left { self.new.left + 1 ≡ self.old.left }
     {
         self.by_hash.enter(hash, place);
         self.births.enter(birth, place);
-        self.left = self.left.saturating_sub(1);
+        self.left -= 1;
     }
 }

@@ -12,7 +12,7 @@ loop-place-init g c =
       left = λ p e is. (Contains-entries c.args.slots.now p e).0 (rw all at is);
       led = λ p e there. inr (rw all ((Contains-entries c.args.slots.now p e).1 there));
       once = let count = ap length all in omega (arith, length-entries c.args.slots.now, c.in_ok-table.ensures.empty);
-      room = c.in_ok-table.ensures.room;
+      homes = c.in_ok-table.ensures.homes;
     }
 
 pub enter-requires-clause-small : goal.enter-requires-clause-small
@@ -40,11 +40,11 @@ loop-place-preserved g c =
                   | inr rest ↦ inr rest
                 ]
           ];
-      room = omega (arith, before.room, room.homes, entered.homes);
       once =
           let one = ap length next in
           let kept = ap full_count room.buckets in
           omega (arith, entered.full, before.once);
+      homes = omega (arith, before.homes, room.homes, entered.homes);
     }
 
 pub returns-clause-led : goal.returns-clause-led

@@ -5,11 +5,11 @@ use Rattle.intern_index.specs.Probing.{full_count}
 use Rattle.intern_index.specs.declared.entry.Entry.{Entry}
 use Rattle.intern_index.proofs.table_of.table_of.Given as goal
 
--- the table leads to each entry that isn't left, and has as many buckets; its homes stay
+-- the table leads to each entry that isn't left, has as many buckets, and keeps its homes
 abbrev pub invariant-loop-place : goal.invariant-loop-place
 invariant-loop-place g l = record {
   left : (p : ℕ) (e : Entry g.row.T.Denot g.row.N.Denot) → Contains l.place-iterator (p, e) → get l.slots p ≡ Some e;
   led : (p : ℕ) (e : Entry g.row.T.Denot g.row.N.Denot) → get l.slots p ≡ Some e → (leads l.table (g.K.Key.key l.by e) p ≡ true) ⊎ Contains l.place-iterator (p, e);
-  room : l.fn.room ≤ l.table.homes;
   once : full_count l.table.buckets.items + length l.place-iterator ≡ slab_len l.slots;
+  homes : l.room ≤ l.table.homes;
 }

@@ -23,7 +23,7 @@ returns-in_err-n c =
     let t = c.args.text.now in
     let cut = c.in-Some-strip_prefix.ensures.cases in
     let text : t ≡ codes "<ra@gennew>" ++ c.in-Some-strip_prefix.digits.now = cut.1.1 ∙ ap (λ ds. codes "<ra@gennew>" ++ ds) (sym cut.2) in
-    determined t _ (λ p. (
+    c.from_residual.ensures ∙ determined t _ (λ p. (
       λ e. absurd (none-some p e),
       λ e. absurd (nowhere p t
           (λ n lt is. absurd (cc ((c.small_number.ensures n).1 (lt, is), c.in_default.is)))
@@ -46,7 +46,7 @@ returns c =
 pub returns-in_err-index : goal.returns-in_err-index
 returns-in_err-index c =
     let t = c.args.text.now in
-    determined t _ (λ p. (
+    c.from_residual-in_err-index.ensures ∙ determined t _ (λ p. (
       λ e. absurd (none-some p e),
       λ e. absurd (nowhere p t
           (λ n lt is. absurd (cc ((c.small_number.ensures n).1 (lt, is), c.in_default.is)))

@@ -1,4 +1,5 @@
 use Rattle.std.proofs.Common.{is_some, refl, ap, sym, ◌∙◌}
+use native.Mathlib.Bridge.{le_prop}
 use Rattle.std.specs.Option.{option_map}
 use Rattle.std.specs.FinMap as map
 use Rattle.std.proofs.lemmas.Option.{same_Some}
@@ -9,6 +10,9 @@ use Rattle.intern_index.specs.declared.entry.Entry.{Entry}
 use Rattle.intern_index.proofs.Held.{entry_there, at_seen, seen_at}
 use Rattle.intern_index.proofs.Changes.{repaid_tied, written_seen}
 use Rattle.intern_index.proofs.index.Index.change.Goals as goal
+
+pub same-self : goal.same-self
+same-self g c = ap (λ h. record c.self.inside { tables = record c.self.inside.tables { homed = h } }) (le_prop _ _)
 
 pub returns-in_err-place-clause-payload : goal.returns-in_err-place-clause-payload
 returns-in_err-place-clause-payload g c =

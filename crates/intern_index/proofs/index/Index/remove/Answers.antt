@@ -1,10 +1,14 @@
 use Rattle.std.proofs.Common.{is_some, ap, sym, ◌∙◌}
+use native.Mathlib.Bridge.{le_prop}
 use Rattle.std.specs.Option.{option_map}
 use Rattle.intern_index.specs.IndexEntry.{IndexEntry}
 use Rattle.intern_index.specs.Entries.{birth_at}
 use Rattle.intern_index.proofs.Held.{entry_there, birth_there, at_seen, seen_at}
 use Rattle.intern_index.proofs.Changes.{less_tied, left_there, removed_seen, unremoved}
 use Rattle.intern_index.proofs.index.Index.remove.Goals as goal
+
+pub same-self : goal.same-self
+same-self g c = ap (λ h. record c.self.inside { tables = record c.self.inside.tables { homed = h } }) (le_prop _ _)
 
 pub returns-in_err-place-clause-value : goal.returns-in_err-place-clause-value
 returns-in_err-place-clause-value g c =
