@@ -12,7 +12,8 @@ are_digits (c ∷ cs) = list_all (λ b. is_digit b 10) (c ∷ cs)
 -- the number that digits write, where it is below 2 ^ 64
 abbrev pub digits_number : List ℕ → Option ℕ
 digits_number ds =
-    if are_digits ds && nat_lt (digits_value 10 ds) (2 ^ 64) then Some (digits_value 10 ds) else None
+    if are_digits ds && nat_lt (digits_value 10 ds) (2 ^ 64) then Some (digits_value 10 ds)
+    else None
 
 -- the number that an optional '+' and then digits write, where it is below 2 ^ 64
 unfoldable pub number_value : List ℕ → Option ℕ

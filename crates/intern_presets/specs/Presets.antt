@@ -20,7 +20,8 @@ generated_text n = codes "<ra@gennew>" ++ decimal n
 unfoldable pub preset_text : ℕ → Option (List ℕ)
 preset_text place =
     if nat_lt place 256 then Some (decimal place)
-    else (if nat_lt place 512 then Some (generated_text (place - 256)) else slice_get table (place - 512))
+    else if nat_lt place 512 then Some (generated_text (place - 256))
+    else slice_get table (place - 512)
 
 -- how many places there are
 abbrev pub number_of_presets : ℕ
@@ -28,4 +29,6 @@ number_of_presets = 512 + table_length
 
 -- the place of a text, where it has one
 unfoldable pub place_of : List ℕ → Option ℕ
-place_of text = find (λ place. option_eq bytes_eq (preset_text place) (Some text)) (range_with_len 0 number_of_presets)
+place_of text =
+    find (λ place. option_eq bytes_eq (preset_text place) (Some text))
+    (range_with_len 0 number_of_presets)

@@ -33,6 +33,8 @@ pub fn only_integers_are_numbers()
 
 /// The numbered lists hold the numbers below 256, and no others.
 pub fn numbered_lists_end()
-    ensures integers { (n : ℕ) → n < 2 ^ 64 → place_of (decimal n) ≡ (if nat_lt n 256 then Some n else None) }
-    ensures generated { (n : ℕ) → n < 2 ^ 64 → place_of (generated_text n) ≡ (if nat_lt n 256 then Some (n + 256) else None) }
+    ensures integers { (n : ℕ) → n < 2 ^ 64 →
+        place_of (decimal n) ≡ (if nat_lt n 256 then Some n else None) }
+    ensures generated { (n : ℕ) → n < 2 ^ 64 →
+        place_of (generated_text n) ≡ (if nat_lt n 256 then Some (n + 256) else None) }
 {}

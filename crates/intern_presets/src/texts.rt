@@ -14,7 +14,8 @@ pub(crate) fn integer_texts() -> &'static [&'static str]
 
 /// The generated names.
 pub(crate) fn generated_texts() -> &'static [&'static str]
-    ensures { (n : ℕ) → n < 256 → slice_get (map (λ t. t.now) result.now) n ≡ Some (generated_text n) }
+    ensures { (n : ℕ) → n < 256 →
+        slice_get (map (λ t. t.now) result.now) n ≡ Some (generated_text n) }
 {
     &GENERATED
 }

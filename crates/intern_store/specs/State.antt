@@ -112,8 +112,10 @@ module _ {V : Type 0} where
 
   -- with a new entry of this count
   abbrev pub added_with : ℕ → State V → V → State V
-  added_with n s v =
-      record s { next = s.next + 1; map = map.insert s.map s.next (record { value = v; count = n }) }
+  added_with n s v = record s {
+    next = s.next + 1;
+    map = map.insert s.map s.next (record { value = v; count = n });
+  }
 
   -- with a new entry that nothing counts
   abbrev pub added : State V → V → State V

@@ -264,8 +264,8 @@ impl<E: Entries> Store<E> {
         }
     }
 
-    /// Stores what is offered, or hands it back where an equal value is stored. The entry is counted
-    /// once more.
+    /// Stores what is offered, or hands it back where an equal value is stored. The entry is
+    /// counted once more.
     pub fn intern_counted<O>(&mut self, offer: O) -> Result<(EntryKey, Option<O>), Refused<O>>
     where
         E: Takes<O>,

@@ -86,8 +86,8 @@ fn full_is_told_from_used_up(rt: HostRuntime) {
     keeps(&rt, &table, 3);
 }
 
-/// Each call that takes a symbol refuses this one for the same reason, and changes nothing. It gives
-/// the symbol back.
+/// Each call that takes a symbol refuses this one for the same reason, and changes nothing. It
+/// gives the symbol back.
 fn refused_in_each_way(
     rt: &impl Abort,
     table: &mut SymbolTable,
