@@ -36,11 +36,13 @@ module _ {T N : Type 0} where
   AreTold s = (p b : ℕ) → birth_at s p ≡ Some b → p + 1 < 2 ^ 48
 
   -- the slab's entries, the table by their hashes, and what finds their births
-  pub record IsTied (s : Slab (Entry T N)) (by_hash : Buckets) (IsFor : (ℕ → Option ℕ) → Type 0) : Type 0 where
-    -- no two places have one birth
-    pub apart : (p q b : ℕ) → birth_at s p ≡ Some b → birth_at s q ≡ Some b → p ≡ q
-    -- the probe sequence of its hash leads to each entry
-    pub led : (p : ℕ) (e : Entry T N) → get s p ≡ Some e → leads by_hash e.hash p ≡ true
-    -- each birth is found
-    pub found : IsFor (birth_at s)
-    pub told : AreTold s
+  pub record IsTied (s : Slab (Entry T N)) (by_hash : Buckets)
+      (IsFor : (ℕ → Option ℕ) → Type 0) : Type 0
+    where
+      -- no two places have one birth
+      pub apart : (p q b : ℕ) → birth_at s p ≡ Some b → birth_at s q ≡ Some b → p ≡ q
+      -- the probe sequence of its hash leads to each entry
+      pub led : (p : ℕ) (e : Entry T N) → get s p ≡ Some e → leads by_hash e.hash p ≡ true
+      -- each birth is found
+      pub found : IsFor (birth_at s)
+      pub told : AreTold s

@@ -14,7 +14,8 @@ pub record IndexEntry (T N : Type 0) : Type 0 where
 abbrev pub index_entry_code : {T N : Type 0} → Coded T → Coded N → Coded (IndexEntry T N)
 index_entry_code {T} {N} value payload =
     code_by (ℕ × (ℕ × (T × N))) (coded× coded_ℕ (coded× coded_ℕ (coded× value payload)))
-    (λ e. (e.place, (e.hash, (e.value, e.payload)))) (λ p. record { place = p.0; hash = p.1.0; value = p.1.1.0; payload = p.1.1.1 }) (λ _. refl)
+    (λ e. (e.place, (e.hash, (e.value, e.payload))))
+    (λ p. record { place = p.0; hash = p.1.0; value = p.1.1.0; payload = p.1.1.1 }) (λ _. refl)
 
 -- whether there is a value of this hash
 abbrev pub has_hash : {T N : Type 0} → ℕ → Option (IndexEntry T N) → Bool
@@ -27,6 +28,7 @@ is_sought fits None = false
 is_sought fits (Some e) = fits e.value e.payload
 
 -- with another payload of a birth that has an entry
-abbrev pub with_payload : {T N : Type 0} → (N → N) → FinMap nat_cmp (IndexEntry T N) → ℕ → Option (IndexEntry T N) → FinMap nat_cmp (IndexEntry T N)
+abbrev pub with_payload : {T N : Type 0} → (N → N) → FinMap nat_cmp (IndexEntry T N) → ℕ
+    → Option (IndexEntry T N) → FinMap nat_cmp (IndexEntry T N)
 with_payload f m b None = m
 with_payload f m b (Some e) = insert m b (record e { payload = f e.payload })

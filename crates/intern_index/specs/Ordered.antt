@@ -1,5 +1,6 @@
 -- Places in the order of their births.
-use Rattle.std.specs.Prelude.{◌≡◌, ℕ, ◌<◌, Bool, true, List, length, Option, Some, None, IsSome, is_some, nat_eq, slice_index}
+use Rattle.std.specs.Prelude.{◌≡◌, ℕ, ◌<◌, Bool, true, nat_eq, List, length, slice_index}
+use Rattle.std.specs.Prelude.{Option, Some, None, IsSome, is_some}
 use Rattle.std.specs.List.{list_any}
 use Rattle.slab.specs.Slab.{Slab, get}
 
@@ -15,5 +16,6 @@ is_occupied s p = is_some (get s p)
 -- all places with a birth, in the order of their births
 pub record IsOrder (places : List ℕ) (at : ℕ → Option ℕ) : Type 0 where
   pub there : (i : ℕ) → i < length places → IsSome (at (slice_index places i))
-  pub rising : (i j : ℕ) → i < j → j < length places → birth_or_zero (at (slice_index places i)) < birth_or_zero (at (slice_index places j))
+  pub rising : (i j : ℕ) → i < j → j < length places
+      → birth_or_zero (at (slice_index places i)) < birth_or_zero (at (slice_index places j))
   pub listed : (p b : ℕ) → at p ≡ Some b → list_any (nat_eq p) places ≡ true

@@ -1,5 +1,6 @@
 -- Buckets, and which of them a search meets.
-use Rattle.std.specs.Prelude.{ℕ, ◌+◌, ◌*◌, ◌/◌, ◌%◌, ◌^◌, Bool, false, not, ◌&&◌, ◌||◌, List, [], ◌∷◌, nat_eq, count_by}
+use Rattle.std.specs.Prelude.{ℕ, ◌+◌, ◌*◌, ◌/◌, ◌%◌, ◌^◌, nat_eq}
+use Rattle.std.specs.Prelude.{Bool, false, not, ◌&&◌, ◌||◌, List, [], ◌∷◌, count_by}
 use Rattle.intern_index.specs.declared.buckets.Bucket.{Bucket}
 
 -- the bucket of an entry: 16 bits of its hash above 48 bits of its place, counted from one

@@ -78,7 +78,7 @@ impl<T, N: Copy, B: Births> Index<T, N, B> {
         self.tables.births.find(&self.slots, birth)
     }
 
-    // The entry of a birth, and its place, which is looked up only where the spot tells a wrong one.
+    // The entry of a birth, and its place, which is looked up only where the spot's is wrong.
     fn entry(&self, spot: Spot) -> Option<(usize, &Entry<T, N>)>
         ensures { option_map (λ f. seen f.0 f.1.now) result ≡ map.get self.now spot.birth }
     {

@@ -201,8 +201,8 @@ fn an_index_of_a_million_births_stays_small(rt: HostRuntime) {
     assert_eq!(rt; numbers.index.len(), 1_000);
 }
 
-// At most 100 entries at a time, so there is room for 200, in 228 homes. Where all begin at the last
-// home, all but one stand behind it, in 427 buckets, and the vector may have doubled for them.
+// At most 100 entries at a time, so there is room for 200, in 228 homes. Where all begin at the
+// last home, all but one stand behind it, in 427 buckets, and the vector may have doubled for them.
 fn shares_a_hash(rt: &impl Abort, alloc: Global, hash: u64) {
     let hashes = Hashes {
         first: hash,

@@ -16,7 +16,8 @@ module _ {H : Type 0} where
   -- the lists lie among this many items, in the order of their births
   pub record IsLaid (m : FinMap nat_cmp (IndexEntry H SlicePayload)) (n : ℕ) : Type 0 where
     pub within : (b : ℕ) (r : IndexEntry H SlicePayload) → get m b ≡ Some r → end_of r ≤ n
-    pub apart : (b c : ℕ) (r s : IndexEntry H SlicePayload) → b < c → get m b ≡ Some r → get m c ≡ Some s → end_of r ≤ s.payload.start
+    pub apart : (b c : ℕ) (r s : IndexEntry H SlicePayload) → b < c
+        → get m b ≡ Some r → get m c ≡ Some s → end_of r ≤ s.payload.start
 
   -- an entry's list has the item at this index
   pub record IsCovered (m : FinMap nat_cmp (IndexEntry H SlicePayload)) (i : ℕ) : Type 0 where
@@ -29,13 +30,18 @@ module _ {H : Type 0} where
 module _ {H S : Type 0} where
   -- the entry of a row whose items are among these
   abbrev pub sliced_entry : List S → IndexEntry H SlicePayload → Kept (Sliced H S)
-  sliced_entry xs r = record { value = record { header = r.value; items = take r.payload.length (drop r.payload.start xs) }; count = r.payload.count }
+  sliced_entry xs r = record {
+    value = record { header = r.value; items = take r.payload.length (drop r.payload.start xs) };
+    count = r.payload.count;
+  }
 
   -- the hash of a row, and its entry
   abbrev pub read_entry : List S → IndexEntry H SlicePayload → ℕ × Kept (Sliced H S)
   read_entry xs r = (r.hash, sliced_entry xs r)
 
-  pub record IsJoined (hash : Sliced H S → ℕ) (index : FinMap nat_cmp (IndexEntry H SlicePayload)) (items : List S) : Type 0 where
-    pub laid : IsLaid index (length items)
-    -- each row has the hash of its header and items
-    pub hashed : IsHashed (sliced_entry items) hash index
+  pub record IsJoined (hash : Sliced H S → ℕ) (index : FinMap nat_cmp (IndexEntry H SlicePayload))
+      (items : List S) : Type 0
+    where
+      pub laid : IsLaid index (length items)
+      -- each row has the hash of its header and items
+      pub hashed : IsHashed (sliced_entry items) hash index

@@ -39,7 +39,8 @@ impl<T: Hash + Eq> Model for Table<T> {
 
     ghost view = { λ a. map_values kept_entry a.index };
 
-    ghost invariant = { λ a. IsHashed kept_entry (λ v. hash_of (T.hash_input v)) a.index };
+    ghost invariant = { λ a. IsHashed
+        kept_entry (λ v. hash_of (T.hash_input v)) a.index };
 }
 
 // A value that equals the one offered.
