@@ -3,7 +3,12 @@ use ra_ap_intern::{InternStorage, Interned, Text};
 use std::test::Fail;
 
 /// The second and the third text have 24 and 25 bytes.
-const TEXTS: [&str; 4] = ["", "a text of 24 bytes exact", "a text of 25 bytes, exact", "Clone"];
+const TEXTS: [&str; 4] = [
+    "",
+    "a text of 24 bytes exact",
+    "a text of 25 bytes, exact",
+    "Clone",
+];
 
 #[test]
 fn each_text_is_kept_once(rt: HostRuntime) -> Result<(), Fail> {
