@@ -8,7 +8,7 @@ use Rattle.std.specs.Cmp.Lexicographic.{pointwise}
 use Rattle.std.specs.Ordering.{nat_cmp}
 use Rattle.std.specs.Cmp.{nat_cmp_total}
 use Rattle.std.specs.FinMap.{FinMap, empty, get, insert, retain_keys, get-empty, same_map, nat_cmp-IsAntisymmetric}
-use Rattle.std.proofs.lemmas.Bool.{cases_eq, and_parts}
+use Rattle.std.proofs.lemmas.Bool.{cases_eq, cases_lt, and_parts}
 use Rattle.std.proofs.lemmas.Option.{same_Some}
 use Rattle.intern_store.specs.Kept.{Kept, recounted}
 use Rattle.intern_store.proofs.Compared.{get-inserted, get-retained}
@@ -17,7 +17,7 @@ use Rattle.intern_store.specs.Maps.{map_values}
 use Rattle.intern_index.specs.Seen.{IsHashed}
 use Rattle.intern_table.specs.Sliced.{Sliced, sliced_eq, sliced_input}
 use Rattle.intern_table.specs.Read.{shown}
-use Rattle.intern_table.specs.Joined.{end_of, read_entry, sliced_entry, IsLaid, IsJoined}
+use Rattle.intern_table.specs.Joined.{end_of, read_entry, sliced_entry, IsLaid, IsCovered, IsJoined}
 use Rattle.intern_table.specs.declared.pool.SlicePayload.{SlicePayload}
 use Rattle.intern_store.proofs.Chosen.{here, away}
 use Rattle.intern_index.proofs.Seen.{empty_hashed, retained_hashed, added_hashed, changed_hashed, changed_seen}
@@ -80,6 +80,21 @@ module _ {H : Type 0} where
         omega arith;
   }
 
+  -- lists that lie where others did have the items that those had
+  covered_by : (m n : FinMap nat_cmp (IndexEntry H SlicePayload)) (i : ℕ) → ((b : ℕ) (r : IndexEntry H SlicePayload) → get m b ≡ Some r → (s : IndexEntry H SlicePayload) × (get n b ≡ Some s) × (s.payload.start ≡ r.payload.start) × (s.payload.length ≡ r.payload.length))
+      → IsCovered m i → IsCovered n i
+  covered_by m n i will is =
+      let w = will is.birth is.row is.there in
+      let starts : w.0.payload.start ≡ is.row.payload.start = w.2 in
+      let long : w.0.payload.length ≡ is.row.payload.length = w.3 in
+      record {
+        birth = is.birth;
+        row = w.0;
+        there = w.1;
+        from = omega (arith, is.from);
+        below = omega (arith, is.below);
+      }
+
   -- fewer lists lie in order
   pub retained_laid : (m n : FinMap nat_cmp (IndexEntry H SlicePayload)) (marked : ℕ → Bool) (k : ℕ) → IsLaid m k → n ≡ retain_keys m marked → IsLaid n k
   retained_laid m n marked k is retained = laid_by m n k (λ b r at. go (marked b) (get m b) r (sym (ap (λ x. get x b) retained ∙ get-retained m marked b) ∙ at)) is
@@ -117,12 +132,13 @@ module _ {H S : Type 0} where
     still_joined index new items items' is same_index same_items = subst (λ m. IsJoined hash m items') (sym same_index) (subst (IsJoined hash index) (sym same_items) is)
 
     -- a table of nothing
-    pub empty_joined : (index : FinMap nat_cmp (IndexEntry H SlicePayload)) (items : List S) → index ≡ empty → IsJoined hash index items
-    empty_joined index items none =
+    pub empty_joined : (index : FinMap nat_cmp (IndexEntry H SlicePayload)) (items : List S) → index ≡ empty → items ≡ [] → IsJoined hash index items
+    empty_joined index items none nothing =
         let gone : (b : ℕ) → get index b ≡ None = λ b. ap (λ m. get m b) none ∙ get-empty nat_cmp b in
         record {
           laid = record { within = λ b r at. let e = gone b in absurd (cc); apart = λ b c r s below at its. let e = gone b in absurd (cc) };
           hashed = empty_hashed (sliced_entry items) hash index none;
+          full = λ i below. let size : length items ≡ 0 = ap length nothing in absurd (omega (arith, below));
         }
 
     module _ (index : FinMap nat_cmp (IndexEntry H SlicePayload)) (items : List S) (is : IsJoined hash index items) where
@@ -162,10 +178,27 @@ module _ {H S : Type 0} where
                     | inr differs ↦ (y, sym (now ∙ away q b _ _ differs) ∙ at, refl, refl)
                   ]
 
+          will : (q : ℕ) (x : IndexEntry H SlicePayload) → get index q ≡ Some x → (y : IndexEntry H SlicePayload) × (get index' q ≡ Some y) × (y.payload.start ≡ x.payload.start) × (y.payload.length ≡ x.payload.length)
+          will q x at = go (get index b) refl changed
+            where
+              go : (o : Option (IndexEntry H SlicePayload)) → get index b ≡ o → index' ≡ with_payload (recount g) index b o
+                  → (y : IndexEntry H SlicePayload) × (get index' q ≡ Some y) × (y.payload.start ≡ x.payload.start) × (y.payload.length ≡ x.payload.length)
+              go None had changed = (x, ap (λ n. get n q) changed ∙ at, refl, refl)
+              go (Some r) had changed =
+                  let new : IndexEntry H SlicePayload = record r { payload = recount g r.payload } in
+                  let now = ap (λ n. get n q) changed ∙ get-inserted index b new q in
+                  elim (cases_eq q b) [
+                    | inl e ↦
+                        let same : r ≡ x = same_Some _ _ (sym (ap (get index) e ∙ had) ∙ at) in
+                        (new, now ∙ here q b _ _ e, ap (λ z. z.payload.start) same, ap (λ z. z.payload.length) same)
+                    | inr differs ↦ (x, now ∙ away q b _ _ differs ∙ at, refl, refl)
+                  ]
+
           pub changes_joined : IsJoined hash index' items
           changes_joined = record {
             laid = laid_by index index' (length items) was is.laid;
             hashed = changed_hashed (sliced_entry items) hash (recount g) g (λ r. refl) index index' m b view changed is.hashed;
+            full = λ i below. covered_by index index' i will (is.full i below);
           }
 
           pub changes_seen : map_values (sliced_entry items) index' ≡ recounted g m b (get m b)
@@ -229,6 +262,30 @@ module _ {H S : Type 0} where
                 ];
           }
 
+          keeps : (c : ℕ) (y : IndexEntry H SlicePayload) → get index c ≡ Some y → get index' c ≡ Some y
+          keeps c y at =
+              let now = ap (λ n. get n c) added ∙ get-inserted index b r c in
+              let below : c < b = above c (ap is_some at) in
+              elim (cases_eq c b) [
+                | inl e ↦ let same : c ≡ b = e in absurd (omega arith)
+                | inr differs ↦ now ∙ away c b _ _ differs ∙ at
+              ]
+
+          adds_full : (i : ℕ) → i < length items' → IsCovered index' i
+          adds_full i below =
+              elim (cases_lt i (length items)) [
+                | inl old ↦ covered_by index index' i (λ c y at. (y, keeps c y at, refl, refl)) (is.full i old)
+                | inr new ↦
+                    let size = longer in
+                    record {
+                      birth = b;
+                      row = r;
+                      there = ap (λ n. get n b) added ∙ get-inserted index b r b ∙ here b b _ _ refl;
+                      from = omega arith;
+                      below = omega arith;
+                    }
+              ]
+
           pub adds_joined : r.hash ≡ hash (record { header = r.value; items = xs }) → IsJoined hash index' items'
           adds_joined hashes = record {
             laid = adds_laid;
@@ -236,6 +293,7 @@ module _ {H S : Type 0} where
                 added_hashed (sliced_entry items') hash index index' b r
                 (record { hashed = λ c y at. is.hashed.hashed c y at ∙ ap (λ e. hash e.value) (sym (stays c y at)) })
                 (hashes ∙ ap (λ e. hash e.value) (sym enters)) added;
+            full = adds_full;
           }
 
           pub adds_seen : (m : FinMap nat_cmp (Kept (Sliced H S))) → map_values (sliced_entry items) index ≡ m
@@ -247,6 +305,7 @@ module _ {H S : Type 0} where
 
       -- the lists of the births that are marked are moved down
       module _ (marked : ℕ → Bool) (kept new : FinMap nat_cmp (IndexEntry H SlicePayload)) (items' : List S) (keeps : kept ≡ retain_keys index marked) (laid : IsLaid new (length items'))
+          (full : (i : ℕ) → i < length items' → IsCovered new i)
           (same : (b : ℕ) → option_map (read_entry items') (get new b) ≡ option_map (read_entry items) (get kept b))
         where
           kept_hashed : IsHashed (sliced_entry items) hash kept
@@ -264,6 +323,7 @@ module _ {H S : Type 0} where
                   let w = row_before (get kept b) y (sym (ap (option_map (read_entry items')) at) ∙ same b) in
                   ap (λ p. p.0) w.2 ∙ kept_hashed.hashed b w.0 w.1 ∙ ap (λ p. hash p.1.value) (sym w.2);
             };
+            full = full;
           }
 
           entries_same : (o p : Option (IndexEntry H SlicePayload)) → option_map (read_entry items') o ≡ option_map (read_entry items) p → option_map (sliced_entry items') o ≡ option_map (sliced_entry items) p

@@ -45,3 +45,5 @@ module _ {H S : Type 0} where
       pub laid : IsLaid index (length items)
       -- each row has the hash of its header and items
       pub hashed : IsHashed (sliced_entry items) hash index
+      -- no item is left that no list has
+      pub full : (i : ℕ) → i < length items → IsCovered index i

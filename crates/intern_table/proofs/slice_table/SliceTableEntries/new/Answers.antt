@@ -4,7 +4,7 @@ use Rattle.intern_store.proofs.Maps.{map_values-empty}
 use Rattle.intern_table.proofs.slice_table.SliceTableEntries.new.Goals as goal
 
 pub invariant_of-result : goal.invariant_of-result
-invariant_of-result g c = empty_joined _ _ _ c.new.ensures
+invariant_of-result g c = empty_joined _ _ _ c.new.ensures c.new-2.ensures.items
 
 pub returns : goal.returns
 returns g c = map_values-empty (sliced_entry c.new-2.result.items) _ c.new.ensures

@@ -6,8 +6,8 @@ compact-requires g c = retained_laid _ _ (g.M.Marks.marked c.args.marks.now) _ c
 
 pub invariant_of-self : goal.invariant_of-self
 invariant_of-self g c =
-    keeps_joined _ _ _ c.self.invariant (g.M.Marks.marked c.args.marks.now) _ _ _ c.keep.ensures c.compact.ensures.laid c.compact.ensures.same
+    keeps_joined _ _ _ c.self.invariant (g.M.Marks.marked c.args.marks.now) _ _ _ c.keep.ensures c.compact.ensures.laid c.compact.ensures.full c.compact.ensures.same
 
 pub returns : goal.returns
 returns g c =
-    keeps_seen _ _ _ c.self.invariant (g.M.Marks.marked c.args.marks.now) _ _ _ c.keep.ensures c.compact.ensures.laid c.compact.ensures.same _ c.self.view_is
+    keeps_seen _ _ _ c.self.invariant (g.M.Marks.marked c.args.marks.now) _ _ _ c.keep.ensures c.compact.ensures.laid c.compact.ensures.full c.compact.ensures.same _ c.self.view_is
