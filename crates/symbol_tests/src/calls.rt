@@ -2,10 +2,9 @@
 use crate::steps::{
     clone, decrease, intern_again, intern_new, intern_preset, is_preset, keeps, release,
 };
+use intern_fixtures::{a_map_tells_apart, a_set_tells_apart};
 use ra_ap_intern::{Limits, Symbol, SymbolTable, laws, sym};
-use std::collections::{HashMap, HashSet};
 use std::process::Abort;
-use std::test::Fail;
 
 #[test]
 fn tables(rt: HostRuntime) {
@@ -37,51 +36,24 @@ fn symbols(rt: HostRuntime) {
 }
 
 #[test]
-fn a_set_of_symbols(rt: HostRuntime) -> Result<(), Fail> {
+fn a_set_of_symbols(rt: HostRuntime) {
     let alloc = rt.alloc();
     let mut table = SymbolTable::new(alloc, 1);
     let x = intern_new(&rt, &mut table, "x", 1);
     let again = intern_again(&rt, &mut table, "x", 2);
-    let mut set = HashSet::new(alloc);
-    insert(&rt, &mut set, x, true)?;
-    contains(&rt, &set, &again, true);
-    insert(&rt, &mut set, again, false)?;
-    contains(&rt, &set, &sym::default, false);
-    Ok(())
-}
-
-/// Inserts a symbol into a set, and is told whether it is new there.
-fn insert(
-    rt: &impl Abort,
-    set: &mut HashSet<Symbol>,
-    symbol: Symbol,
-    fresh: bool,
-) -> Result<(), Fail> {
-    assert_eq!(rt; set.insert(symbol)?, fresh);
-    Ok(())
-}
-
-/// The set has this symbol, or hasn't, as expected.
-fn contains(rt: &impl Abort, set: &HashSet<Symbol>, symbol: &Symbol, expected: bool) {
-    assert_eq!(rt; set.contains(symbol), expected);
+    assert_eq!(rt; a_set_tells_apart(alloc, x, again, &sym::default), Ok(true));
 }
 
 #[test]
-fn a_map_by_symbols(rt: HostRuntime) -> Result<(), Fail> {
+fn a_map_by_symbols(rt: HostRuntime) {
     let alloc = rt.alloc();
     let mut table = SymbolTable::new(alloc, 1);
     let preset = intern_preset(&rt, &mut table, "default", 0);
     let y = intern_new(&rt, &mut table, "y", 1);
-    let mut uses = HashMap::new(alloc);
-    assert_eq!(rt; uses.insert(preset, 5)?, None);
-    uses_are(&rt, &uses, &sym::default, Some(5));
-    uses_are(&rt, &uses, &y, None);
-    Ok(())
-}
-
-/// The map has this number at the symbol, or none.
-fn uses_are(rt: &impl Abort, uses: &HashMap<Symbol, i32>, symbol: &Symbol, expected: Option<i32>) {
-    assert_eq!(rt; uses.get(symbol).copied(), expected);
+    assert_eq!(rt;
+        a_map_tells_apart(alloc, preset, &sym::default, &y),
+        Ok(true)
+    );
 }
 
 #[test]

@@ -3,8 +3,7 @@ use crate::steps::{
     free, generated, integer, intern, intern_again, intern_new, intern_preset, is_stored, keeps,
     release, writes,
 };
-use ra_ap_intern::sym::{self, Integer};
-use ra_ap_intern::{Symbol, SymbolTable};
+use ra_ap_intern::{Symbol, SymbolTable, sym};
 use std::process::Abort;
 
 #[test]
@@ -33,7 +32,7 @@ fn numbers_are_read(rt: HostRuntime) {
 /// The symbol of this text writes this number, or none.
 fn is_read_as(rt: &impl Abort, table: &mut SymbolTable, text: &str, number: Option<usize>) {
     let symbol = intern(rt, table, text);
-    assert_eq!(rt; Integer::as_uint(&symbol, table), number, "{text}");
+    writes(rt, table, &symbol, number);
 }
 
 #[test]

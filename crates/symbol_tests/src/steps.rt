@@ -40,7 +40,8 @@ pub fn reads_nothing(rt: &impl Abort, table: &SymbolTable, symbol: &Symbol) {
 
 /// The symbol's text writes this number, or none.
 pub fn writes(rt: &impl Abort, table: &SymbolTable, symbol: &Symbol, number: Option<usize>) {
-    assert_eq!(rt; Integer::as_uint(symbol, table), number);
+    let text = symbol.as_str(table);
+    assert_eq!(rt; Integer::as_uint(symbol, table), number, "{text:?}");
 }
 
 /// Interns a text.
