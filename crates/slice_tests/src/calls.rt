@@ -4,8 +4,8 @@ use crate::steps::{
     Numbered, clone, decrement, has_count, has_len, intern_again, intern_new, own, owner_reads,
     reads, release,
 };
-use ra_ap_intern::{InternSliceStorage, InternedSlice, InternedSliceRef, Limits, Name, laws};
-use std::collections::{HashMap, HashSet};
+use intern_fixtures::{a_map_tells_apart, a_set_tells_apart};
+use ra_ap_intern::{InternSliceStorage, Limits, Name, laws};
 use std::process::Abort;
 
 #[test]
@@ -71,32 +71,7 @@ fn a_set_of_references(rt: HostRuntime) {
     let x = intern_new(&rt, alloc, &mut storage, ("x", &[1]), 0);
     let y = intern_new(&rt, alloc, &mut storage, ("x", &[2]), 1);
     let again = intern_again(&rt, alloc, &mut storage, ("x", &[1]), 0);
-    let mut set = HashSet::new(alloc);
-    insert(&rt, &mut set, x, true);
-    insert(&rt, &mut set, again, false);
-    contains(&rt, &set, again, true);
-    contains(&rt, &set, y, false);
-}
-
-/// Inserts a reference, which is new or isn't.
-fn insert(
-    rt: &impl Abort,
-    set: &mut HashSet<InternedSliceRef<Numbers>>,
-    slice: InternedSliceRef<Numbers>,
-    new: bool,
-) {
-    let inserted: Result<_, _> = set.insert(slice);
-    assert_eq!(rt; inserted.expect(rt, "memory"), new);
-}
-
-/// The set has the reference, or hasn't.
-fn contains(
-    rt: &impl Abort,
-    set: &HashSet<InternedSliceRef<Numbers>>,
-    slice: InternedSliceRef<Numbers>,
-    found: bool,
-) {
-    assert_eq!(rt; set.contains(&slice), found);
+    assert_eq!(rt; a_set_tells_apart(alloc, x, again, &y), Ok(true));
 }
 
 #[test]
@@ -108,21 +83,7 @@ fn a_map_by_owned_handles(rt: HostRuntime) {
     let owned = own(&rt, &mut storage, x, 1);
     let second = clone(&rt, &mut storage, &owned, 2);
     let other = own(&rt, &mut storage, y, 1);
-    let mut owners = HashMap::new(alloc);
-    let before: Result<_, _> = owners.insert(owned, 5);
-    assert_eq!(rt; before.expect(&rt, "memory"), None);
-    finds(&rt, &owners, &second, Some(5));
-    finds(&rt, &owners, &other, None);
-}
-
-/// The map has this value by a handle, or none.
-fn finds(
-    rt: &impl Abort,
-    owners: &HashMap<InternedSlice<Numbers>, u64>,
-    owned: &InternedSlice<Numbers>,
-    value: Option<u64>,
-) {
-    assert_eq!(rt; owners.get(owned).copied(), value);
+    assert_eq!(rt; a_map_tells_apart(alloc, owned, &second, &other), Ok(true));
 }
 
 #[test]

@@ -2,7 +2,7 @@
 use crate::kinds::Numbers;
 use crate::steps::{
     Numbered, clone, has_count, has_len, intern_again, intern_in_vain, intern_new, not_released,
-    own, owner_reads, reads, refused_in_each_way, release,
+    own, owner_reads, push, reads, refused_in_each_way, release,
 };
 use ra_ap_intern::{InternSliceStorage, InternedSlice, InternedSliceRef, Limits, Refusal};
 use std::alloc::Global;
@@ -80,8 +80,7 @@ fn intern_all(
     for number in numbers {
         let birth = ledger.len() as u64;
         let slice = intern_new(rt, alloc, storage, ("a", items(&[number; 4])), birth);
-        let pushed: Result<_, _> = ledger.push((slice, number));
-        pushed.expect(rt, "memory");
+        push(rt, ledger, (slice, number));
     }
 }
 
@@ -94,8 +93,7 @@ fn own_all(
 ) -> Vec<InternedSlice<Numbers>> {
     let mut owned = Vec::new(alloc);
     for (slice, _) in ledger {
-        let pushed: Result<_, _> = owned.push(own(rt, storage, *slice, 1));
-        pushed.expect(rt, "memory");
+        push(rt, &mut owned, own(rt, storage, *slice, 1));
     }
     owned
 }

@@ -1,10 +1,10 @@
 //! Pairs that are equal, and pairs that are not.
 use crate::kinds::{Marked, MarkedNumbers, UnhashedNumbers, Units};
 use crate::steps::{
-    has_birth, has_count, has_len, intern_again, intern_new, own, owner_reads, reads,
+    has_count, has_len, intern, intern_again, intern_new, own, owner_reads, reads, word_of,
 };
-use intern_fixtures::{Unhashed, Word, make_word};
-use ra_ap_intern::{InternSliceStorage, InternedSlice, InternedSliceRef};
+use intern_fixtures::{Unhashed, Word};
+use ra_ap_intern::{InternSliceStorage, InternedSliceRef};
 use std::alloc::Global;
 use std::process::Abort;
 
@@ -94,10 +94,7 @@ fn intern_units(
     items: &[()],
     (birth, text): (u64, Option<&str>),
 ) -> InternedSliceRef<Units> {
-    let header = make_word(alloc, "a").expect(rt, "memory");
-    let answer = InternedSlice::from_header_and_slice(storage, header, items);
-    let (slice, back) = answer.expect(rt, "interned");
-    has_birth(rt, slice, birth);
+    let (slice, back) = intern(rt, storage, word_of(rt, alloc, "a"), items, birth);
     assert_eq!(rt; back.as_ref().map(Word::text), text);
     slice
 }
@@ -127,15 +124,15 @@ fn the_first_header_and_items_stay(rt: HostRuntime) {
     has_mark(&rt, &storage, again, 1);
 }
 
-/// Interns a marked number with itself as the only item: a header with this mark comes back.
+/// Interns a marked number with itself as the only item: they get birth 0, and a header with this
+/// mark comes back.
 fn intern_marked(
     rt: &impl Abort,
     storage: &mut InternSliceStorage<MarkedNumbers>,
     marked: Marked,
     mark: Option<u64>,
 ) -> InternedSliceRef<MarkedNumbers> {
-    let answer = InternedSlice::from_header_and_slice(storage, marked, &[marked]);
-    let (slice, back) = answer.expect(rt, "interned");
+    let (slice, back) = intern(rt, storage, marked, &[marked], 0);
     assert_eq!(rt; back.map(|header| header.mark), mark);
     slice
 }
@@ -175,9 +172,7 @@ fn intern_unhashed(
     item: Unhashed,
     (birth, known): (u64, Option<Unhashed>),
 ) -> InternedSliceRef<UnhashedNumbers> {
-    let answer = InternedSlice::from_header_and_slice(storage, header, &[item]);
-    let (slice, back) = answer.expect(rt, "interned");
-    has_birth(rt, slice, birth);
+    let (slice, back) = intern(rt, storage, header, &[item], birth);
     assert_eq!(rt; back, known);
     slice
 }

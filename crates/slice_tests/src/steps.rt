@@ -1,8 +1,11 @@
 //! Steps of many tests over numbers behind a word, each with the answer that it must get.
+ghost use Rattle.std.specs.Prelude.{◌≡◌, true};
+
 use crate::kinds::Numbers;
 use intern_fixtures::{Word, allowed, make_word, refusal};
 use ra_ap_intern::{
     HeaderSlice, InternSliceStorage, InternedSlice, InternedSliceRef, Refusal, Refused,
+    SliceInternable,
 };
 use std::alloc::Global;
 use std::process::Abort;
@@ -10,15 +13,34 @@ use std::process::Abort;
 /// A storage of numbers behind a word.
 pub type Numbered = InternSliceStorage<Numbers>;
 
-/// Interns a pair, which isn't refused.
-fn intern(
+/// Adds a value at the end of a list.
+pub fn push<V: Drop>(rt: &impl Abort, list: &mut Vec<V>, value: V) {
+    let pushed: Result<_, _> = list.push(value);
+    pushed.expect(rt, "memory");
+}
+
+/// The word of a text.
+pub fn word_of(rt: &impl Abort, alloc: Global, text: &str) -> Word {
+    make_word(alloc, text).expect(rt, "memory")
+}
+
+/// Interns items behind a header, which get this birth. It gives the header that comes back, if one
+/// does.
+pub fn intern<K: SliceInternable>(
     rt: &impl Abort,
-    alloc: Global,
-    storage: &mut Numbered,
-    (text, items): (&str, &[u64]),
-) -> (InternedSliceRef<Numbers>, Option<Word>) {
-    let header = make_word(alloc, text).expect(rt, "memory");
-    InternedSlice::from_header_and_slice(storage, header, items).expect(rt, "interned")
+    storage: &mut InternSliceStorage<K>,
+    header: K::Header,
+    items: &[K::SliceType],
+    birth: u64,
+) -> (InternedSliceRef<K>, Option<K::Header>)
+where
+    K::Header: Drop,
+    requires { K.SliceInternable.USE_GC ≡ true }
+{
+    let answer = InternedSlice::from_header_and_slice(storage, header, items);
+    let (slice, back) = allowed(answer).expect(rt, "interned");
+    has_birth(rt, slice, birth);
+    (slice, back)
 }
 
 /// Interns a pair that isn't stored: it gets this birth and count zero, and nothing comes back.
@@ -26,11 +48,10 @@ pub fn intern_new(
     rt: &impl Abort,
     alloc: Global,
     storage: &mut Numbered,
-    pair: (&str, &[u64]),
+    (text, items): (&str, &[u64]),
     birth: u64,
 ) -> InternedSliceRef<Numbers> {
-    let (slice, back) = intern(rt, alloc, storage, pair);
-    has_birth(rt, slice, birth);
+    let (slice, back) = intern(rt, storage, word_of(rt, alloc, text), items, birth);
     assert!(rt; back.is_none());
     has_count(rt, storage, slice, 0);
     slice
@@ -41,13 +62,12 @@ pub fn intern_again(
     rt: &impl Abort,
     alloc: Global,
     storage: &mut Numbered,
-    pair: (&str, &[u64]),
+    (text, items): (&str, &[u64]),
     birth: u64,
 ) -> InternedSliceRef<Numbers> {
     let len = storage.len();
-    let (slice, back) = intern(rt, alloc, storage, pair);
-    has_birth(rt, slice, birth);
-    assert_eq!(rt; back.as_ref().map(Word::text), Some(pair.0));
+    let (slice, back) = intern(rt, storage, word_of(rt, alloc, text), items, birth);
+    assert_eq!(rt; back.as_ref().map(Word::text), Some(text));
     has_len(rt, storage, len);
     slice
 }
@@ -61,7 +81,7 @@ pub fn intern_in_vain(
     (text, items): (&str, &[u64]),
 ) {
     let len = storage.len();
-    let header = make_word(alloc, text).expect(rt, "memory");
+    let header = word_of(rt, alloc, text);
     let answer = InternedSlice::from_header_and_slice(storage, header, items);
     let Refused { why, back } = answer.err().expect(rt, "refused");
     assert_eq!(rt; why, Refusal::NumbersUsedUp);
