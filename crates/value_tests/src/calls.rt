@@ -1,11 +1,12 @@
 //! Each public call, where it succeeds.
 use crate::kinds::Term;
-use crate::steps::{count_down, has_count, has_len, has_name, is_empty, own, stored};
+use crate::steps::{
+    count_down, has_count, has_len, has_name, is_empty, own, release, stored, take_over,
+};
 use crate::{terms, words};
-use intern_fixtures::Word;
-use ra_ap_intern::{InternStorage, Interned, InternedRef, Limits, Refusal, laws};
+use intern_fixtures::{Word, a_map_tells_apart, a_set_tells_apart};
+use ra_ap_intern::{InternStorage, Interned, Limits, Refusal, laws};
 use std::alloc::Global;
-use std::collections::{HashMap, HashSet};
 use std::process::Abort;
 
 #[test]
@@ -37,9 +38,9 @@ fn owned_handles(rt: HostRuntime) {
     has_name(&rt, x.as_ref(), (1, 0));
     let second = words::clone(&rt, &mut storage, &x, 2);
     drop(second);
-    let taken = words::take_over(&rt, &storage, (0, 2));
+    let taken = take_over(&rt, &storage, (0, 2));
     words::equal(&rt, &taken, &x);
-    words::release(&rt, &mut storage, taken, 1);
+    release(&rt, &mut storage, taken, 1);
     words::frees(&rt, &mut storage, x, "x");
     has_len(&rt, &storage, 0);
 }
@@ -63,60 +64,28 @@ fn references(rt: HostRuntime) {
 #[test]
 fn a_set_of_references(rt: HostRuntime) {
     let alloc = rt.alloc();
-    let mut storage = InternStorage::new(alloc, 1);
-    let x = words::intern_new(&rt, alloc, &mut storage, "x", 0);
-    let y = words::intern_new(&rt, alloc, &mut storage, "y", 1);
-    let again = words::intern_again(&rt, alloc, &mut storage, "x", (0, 2));
-    let mut references = HashSet::new(alloc);
-    insert(&rt, &mut references, x.as_ref(), true);
-    insert(&rt, &mut references, again.as_ref(), false);
-    contains(&rt, &references, again.as_ref(), true);
-    contains(&rt, &references, y.as_ref(), false);
-}
-
-/// Inserts a reference, which is new or isn't.
-fn insert(
-    rt: &impl Abort,
-    references: &mut HashSet<InternedRef<Word>>,
-    reference: InternedRef<Word>,
-    new: bool,
-) {
-    let inserted: Result<_, _> = references.insert(reference);
-    assert_eq!(rt; inserted.expect(rt, "memory"), new);
-}
-
-/// The set has the reference, or hasn't.
-fn contains(
-    rt: &impl Abort,
-    references: &HashSet<InternedRef<Word>>,
-    reference: InternedRef<Word>,
-    found: bool,
-) {
-    assert_eq!(rt; references.contains(&reference), found);
+    let (x, again, y) = x_twice_and_y(&rt, alloc);
+    let told = a_set_tells_apart(alloc, x.as_ref(), again.as_ref(), &y.as_ref());
+    assert_eq!(rt; told, Ok(true));
 }
 
 #[test]
 fn a_map_by_owned_handles(rt: HostRuntime) {
     let alloc = rt.alloc();
-    let mut storage = InternStorage::new(alloc, 1);
-    let x = words::intern_new(&rt, alloc, &mut storage, "x", 0);
-    let y = words::intern_new(&rt, alloc, &mut storage, "y", 1);
-    let again = words::intern_again(&rt, alloc, &mut storage, "x", (0, 2));
-    let mut owners = HashMap::new(alloc);
-    let before: Result<_, _> = owners.insert(x, 5);
-    assert_eq!(rt; before.expect(&rt, "memory"), None);
-    finds(&rt, &owners, &again, Some(5));
-    finds(&rt, &owners, &y, None);
+    let (x, again, y) = x_twice_and_y(&rt, alloc);
+    assert_eq!(rt; a_map_tells_apart(alloc, x, &again, &y), Ok(true));
 }
 
-/// The map has this value by a handle, or none.
-fn finds(
+/// Two handles of one word, and a handle of another.
+fn x_twice_and_y(
     rt: &impl Abort,
-    owners: &HashMap<Interned<Word>, u64>,
-    owned: &Interned<Word>,
-    value: Option<u64>,
-) {
-    assert_eq!(rt; owners.get(owned).copied(), value);
+    alloc: Global,
+) -> (Interned<Word>, Interned<Word>, Interned<Word>) {
+    let mut storage = InternStorage::new(alloc, 1);
+    let x = words::intern_new(rt, alloc, &mut storage, "x", 0);
+    let y = words::intern_new(rt, alloc, &mut storage, "y", 1);
+    let again = words::intern_again(rt, alloc, &mut storage, "x", (0, 2));
+    (x, again, y)
 }
 
 #[test]

@@ -2,11 +2,10 @@
 ghost use Rattle.std.specs.Prelude.{◌≡◌, ◌≤◌, false};
 
 use crate::kinds::{Number, Numeral};
-use crate::numbers::{
-    frees, intern_again, intern_new, not_interned, not_released, reads, reads_nothing, release,
-};
+use crate::numbers::{frees, intern_again, intern_new, not_interned, reads};
 use crate::steps::{
-    count_down, has_count, has_len, not_counted_down, not_found, not_owned, own, stored,
+    count_down, has_count, has_len, not_counted_down, not_found, not_owned, not_released, own,
+    push, reads_nothing, release, stored, take_over,
 };
 use intern_fixtures::Unhashed;
 use ra_ap_intern::{InternStorage, Interned, InternedRef, Limits, Refusal};
@@ -131,11 +130,8 @@ fn intern<T: Numeral>(
     for count in 1..count_of(birth) {
         let _ = own(rt, storage, reference, count + 1);
     }
-    let pushed: Result<_, _> = ledger.push(Birth {
-        reference,
-        number: Some(number),
-    });
-    pushed.expect(rt, "memory");
+    let number = Some(number);
+    push(rt, ledger, Birth { reference, number });
 }
 
 /// Removes the entries of each birth that this number divides, and gives their numbers.
@@ -154,8 +150,7 @@ fn remove_each<T: Numeral>(
             && let Some(number) = birth.number.take()
         {
             remove(rt, storage, birth.reference, number);
-            let pushed: Result<_, _> = removed.push(number);
-            pushed.expect(rt, "memory");
+            push(rt, &mut removed, number);
         }
     }
     removed
@@ -237,7 +232,7 @@ fn is_found_by_birth<T: Numeral>(
     reads(rt, storage, found, number);
     let _ = own(rt, storage, reference, count + 1);
     has_count(rt, storage, found, count + 1);
-    let taken = Interned::from_raw(storage, reference.as_raw()).expect(rt, "taken over");
+    let taken = take_over(rt, storage, (reference.as_raw(), count + 1));
     assert!(rt; taken.as_ref() == reference);
     release(rt, storage, taken, count);
     has_count(rt, storage, reference, count);
@@ -254,7 +249,7 @@ fn is_found_by_number<T: Numeral>(
 {
     let birth = reference.as_raw();
     let count = count_of(birth);
-    let again = intern_again(rt, storage, number, birth, count + 1);
+    let again = intern_again(rt, storage, number, (birth, count + 1));
     count_down(rt, storage, reference, count);
     has_count(rt, storage, again.as_ref(), count);
 }
@@ -279,8 +274,7 @@ fn own_all<T: Numeral>(
         if birth.number.is_some() {
             let count = count_of(birth.reference.as_raw());
             let handle = own(rt, storage, birth.reference, count + 1);
-            let pushed: Result<_, _> = owned.push(handle);
-            pushed.expect(rt, "memory");
+            push(rt, &mut owned, handle);
         }
     }
     owned
@@ -297,11 +291,11 @@ fn seen_from<T: Numeral>(
     let mut seen = Vec::new(alloc);
     for Birth { reference, .. } in given_up {
         let there = ledger.get(reference.as_raw() as usize);
-        let pushed: Result<_, _> = seen.push(Birth {
+        let birth = Birth {
             reference: *reference,
             number: there.and_then(|birth| birth.number),
-        });
-        pushed.expect(rt, "memory");
+        };
+        push(rt, &mut seen, birth);
     }
     seen
 }
@@ -321,6 +315,8 @@ fn release_by_birth<T: Numeral>(
         .expect(rt, "given");
     match birth.number.take() {
         Some(number) => free(rt, storage, handle, number),
-        None => not_released(rt, storage, handle),
+        None => {
+            let _ = not_released(rt, storage, handle, Refusal::Gone);
+        }
     }
 }

@@ -1,9 +1,8 @@
 //! Storages in collected mode.
 use crate::kinds::Node;
-use crate::steps::{has_birth, has_count, has_len, not_found, not_owned, own};
-use crate::terms::{Terms, intern_again, intern_new, not_counted, not_interned, release};
-use intern_fixtures::allowed;
-use ra_ap_intern::{InternStorage, Interned, InternedRef, Limits, Refusal};
+use crate::steps::{has_count, has_len, intern_new_gc, not_found, not_owned, own, push, release};
+use crate::terms::{Terms, intern_again, intern_new, not_counted, not_interned};
+use ra_ap_intern::{InternStorage, InternedRef, Limits, Refusal};
 use std::alloc::Global;
 use std::process::Abort;
 
@@ -54,9 +53,9 @@ fn values_refer_to_values(rt: HostRuntime) {
         owned: Vec::new(alloc),
         label: 1,
     };
-    let leaf = intern_node(&rt, &mut storage, leaf, 0);
+    let leaf = intern_new_gc(&rt, &mut storage, leaf, 0);
     let top = make_above(&rt, alloc, &mut storage, leaf, 2);
-    let top = intern_node(&rt, &mut storage, top, 1);
+    let top = intern_new_gc(&rt, &mut storage, top, 1);
     reads_above(&rt, &storage, top, (2, 1));
     has_count(&rt, &storage, leaf, 1);
 }
@@ -76,18 +75,6 @@ fn reads_above(
     assert_eq!(rt; owned.get(storage).map(|n| n.label), Some(child_label));
 }
 
-/// Interns a node, which gets this birth.
-fn intern_node(
-    rt: &impl Abort,
-    storage: &mut InternStorage<Node>,
-    node: Node,
-    birth: u64,
-) -> InternedRef<Node> {
-    let (node, _) = allowed(Interned::new_gc(storage, node)).expect(rt, "interned");
-    has_birth(rt, node, birth);
-    node
-}
-
 /// Makes a node with one child, which it also owns.
 fn make_above(
     rt: &impl Abort,
@@ -97,11 +84,9 @@ fn make_above(
     label: u64,
 ) -> Node {
     let mut children = Vec::new(alloc);
-    let pushed: Result<_, _> = children.push(child);
-    pushed.expect(rt, "memory");
+    push(rt, &mut children, child);
     let mut owned = Vec::new(alloc);
-    let pushed: Result<_, _> = owned.push(own(rt, storage, child, 1));
-    pushed.expect(rt, "memory");
+    push(rt, &mut owned, own(rt, storage, child, 1));
     Node {
         children,
         owned,

@@ -1,10 +1,10 @@
 //! Storages in counted mode.
 use crate::steps::{
-    count_down, has_len, has_name, not_counted_down, not_found, not_owned, not_taken_over, stored,
+    count_down, has_len, has_name, not_counted_down, not_found, not_owned, not_released,
+    not_taken_over, reads_nothing, stored, take_over,
 };
 use crate::words::{
-    Words, frees, intern_again, intern_new, not_cloned, not_interned, not_released, reads_nothing,
-    reference_reads_nothing, take_over,
+    Words, frees, intern_again, intern_new, not_cloned, not_interned, owner_reads_nothing,
 };
 use ra_ap_intern::{InternStorage, Limits, Refusal};
 
@@ -55,7 +55,7 @@ fn a_freed_value_is_born_anew(rt: HostRuntime) {
     frees(&rt, &mut storage, v, "v");
 
     let again = intern_new(&rt, alloc, &mut storage, "v", 1);
-    reference_reads_nothing(&rt, &storage, reference);
+    reads_nothing(&rt, &storage, reference);
     not_owned(&rt, &mut storage, reference, Refusal::Gone);
     assert!(rt; reference != again.as_ref());
 }
@@ -87,6 +87,6 @@ fn a_handle_of_a_freed_value_is_refused(rt: HostRuntime) {
     let b = not_released(&rt, &mut storage, b, Refusal::Gone);
     has_name(&rt, b.as_ref(), (1, 0));
     not_cloned(&rt, &mut storage, &b, Refusal::Gone);
-    reads_nothing(&rt, &storage, &b);
+    owner_reads_nothing(&rt, &storage, &b);
     not_counted_down(&rt, &mut storage, b.as_ref(), Refusal::Gone);
 }

@@ -1,6 +1,6 @@
 //! Handles of another storage.
-use crate::steps::{has_name, not_owned};
-use crate::words::{Words, intern_new, not_cloned, not_released, reads, reference_reads_nothing};
+use crate::steps::{has_name, not_owned, not_released, reads_nothing};
+use crate::words::{Words, intern_new, not_cloned, reads};
 use ra_ap_intern::{InternStorage, Refusal};
 
 #[test]
@@ -12,7 +12,7 @@ fn a_reference_of_another_storage_is_refused(rt: HostRuntime) {
     let y = intern_new(&rt, alloc, &mut second, "y", 0);
     let reference = x.as_ref();
     assert!(rt; reference != y.as_ref());
-    reference_reads_nothing(&rt, &second, reference);
+    reads_nothing(&rt, &second, reference);
     not_owned(&rt, &mut second, reference, Refusal::Foreign);
 }
 

@@ -2,8 +2,8 @@
 ghost use Rattle.std.specs.Prelude.{◌≡◌, false};
 
 use crate::kinds::{Number, Numeral};
-use crate::numbers::{frees, intern_again, intern_new, reads, reads_nothing};
-use crate::steps::{has_len, stored};
+use crate::numbers::{frees, intern_again, intern_new, reads};
+use crate::steps::{has_len, push, reads_nothing, stored};
 use intern_fixtures::Unhashed;
 use ra_ap_intern::{InternStorage, Interned};
 use std::alloc::Global;
@@ -33,7 +33,7 @@ fn values_that_all_hash_alike_are_told_apart(rt: HostRuntime) {
     let mut storage: InternStorage<Unhashed> = InternStorage::new(alloc, 1);
     let evens = intern_numbers(&rt, alloc, &mut storage, 1_000);
     free_numbers(&rt, &mut storage, evens);
-    let _ = intern_again(&rt, &mut storage, 1, 1, 2);
+    let _ = intern_again(&rt, &mut storage, 1, (1, 2));
     let _ = intern_new(&rt, &mut storage, 0, 1_000);
 }
 
@@ -51,8 +51,7 @@ fn intern_numbers<T: Numeral>(
     for k in 0..numbers {
         let handle = intern_new(rt, storage, k, k);
         if k % 2 == 0 {
-            let pushed: Result<_, _> = evens.push(handle);
-            pushed.expect(rt, "memory");
+            push(rt, &mut evens, handle);
         }
     }
     evens

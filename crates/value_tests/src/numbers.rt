@@ -2,9 +2,8 @@
 ghost use Rattle.std.specs.Prelude.{◌≡◌, false};
 
 use crate::kinds::Numeral;
-use crate::steps::{has_birth, has_count, has_len};
-use intern_fixtures::allowed;
-use ra_ap_intern::{InternStorage, Interned, InternedRef, Refusal, Refused};
+use crate::steps::{self, release_last};
+use ra_ap_intern::{InternStorage, Interned, InternedRef, Refusal};
 use std::process::Abort;
 
 /// Interns a number that isn't stored: it gets this birth and count 1, and nothing comes back.
@@ -16,11 +15,7 @@ pub fn intern_new<T: Numeral>(
 ) -> Interned<T>
     requires { T.Internable.USE_GC ≡ false }
 {
-    let (handle, back) = Interned::new(storage, T::of(number)).expect(rt, "interned");
-    has_birth(rt, handle.as_ref(), birth);
-    assert_eq!(rt; back, None);
-    has_count(rt, storage, handle.as_ref(), 1);
-    handle
+    steps::intern_new(rt, storage, T::of(number), birth)
 }
 
 /// Interns a number that is stored under this birth: it comes back, and its entry has this count.
@@ -28,17 +23,12 @@ pub fn intern_again<T: Numeral>(
     rt: &impl Abort,
     storage: &mut InternStorage<T>,
     number: u64,
-    birth: u64,
-    count: u64,
+    counted: (u64, u64),
 ) -> Interned<T>
     requires { T.Internable.USE_GC ≡ false }
 {
-    let len = storage.len();
-    let (handle, back) = Interned::new(storage, T::of(number)).expect(rt, "interned");
-    has_birth(rt, handle.as_ref(), birth);
-    assert_eq!(rt; back, Some(T::of(number)));
-    has_count(rt, storage, handle.as_ref(), count);
-    has_len(rt, storage, len);
+    let (handle, back) = steps::intern_again(rt, storage, T::of(number), counted);
+    assert_eq!(rt; back, T::of(number));
     handle
 }
 
@@ -47,12 +37,8 @@ pub fn intern_again<T: Numeral>(
 pub fn not_interned<T: Numeral>(rt: &impl Abort, storage: &mut InternStorage<T>, number: u64)
     requires { T.Internable.USE_GC ≡ false }
 {
-    let len = storage.len();
-    let answer = Interned::new(storage, T::of(number));
-    let Refused { why, back } = answer.err().expect(rt, "refused");
-    assert_eq!(rt; why, Refusal::NumbersUsedUp);
+    let back = steps::not_interned(rt, storage, T::of(number), Refusal::NumbersUsedUp);
     assert_eq!(rt; back, T::of(number));
-    has_len(rt, storage, len);
 }
 
 /// Reads this number.
@@ -65,28 +51,6 @@ pub fn reads<T: Numeral>(
     assert_eq!(rt; reference.get(storage).copied(), Some(T::of(number)));
 }
 
-/// Reads nothing, and there is no count.
-pub fn reads_nothing<T: Numeral>(
-    rt: &impl Abort,
-    storage: &InternStorage<T>,
-    reference: InternedRef<T>,
-) {
-    assert_eq!(rt; reference.get(storage).copied(), None);
-    assert_eq!(rt; storage.count(reference), None);
-}
-
-/// Releases a handle that isn't the last: nothing comes back, and the entry has this count then.
-pub fn release<T: Numeral>(
-    rt: &impl Abort,
-    storage: &mut InternStorage<T>,
-    handle: Interned<T>,
-    count: u64,
-) {
-    let reference = handle.as_ref();
-    assert_eq!(rt; allowed(handle.release(storage)), Ok(None));
-    has_count(rt, storage, reference, count);
-}
-
 /// Releases the last handle: this number comes back, and its entry is gone.
 pub fn frees<T: Numeral>(
     rt: &impl Abort,
@@ -94,20 +58,5 @@ pub fn frees<T: Numeral>(
     handle: Interned<T>,
     number: u64,
 ) {
-    let reference = handle.as_ref();
-    assert_eq!(rt; allowed(handle.release(storage)), Ok(Some(T::of(number))));
-    reads_nothing(rt, storage, reference);
-}
-
-/// Is refused a release, since the entry is gone. The handle comes back, and no entry goes.
-pub fn not_released<T: Numeral>(
-    rt: &impl Abort,
-    storage: &mut InternStorage<T>,
-    handle: Interned<T>,
-) {
-    let (len, reference) = (storage.len(), handle.as_ref());
-    let Refused { why, back } = handle.release(storage).err().expect(rt, "refused");
-    assert_eq!(rt; why, Refusal::Gone);
-    assert!(rt; back.as_ref() == reference);
-    has_len(rt, storage, len);
+    assert_eq!(rt; release_last(rt, storage, handle), T::of(number));
 }

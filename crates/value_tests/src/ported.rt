@@ -1,6 +1,6 @@
 //! A test of the Rust crate, over values of one type.
-use crate::steps::{has_len, own};
-use crate::words::{clone, differ, equal, frees, intern_again, intern_new, reads, release};
+use crate::steps::{has_len, own, release};
+use crate::words::{clone, differ, equal, frees, intern_again, intern_new, reads};
 use ra_ap_intern::InternStorage;
 
 #[test]

@@ -1,7 +1,15 @@
 //! Steps of tests over values of any type, each with the answer that it must get.
-use intern_fixtures::refusal;
-use ra_ap_intern::{InternStorage, Internable, Interned, InternedRef, Name, Refusal};
+ghost use Rattle.std.specs.Prelude.{◌≡◌, true, false};
+
+use intern_fixtures::{allowed, refusal};
+use ra_ap_intern::{InternStorage, Internable, Interned, InternedRef, Name, Refusal, Refused};
 use std::process::Abort;
+
+/// Adds a value at the end of a list.
+pub fn push<V: Drop>(rt: &impl Abort, list: &mut Vec<V>, value: V) {
+    let pushed: Result<_, _> = list.push(value);
+    pushed.expect(rt, "memory");
+}
 
 /// The reference names this birth.
 pub fn has_birth<T>(rt: &impl Abort, reference: InternedRef<T>, birth: u64) {
@@ -33,6 +41,86 @@ pub fn is_empty<T: Internable>(rt: &impl Abort, storage: &InternStorage<T>, numb
     assert_eq!(rt; (storage.number(), storage.len()), (number, 0));
 }
 
+/// Interns a value that is counted and isn't stored: it gets this birth and count 1, and nothing
+/// comes back.
+pub fn intern_new<T: Internable + Drop>(
+    rt: &impl Abort,
+    storage: &mut InternStorage<T>,
+    value: T,
+    birth: u64,
+) -> Interned<T>
+    requires { T.Internable.USE_GC ≡ false }
+{
+    let (handle, back) = allowed(Interned::new(storage, value)).expect(rt, "interned");
+    has_birth(rt, handle.as_ref(), birth);
+    assert!(rt; back.is_none());
+    has_count(rt, storage, handle.as_ref(), 1);
+    handle
+}
+
+/// Interns a value that is counted and is stored under this birth: its entry has this count then, and
+/// the value comes back.
+pub fn intern_again<T: Internable + Drop>(
+    rt: &impl Abort,
+    storage: &mut InternStorage<T>,
+    value: T,
+    counted: (u64, u64),
+) -> (Interned<T>, T)
+    requires { T.Internable.USE_GC ≡ false }
+{
+    let (birth, count) = counted;
+    let len = storage.len();
+    let (handle, back) = allowed(Interned::new(storage, value)).expect(rt, "interned");
+    has_birth(rt, handle.as_ref(), birth);
+    has_count(rt, storage, handle.as_ref(), count);
+    has_len(rt, storage, len);
+    (handle, back.expect(rt, "the value"))
+}
+
+/// Interns a value that is counted and is refused for this reason: no entry is added, and the value
+/// comes back.
+pub fn not_interned<T: Internable + Drop>(
+    rt: &impl Abort,
+    storage: &mut InternStorage<T>,
+    value: T,
+    reason: Refusal,
+) -> T
+    requires { T.Internable.USE_GC ≡ false }
+{
+    let len = storage.len();
+    let Refused { why, back } = Interned::new(storage, value).err().expect(rt, "refused");
+    assert_eq!(rt; why, reason);
+    has_len(rt, storage, len);
+    back
+}
+
+/// Interns a value that is collected and isn't stored: it gets this birth and count 0, and nothing
+/// comes back.
+pub fn intern_new_gc<T: Internable + Drop>(
+    rt: &impl Abort,
+    storage: &mut InternStorage<T>,
+    value: T,
+    birth: u64,
+) -> InternedRef<T>
+    requires { T.Internable.USE_GC ≡ true }
+{
+    let (reference, back) = allowed(Interned::new_gc(storage, value)).expect(rt, "interned");
+    has_birth(rt, reference, birth);
+    assert!(rt; back.is_none());
+    has_count(rt, storage, reference, 0);
+    reference
+}
+
+/// Reads nothing, and there is no count.
+pub fn reads_nothing<T: Internable>(
+    rt: &impl Abort,
+    storage: &InternStorage<T>,
+    reference: InternedRef<T>,
+) {
+    assert!(rt; reference.get(storage).is_none());
+    assert_eq!(rt; storage.count(reference), None);
+}
+
 /// The entry of a birth.
 pub fn stored<T: Internable>(
     rt: &impl Abort,
@@ -57,6 +145,18 @@ pub fn not_taken_over<T: Internable + Drop>(
     reason: Refusal,
 ) {
     assert_eq!(rt; refusal(Interned::from_raw(storage, birth)), Some(reason));
+}
+
+/// Takes over a count of the entry of this birth, which stays as it is.
+pub fn take_over<T: Internable>(
+    rt: &impl Abort,
+    storage: &InternStorage<T>,
+    (birth, count): (u64, u64),
+) -> Interned<T> {
+    let taken = Interned::from_raw(storage, birth).expect(rt, "taken over");
+    has_birth(rt, taken.as_ref(), birth);
+    has_count(rt, storage, taken.as_ref(), count);
+    taken
 }
 
 /// Makes an owned handle of a reference, after which the entry has this count.
@@ -101,4 +201,44 @@ pub fn not_counted_down<T: Internable>(
     reason: Refusal,
 ) {
     assert_eq!(rt; reference.decrement_refcount(storage), Err(reason));
+}
+
+/// Releases a handle that frees nothing, after which the entry has this count.
+pub fn release<T: Internable + Drop>(
+    rt: &impl Abort,
+    storage: &mut InternStorage<T>,
+    handle: Interned<T>,
+    count: u64,
+) {
+    let reference = handle.as_ref();
+    let freed = allowed(handle.release(storage)).expect(rt, "released");
+    assert!(rt; freed.is_none());
+    has_count(rt, storage, reference, count);
+}
+
+/// Releases the last handle: its entry is gone, and the value comes back.
+pub fn release_last<T: Internable + Drop>(
+    rt: &impl Abort,
+    storage: &mut InternStorage<T>,
+    handle: Interned<T>,
+) -> T {
+    let reference = handle.as_ref();
+    let freed = allowed(handle.release(storage)).expect(rt, "released");
+    reads_nothing(rt, storage, reference);
+    freed.expect(rt, "the value")
+}
+
+/// Is refused a release for this reason. The handle comes back, and no entry goes.
+pub fn not_released<T: Internable + Drop>(
+    rt: &impl Abort,
+    storage: &mut InternStorage<T>,
+    handle: Interned<T>,
+    reason: Refusal,
+) -> Interned<T> {
+    let (len, name) = (storage.len(), handle.as_ref().name());
+    let Refused { why, back } = handle.release(storage).err().expect(rt, "refused");
+    assert_eq!(rt; why, reason);
+    assert_eq!(rt; back.as_ref().name(), name);
+    has_len(rt, storage, len);
+    back
 }
