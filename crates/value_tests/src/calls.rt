@@ -99,7 +99,7 @@ fn refusals(rt: HostRuntime) {
         (
             Refusal::NumbersUsedUp,
             5,
-            "the storage has given all its numbers",
+            "the storage has given all its births",
         ),
         (Refusal::OutOfMemory, 6, "out of memory"),
     ] {
