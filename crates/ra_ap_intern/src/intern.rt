@@ -35,8 +35,8 @@ pub trait Internable: Hash + Eq {
 ///
 /// Interning takes one hash, one look-up, and a comparison with each stored value of that hash.
 /// Only a value that isn't stored takes memory. Where storing it builds the tables anew, that takes
-/// time in proportion to the entries, which is constant time a call on average. Reads, counts and
-/// removals go straight to the entry; `from_raw` looks its birth up.
+/// time in proportion to the most entries that there were at once, which is constant time a call on
+/// average. Reads, counts and removals go straight to the entry; `from_raw` looks its birth up.
 #[derive(Drop)]
 pub struct InternStorage<T: Internable> {
     store: Store<Table<T>>,
@@ -114,6 +114,7 @@ impl<T: Internable> InternStorage<T> {
     }
 
     /// A reference to the entry whose value equals this one. None where no equal value is stored.
+    /// It takes no memory.
     pub fn get(&self, obj: &T) -> Option<InternedRef<T>>
         ensures { option_map ref_name result ≡ name_of_value T.eq self.now obj.now }
     {

@@ -117,7 +117,7 @@ impl<T: SliceInternable> InternSliceStorage<T> {
     }
 
     /// A reference to the entry with this header and these items. None where no equal pair is
-    /// stored.
+    /// stored. It takes no memory.
     pub fn get(&self, header: &T::Header, slice: &[T::SliceType]) -> Option<InternedSliceRef<T>>
         ensures { let eq = sliced_eq T.Header.eq T.SliceType.eq in option_map slice_ref_name result
             ≡ name_of_value eq self.now (slice_of header.now slice.now) }

@@ -110,7 +110,7 @@ impl SymbolTable {
     }
 
     /// A reference to the symbol of a text: a preset's, or that of a text that the table keeps.
-    /// None for any other text.
+    /// None for any other text. It takes no memory.
     pub fn get(&self, text: &str) -> Option<SymbolRef>
         ensures { option_map symbol_ref_name result ≡ named_in self.now text.now }
     {
