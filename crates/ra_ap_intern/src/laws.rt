@@ -10,17 +10,18 @@ ghost use Rattle.intern_table.specs.Sliced.{Sliced, sliced_eq};
 ghost use Rattle.ra_ap_intern.specs.Constants.{constants};
 ghost use Rattle.ra_ap_intern.specs.Handle.{name_of, ref_name};
 ghost use Rattle.ra_ap_intern.specs.Slices.{slice_name, slice_ref_name};
-ghost use Rattle.ra_ap_intern.specs.Symbols.{IsTable, Named, Counted, symbol_name, has_its_text, text_of, symbol_in, due_symbol, at_entry};
+ghost use Rattle.ra_ap_intern.specs.Symbols.{IsTable, Named, Counted, symbol_name, symbol_ref_name, has_its_text, text_of, symbol_in, due_symbol, at_entry};
 ghost use Rattle.ra_ap_intern.specs.Symbols.Named.{preset, entry};
 ghost use Rattle.ra_ap_intern.specs.declared.intern.Interned.{Interned as Owned};
 ghost use Rattle.ra_ap_intern.specs.declared.intern.InternedRef.{InternedRef as Reference};
 ghost use Rattle.ra_ap_intern.specs.declared.intern_slice.InternedSlice.{InternedSlice as OwnedSlice};
 ghost use Rattle.ra_ap_intern.specs.declared.intern_slice.InternedSliceRef.{InternedSliceRef as SliceReference};
 ghost use Rattle.ra_ap_intern.specs.declared.symbol.Symbol.{Symbol as Sym};
+ghost use Rattle.ra_ap_intern.specs.declared.symbol.SymbolRef.{SymbolRef as SymRef};
 
 use crate::intern::{Interned, InternedRef};
 use crate::intern_slice::{InternedSlice, InternedSliceRef, SliceInternable};
-use crate::symbol::Symbol;
+use crate::symbol::{Symbol, SymbolRef};
 use std::cmp::Eq;
 use std::hash::Hash;
 
@@ -154,6 +155,15 @@ pub fn symbols_are_what_they_name()
         (⟦<Symbol as PartialEq>⟧.eq a b ≡ true) ↔ (symbol_name a ≡ symbol_name b) }
     ensures hashed { (a b : Sym) → symbol_name a ≡ symbol_name b →
         ⟦<Symbol as Hash>⟧.hash_input a ≡ ⟦<Symbol as Hash>⟧.hash_input b }
+{}
+
+/// References to symbols are equal exactly if they name the same preset or the same entry, and equal
+/// ones hash alike.
+pub fn symbol_references_are_what_they_name()
+    ensures equal { (a b : SymRef) →
+        (⟦<SymbolRef as PartialEq>⟧.eq a b ≡ true) ↔ (symbol_ref_name a ≡ symbol_ref_name b) }
+    ensures hashed { (a b : SymRef) → symbol_ref_name a ≡ symbol_ref_name b →
+        ⟦<SymbolRef as Hash>⟧.hash_input a ≡ ⟦<SymbolRef as Hash>⟧.hash_input b }
 {}
 
 /// The symbol of a text reads the text.

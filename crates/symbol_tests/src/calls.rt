@@ -60,6 +60,7 @@ fn a_map_by_symbols(rt: HostRuntime) {
 fn laws_are_callable() {
     laws::symbols_tell_texts();
     laws::symbols_are_what_they_name();
+    laws::symbol_references_are_what_they_name();
     laws::a_symbol_reads_its_text();
     laws::presets_are_in_no_table();
     laws::integers_are_read_back();
