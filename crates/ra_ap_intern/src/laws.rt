@@ -157,8 +157,8 @@ pub fn symbols_are_what_they_name()
         ⟦<Symbol as Hash>⟧.hash_input a ≡ ⟦<Symbol as Hash>⟧.hash_input b }
 {}
 
-/// References to symbols are equal exactly if they name the same preset or the same entry, and equal
-/// ones hash alike.
+/// References to symbols are equal exactly if they name the same preset or the same entry, and
+/// equal ones hash alike.
 pub fn symbol_references_are_what_they_name()
     ensures equal { (a b : SymRef) →
         (⟦<SymbolRef as PartialEq>⟧.eq a b ≡ true) ↔ (symbol_ref_name a ≡ symbol_ref_name b) }
