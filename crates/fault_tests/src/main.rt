@@ -1,0 +1,44 @@
+//! Makes the public calls that may want memory, and those that want none, and checks each answer.
+//!
+//! One request for memory may be refused, whichever it is: what was refused is tried once more.
+//! So the program writes the same, whatever was refused. Where a call was refused, it checks
+//! first that nothing has changed and that what was offered came back.
+#![tactic(auto)]
+
+mod fault;
+mod scene;
+mod slices;
+mod storage;
+mod symbols;
+mod values;
+
+use crate::fault::Fault;
+use crate::scene::check;
+use crate::slices::Row;
+use crate::symbols::{Call, Symbols};
+use crate::values::Term;
+use intern_fixtures::Unhashed;
+use ra_ap_intern::{InternSliceStorage, InternStorage, Text};
+use std::alloc::Global;
+use std::process::ExitCode;
+
+/// Checks each call. Another call joins by a line.
+fn check_all(rt: &(impl Print + Eprint), alloc: Global) -> Result<(), Fault> {
+    check(rt, alloc, InternStorage::<Text>::new(alloc, 1))?;
+    check(rt, alloc, InternStorage::<Unhashed>::new(alloc, 2))?;
+    check(rt, alloc, InternStorage::<Term>::new(alloc, 3))?;
+    check(rt, alloc, InternSliceStorage::<Row>::new(alloc, 4))?;
+    check(rt, alloc, Symbols::new(alloc, Call::Intern))?;
+    check(rt, alloc, Symbols::new(alloc, Call::Integer))?;
+    check(rt, alloc, Symbols::new(alloc, Call::Generated))
+}
+
+fn main(rt: HostRuntime) -> ExitCode {
+    match check_all(&rt, rt.alloc()) {
+        Ok(()) => ExitCode::SUCCESS,
+        Err(fault) => {
+            let _ = rt.eprintln(fault.text());
+            ExitCode::FAILURE
+        }
+    }
+}

@@ -1,0 +1,211 @@
+//! Storages of values, in both modes.
+ghost use Rattle.std.specs.Prelude.{true};
+
+use crate::fault::{Fault, ensure, refused};
+use crate::storage::Storage;
+use intern_fixtures::Unhashed;
+use ra_ap_intern::{InternStorage, Internable, Interned, InternedRef, Refused, Text};
+use std::alloc::{AllocError, Global};
+
+/// A text, collected.
+#[derive(Drop, PartialEq, Eq, Hash)]
+pub(crate) struct Term(Text);
+
+impl Internable for Term {
+    const USE_GC: bool = true;
+
+    ghost USE_GC = { true };
+}
+
+// What an interning answers: a reference, and what came back.
+type Answer<T> = (InternedRef<T>, Option<T>);
+
+/// A value with the call that interns it.
+pub(crate) trait Value: Internable + Drop {
+    /// The call's name.
+    fn call() -> &'static str;
+
+    /// The value of a number.
+    fn make(alloc: Global, number: u64) -> Result<Self, AllocError>;
+
+    /// A second value that is equal.
+    fn copy(&self, alloc: Global) -> Result<Self, AllocError>;
+
+    /// Makes the call. An owned handle that it gives is dropped, and keeps its count.
+    fn intern(
+        storage: &mut InternStorage<Self>,
+        value: Self,
+    ) -> Result<Answer<Self>, Refused<Self>>;
+
+    /// How much the call adds to the count.
+    fn counts() -> u64;
+}
+
+/// The text of a number: every second one is longer than lies in an entry.
+pub(crate) fn text_of(alloc: Global, number: u64) -> Result<Text, AllocError> {
+    let text = if number % 2 == 0 {
+        format!(in alloc; "text {number}")?
+    } else {
+        format!(in alloc; "a text of more than 24 bytes, {number}")?
+    };
+    Text::new(alloc, text.as_str())
+}
+
+impl Value for Text {
+    fn call() -> &'static str {
+        "Interned::new"
+    }
+
+    fn make(alloc: Global, number: u64) -> Result<Text, AllocError> {
+        text_of(alloc, number)
+    }
+
+    fn copy(&self, alloc: Global) -> Result<Text, AllocError> {
+        Text::new(alloc, self.as_str())
+    }
+
+    fn intern(
+        storage: &mut InternStorage<Text>,
+        value: Text,
+    ) -> Result<Answer<Text>, Refused<Text>> {
+        let (handle, back) = Interned::new(storage, value)?;
+        Ok((handle.as_ref(), back))
+    }
+
+    fn counts() -> u64 {
+        1
+    }
+}
+
+impl Value for Unhashed {
+    fn call() -> &'static str {
+        "Interned::new, where all values have one hash"
+    }
+
+    fn make(_alloc: Global, number: u64) -> Result<Unhashed, AllocError> {
+        Ok(Unhashed(number))
+    }
+
+    fn copy(&self, _alloc: Global) -> Result<Unhashed, AllocError> {
+        Ok(*self)
+    }
+
+    fn intern(
+        storage: &mut InternStorage<Unhashed>,
+        value: Unhashed,
+    ) -> Result<Answer<Unhashed>, Refused<Unhashed>> {
+        let (handle, back) = Interned::new(storage, value)?;
+        Ok((handle.as_ref(), back))
+    }
+
+    fn counts() -> u64 {
+        1
+    }
+}
+
+impl Value for Term {
+    fn call() -> &'static str {
+        "Interned::new_gc"
+    }
+
+    fn make(alloc: Global, number: u64) -> Result<Term, AllocError> {
+        Ok(Term(text_of(alloc, number)?))
+    }
+
+    fn copy(&self, alloc: Global) -> Result<Term, AllocError> {
+        Ok(Term(Text::new(alloc, self.0.as_str())?))
+    }
+
+    fn intern(
+        storage: &mut InternStorage<Term>,
+        value: Term,
+    ) -> Result<Answer<Term>, Refused<Term>> {
+        Interned::new_gc(storage, value)
+    }
+
+    fn counts() -> u64 {
+        0
+    }
+}
+
+impl<T: Value> Storage for InternStorage<T> {
+    type Input = T;
+
+    type Offer = T;
+
+    type Reference = InternedRef<T>;
+
+    fn call(&self) -> &'static str {
+        T::call()
+    }
+
+    fn input(&self, alloc: Global, number: u64) -> Result<T, AllocError> {
+        T::make(alloc, number)
+    }
+
+    fn offer(&self, alloc: Global, input: &T) -> Result<T, AllocError> {
+        input.copy(alloc)
+    }
+
+    fn store(&mut self, offer: T, input: &T) -> Result<InternedRef<T>, Fault> {
+        match T::intern(self, offer) {
+            Ok((reference, None)) => Ok(reference),
+            Ok(_) => Err(Fault::Wrong("a new value came back")),
+            Err(Refused { why, back }) => Err(refused(why, back == *input)),
+        }
+    }
+
+    fn lengths(&self) -> (usize, usize) {
+        (self.len(), self.iter().count())
+    }
+
+    fn shows(&self, reference: InternedRef<T>, input: &T, number: u64) -> bool {
+        reference.as_raw() == number
+            && self.get(input) == Some(reference)
+            && InternedRef::from_raw(self, number) == Ok(reference)
+            && reference.get(self) == Some(input)
+            && self.count(reference) == Some(T::counts())
+    }
+
+    fn keeps(&self) -> bool {
+        T::USE_GC
+    }
+
+    fn free(&mut self, reference: InternedRef<T>, input: &T) -> Result<(), Fault> {
+        let last = Interned::from_raw(self, reference.as_raw())?;
+        let freed = last.release(self)?;
+        ensure(
+            freed.as_ref() == Some(input),
+            "a freed value did not come back",
+        )?;
+        ensure(reference.get(self).is_none(), "a freed value is read")
+    }
+
+    fn pass(&mut self, reference: InternedRef<T>, offer: T, input: &T) -> Result<(), Fault> {
+        let (again, back) = T::intern(self, offer)?;
+        ensure(again == reference, "a stored value has another birth")?;
+        ensure(
+            back.as_ref() == Some(input),
+            "a stored value did not come back",
+        )?;
+        if T::counts() > 0 {
+            reference.decrement_refcount(self)?;
+        }
+        let owned = reference.to_owned(self)?;
+        let second = owned.clone(self)?;
+        drop(owned);
+        let taken = Interned::from_raw(self, reference.as_raw())?;
+        ensure(taken == second, "two handles of a value differ")?;
+        ensure(
+            taken.get(self) == Some(input),
+            "a handle reads something else",
+        )?;
+        kept(taken.release(self)?)?;
+        kept(second.release(self)?)
+    }
+}
+
+// Fails where a release freed a value.
+fn kept<T: Drop>(value: Option<T>) -> Result<(), Fault> {
+    ensure(value.is_none(), "a value was freed that has owners")
+}
