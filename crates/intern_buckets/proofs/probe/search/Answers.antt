@@ -1,0 +1,16 @@
+use Rattle.std.proofs.Common.{drop, sym, ◌∙◌}
+use Rattle.intern_buckets.proofs.Searching.{passed_all, passed_step, none_left, nothing_met, nothing_left}
+use Rattle.intern_buckets.proofs.probe.search.Goals as goal
+
+pub loop-bucket-init : goal.loop-bucket-init
+loop-bucket-init g c = passed_all (g.Q.Test.passes c.args.test.now) c.args.hash c.args.table.now _ c.probe-bucket-items.ensures
+
+pub loop-bucket-preserved : goal.loop-bucket-preserved
+loop-bucket-preserved g c = passed_step (g.Q.Test.passes c.args.test.now) c.args.hash c.args.table.now _ _ c.loop-bucket.invariant c.loop-bucket-test.true c.in_default.ensures.none
+
+pub returns-then-is_empty-clause-none : goal.returns-then-is_empty-clause-none
+returns-then-is_empty-clause-none g c =
+    none_left (g.Q.Test.passes c.args.test.now) c.args.hash c.args.table.now (drop c.loop-bucket.bucket-index c.probe-bucket-items.result.now) c.loop-bucket.invariant (nothing_met _ _ c.loop-bucket-test.true (sym c.is_empty.ensures ∙ c.if-is_empty.true))
+
+pub returns-clause-none : goal.returns-clause-none
+returns-clause-none g c = none_left (g.Q.Test.passes c.args.test.now) c.args.hash c.args.table.now (drop c.loop-bucket.bucket-index c.probe-bucket-items.result.now) c.loop-bucket.invariant (nothing_left _ _ c.loop-bucket-test.false)

@@ -1,0 +1,21 @@
+-- How full a table is.
+use Rattle.std.specs.Prelude.{ℕ, ◌<◌}
+use Rattle.std.specs.Vec.{vec_len, vec_capacity}
+use Rattle.intern_buckets.specs.Probing.{full_count}
+use Rattle.intern_buckets.specs.declared.buckets.Buckets.{Buckets}
+
+-- how many homes there are
+abbrev pub homes_of : Buckets → ℕ
+homes_of t = t.homes
+
+-- how many buckets are full
+abbrev pub full_of : Buckets → ℕ
+full_of t = full_count t.buckets.items
+
+-- how many buckets there is room for
+abbrev pub capacity_of : Buckets → ℕ
+capacity_of t = vec_capacity t.buckets
+
+-- there is room for one more bucket
+abbrev pub HasRoom : Buckets → Type 0
+HasRoom t = vec_len t.buckets < capacity_of t

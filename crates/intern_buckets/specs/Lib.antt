@@ -1,0 +1,4 @@
+pub mod Filling
+pub mod Leading
+pub mod Mixed
+pub mod Probing

@@ -1,0 +1,136 @@
+//! A hash table of places.
+ghost use Rattle.std.specs.Prelude.{◌≡◌, ℕ, ◌+◌, ◌<◌, ◌≤◌, ◌^◌};
+ghost use Rattle.std.specs.Prelude.{length, Some, true, IfOk, OnOk};
+ghost use Rattle.intern_buckets.specs.Probing.{home, bucket, is_empty};
+
+use std::alloc::{AllocError, Global};
+
+/// How many places a bucket can tell apart: more than any memory holds entries.
+pub const PLACES: usize = 1 << 48;
+
+// How many buckets there is room for behind the homes at first.
+const SPARE: usize = 64;
+
+/// Where an entry may lie: 16 bits of its hash, its tag, above 48 bits of its place, counted from
+/// one. Zero is an empty bucket.
+#[derive(Clone, Copy)]
+pub(crate) struct Bucket(u64);
+
+const EMPTY: Bucket = Bucket(0);
+
+/// A table of places by hashes, with open addressing and linear probing.
+///
+/// The probe sequence of a hash begins at the hash's home, and ends at the first empty bucket or at
+/// the end. Buckets are filled and never emptied until the table is built anew: one may lead to a
+/// place that has no entry, or one of another hash.
+#[derive(Drop)]
+pub struct Buckets {
+    buckets: Vec<Bucket>,
+    homes: usize,
+    ghost in_range: { homes ≤ length buckets.items },
+}
+
+impl Bucket {
+    // The bucket of an entry.
+    fn of(hash: u64, place: usize) -> Bucket
+        requires { place + 1 < 2 ^ 48 }
+        ensures { result ≡ bucket hash place }
+    {
+        Bucket((hash % (1 << 16)) * (1 << 48) + (place as u64 + 1))
+    }
+
+    /// Whether no entry was entered here.
+    pub(crate) fn is_empty(self) -> bool
+        ensures { result ≡ is_empty self }
+    {
+        self.0 == 0
+    }
+
+    /// The place, where the bucket may be that of an entry of this hash.
+    pub(crate) fn place(self, hash: u64) -> Option<usize>
+        ensures { (p : ℕ) → p + 1 < 2 ^ 48 → self ≡ bucket hash p → result ≡ Some p }
+    {
+        if self.0 / (1 << 48) != hash % (1 << 16) {
+            return None;
+        }
+        ((self.0 % (1 << 48)) as usize).checked_sub(1)
+    }
+}
+
+impl Buckets {
+    ghost use Rattle.intern_buckets.specs.Filling.{homes_of, full_of, capacity_of, HasRoom};
+    ghost use Rattle.intern_buckets.specs.Leading.{leads, probe_sequence};
+
+    /// A table without a bucket. It takes no memory.
+    pub fn new(alloc: Global) -> Buckets
+        ensures { full_of result ≡ 0 }
+    {
+        Buckets {
+            buckets: Vec::new(alloc),
+            homes: 0,
+        }
+    }
+
+    /// An empty table for this many places, with eight homes for each seven.
+    pub fn with_room(alloc: Global, places: usize) -> Result<Buckets, AllocError>
+        ensures empty { IfOk result (λ t. full_of t ≡ 0) }
+        ensures homes { IfOk result (λ t. places ≤ homes_of t) }
+    {
+        let homes = places.saturating_add(places / 7);
+        let mut buckets = Vec::with_capacity(alloc, homes.saturating_add(SPARE))?;
+        buckets.resize(homes, EMPTY)?;
+        Ok(Buckets { buckets, homes })
+    }
+
+    // Where the probe sequence of a hash begins.
+    fn home(&self, hash: u64) -> usize
+        ensures value { result ≡ home self.now.homes hash }
+        ensures bound { result ≤ self.now.homes }
+    {
+        ((hash as u128 * self.homes as u128) >> 64) as usize
+    }
+
+    /// The probe sequence of a hash.
+    pub(crate) fn probe(&self, hash: u64) -> &[Bucket]
+        ensures { result.now ≡ probe_sequence self.now hash }
+    {
+        &self.buckets.as_slice()[self.home(hash)..]
+    }
+
+    /// Makes room for one more bucket.
+    pub fn reserve(&mut self) -> Result<(), AllocError>
+        ensures homes { homes_of self.new ≡ homes_of self.old }
+        ensures full { full_of self.new ≡ full_of self.old }
+        ensures led { (h p : ℕ) → leads self.new h p ≡ leads self.old h p }
+        ensures ok { OnOk result (HasRoom self.new) }
+    {
+        self.buckets.reserve(1)
+    }
+
+    /// Enters a place under a hash.
+    pub fn enter(&mut self, hash: u64, place: usize)
+        requires small { place + 1 < 2 ^ 48 }
+        requires room { HasRoom self.old }
+        ensures homes { homes_of self.new ≡ homes_of self.old }
+        ensures full { full_of self.new ≡ full_of self.old + 1 }
+        ensures entered { leads self.new hash place ≡ true }
+        ensures still { (h p : ℕ) →
+            leads self.old h p ≡ true → leads self.new h p ≡ true }
+    {
+        let bucket = Bucket::of(hash, place);
+        for at in self.home(hash)..self.buckets.len() {
+            if self.buckets[at].is_empty() {
+                self.buckets[at] = bucket;
+                return;
+            }
+        }
+        self.buckets.push_reserved(bucket);
+    }
+
+    /// How many buckets there is room for.
+    pub fn capacity(&self) -> usize
+        ensures { result ≡ capacity_of self.now }
+    {
+        self.buckets.capacity()
+    }
+}
