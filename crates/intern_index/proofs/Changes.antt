@@ -8,10 +8,10 @@ use Rattle.std.proofs.lemmas.Bool.{cases_eq, eqb-true}
 use Rattle.std.proofs.lemmas.Option.{same_Some}
 use Rattle.slab.specs.Slab.{Slab, get, Updates}
 use Rattle.intern_store.proofs.Compared.{get-inserted, get-removed}
+use Rattle.intern_buckets.specs.Leading.{leads}
+use Rattle.intern_buckets.specs.declared.buckets.Buckets.{Buckets}
 use Rattle.intern_index.specs.IndexEntry.{IndexEntry}
-use Rattle.intern_index.specs.Leading.{leads}
 use Rattle.intern_index.specs.Entries.{seen, held, birth_at, IsTied}
-use Rattle.intern_index.specs.declared.buckets.Buckets.{Buckets}
 use Rattle.intern_index.specs.declared.entry.Entry.{Entry}
 use Rattle.intern_index.proofs.Held.{entry_there, birth_there, updated, seen_at}
 

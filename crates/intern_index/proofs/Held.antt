@@ -9,9 +9,9 @@ use Rattle.std.proofs.lemmas.Option.{same_Some}
 use Rattle.std.proofs.lemmas.List.Sums.{sum_by-cons}
 use Rattle.slab.specs.Slab.{Slab, get, slab_len, Updates}
 use Rattle.intern_store.proofs.Compared.{get-inserted}
+use Rattle.intern_buckets.specs.declared.buckets.Buckets.{Buckets}
 use Rattle.intern_index.specs.IndexEntry.{IndexEntry}
 use Rattle.intern_index.specs.Entries.{seen, held_from, held, birth_at, AreTold, IsTied}
-use Rattle.intern_index.specs.declared.buckets.Buckets.{Buckets}
 use Rattle.intern_index.specs.declared.entry.Entry.{Entry}
 
 module _ {T N : Type 0} where

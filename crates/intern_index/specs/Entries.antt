@@ -1,12 +1,12 @@
 -- The entries of a slab, and the map that they make.
-use Rattle.std.specs.Prelude.{◌≡◌, ℕ, ◌+◌, ◌<◌, ◌^◌, Bool, true, List, [], ◌∷◌, Option, Some, None}
-use Rattle.std.specs.Option.{option_map}
+use Rattle.std.specs.Prelude.{◌≡◌, ℕ, ◌+◌, ◌<◌, ◌^◌, Bool, true, false, List, [], ◌∷◌, Option, Some, None}
+use Rattle.std.specs.Option.{option_map, option_map_or}
 use Rattle.std.specs.Ordering.{nat_cmp}
 use Rattle.std.specs.FinMap.{FinMap, empty, insert}
 use Rattle.slab.specs.Slab.{Slab, get}
+use Rattle.intern_buckets.specs.Leading.{leads}
+use Rattle.intern_buckets.specs.declared.buckets.Buckets.{Buckets}
 use Rattle.intern_index.specs.IndexEntry.{IndexEntry}
-use Rattle.intern_index.specs.Leading.{leads}
-use Rattle.intern_index.specs.declared.buckets.Buckets.{Buckets}
 use Rattle.intern_index.specs.declared.entry.Entry.{Entry}
 
 module _ {T N : Type 0} where
@@ -27,9 +27,9 @@ module _ {T N : Type 0} where
   abbrev pub birth_at : Slab (Entry T N) → ℕ → Option ℕ
   birth_at s p = option_map (λ e. e.birth) (get s p)
 
-  -- the entry at a place passes a test
-  abbrev pub PassesAt : (Entry T N → Bool) → Slab (Entry T N) → ℕ → Type 0
-  PassesAt passes s p = option_map passes (get s p) ≡ Some true
+  -- whether there is an entry at a place, and it passes a test
+  abbrev pub passes_at : (Entry T N → Bool) → Slab (Entry T N) → ℕ → Bool
+  passes_at passes s p = option_map_or passes (get s p) false
 
   -- buckets tell the places of the entries apart
   abbrev pub AreTold : Slab (Entry T N) → Type 0

@@ -1,9 +1,6 @@
 pub mod Entries
 pub mod IndexEntry
-pub mod Leading
 pub mod Listed
-pub mod Mixed
 pub mod Ordered
-pub mod Probing
 pub mod Seen
 pub mod Swept

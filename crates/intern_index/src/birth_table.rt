@@ -1,19 +1,16 @@
 //! Births in a table of buckets.
-ghost use Rattle.std.specs.Prelude.{◌≡◌, ◌==◌, ℕ, ◌<◌, true, Some};
-ghost use Rattle.std.specs.Vec.{vec_len, vec_capacity};
-ghost use Rattle.intern_index.specs.Leading.{leads};
-ghost use Rattle.intern_index.specs.Mixed.{mixed};
+ghost use Rattle.std.specs.Prelude.{◌≡◌, ◌==◌, ℕ, true, Some};
+ghost use Rattle.intern_buckets.specs.Filling.{HasRoom as HasBucket};
+ghost use Rattle.intern_buckets.specs.Leading.{leads};
+ghost use Rattle.intern_buckets.specs.Mixed.{mixed};
+ghost use Rattle.intern_index.specs.Entries.{passes_at};
 
 use crate::births::Births;
-use crate::buckets::Buckets;
 use crate::entry::Entry;
-use crate::search::{Test, search};
 use crate::table_of::{Key, table_of};
+use intern_buckets::{Buckets, Test, mix, search};
 use slab::Slab;
 use std::alloc::{AllocError, Global};
-
-// Half of the bits of the golden ratio.
-const FACTOR: u64 = 0x9E37_79B9_7F4A_7C15;
 
 /// The places of births in a table of buckets. A birth that goes leaves its bucket behind, until
 /// the table is built anew.
@@ -22,22 +19,21 @@ pub struct BirthTable {
     buckets: Buckets,
 }
 
-// Births that follow one another would fill neighbouring buckets.
-fn mix(birth: u64) -> u64
-    ensures { result ≡ mixed birth }
-{
-    birth.wrapping_mul(FACTOR)
+// The place of the entry of a birth.
+#[derive_where(Clone, Copy)]
+struct OfBirth<'a, T, N: Copy> {
+    slots: &'a Slab<Entry<T, N>>,
+    birth: u64,
 }
 
-// The entry of a birth.
-#[derive(Clone, Copy)]
-struct OfBirth(u64);
+impl<T, N: Copy> Test for OfBirth<'_, T, N> {
+    ghost passes = { λ t p. passes_at (λ e. e.birth == t.birth) t.slots.now p };
 
-impl<T, N: Copy> Test<T, N> for OfBirth {
-    ghost passes = { λ t e. e.birth == t.0 };
-
-    fn passes(&self, entry: &Entry<T, N>) -> bool {
-        entry.birth == self.0
+    fn passes(&self, place: usize) -> bool {
+        match self.slots.get(place) {
+            Some(entry) => entry.birth == self.birth,
+            None => false,
+        }
     }
 }
 
@@ -65,7 +61,7 @@ impl Births for BirthTable {
     ghost IsFor = { λ t at. (p b : ℕ) →
         at p ≡ Some b → leads t.buckets (mixed b) p ≡ true };
 
-    ghost HasRoom = { λ t. vec_len t.buckets.buckets < vec_capacity t.buckets.buckets };
+    ghost HasRoom = { λ t. HasBucket t.buckets };
 
     fn new(alloc: Global) -> BirthTable {
         BirthTable {
@@ -75,7 +71,7 @@ impl Births for BirthTable {
 
     #[cold]
     fn find<T, N: Copy>(&self, slots: &Slab<Entry<T, N>>, birth: u64) -> Option<usize> {
-        search(slots, &self.buckets, mix(birth), &OfBirth(birth))
+        search(&self.buckets, mix(birth), &OfBirth { slots, birth })
     }
 
     fn reserve(&mut self) -> Result<(), AllocError> {

@@ -10,15 +10,14 @@ ghost use Rattle.intern_index.specs.Listed.{listed};
 
 use crate::birth_order::BirthOrder;
 use crate::births::Births;
-use crate::buckets::PLACES;
 use crate::change::Change;
 use crate::entry::Entry;
 use crate::iter::Iter;
 use crate::offer::Offer;
 use crate::query::{OfHash, Query};
-use crate::search::search;
 use crate::sweep::keep_marked;
 use crate::tables::Tables;
+use intern_buckets::{PLACES, search};
 use intern_store::{Marks, Spot};
 use slab::Slab;
 use std::alloc::Global;
@@ -195,8 +194,12 @@ impl<T, N: Copy, B: Births> Index<T, N, B> {
         ensures none { IfNone result ((b : ℕ) → has_hash hash (map.get self.now b) ≡ true →
             is_sought (Q.fits query.now) (map.get self.now b) ≡ false) }
     {
-        let test = OfHash { hash, query };
-        let place = search(&self.slots, &self.tables.by_hash, hash, &test)?;
+        let test = OfHash {
+            slots: &self.slots,
+            hash,
+            query,
+        };
+        let place = search(&self.tables.by_hash, hash, &test)?;
         let birth = self.slots[place].birth;
         Some(Spot { birth, place })
     }

@@ -4,14 +4,12 @@
 mod birth_order;
 mod birth_table;
 mod births;
-mod buckets;
 mod change;
 mod entry;
 mod index;
 mod iter;
 mod offer;
 mod query;
-mod search;
 mod sweep;
 mod table_of;
 mod tables;

@@ -1,16 +1,15 @@
 //! What finds the places of entries.
 ghost use Rattle.std.specs.Prelude.{◌≡◌, ◌≢◌, ℕ, ◌+◌, ◌<◌, ◌≤◌, ◌^◌};
 ghost use Rattle.std.specs.Prelude.{true, Option, Some, None, OnOk};
-ghost use Rattle.std.specs.Vec.{vec_len, vec_capacity};
-ghost use Rattle.intern_index.specs.Entries.{IsTied};
 ghost use Rattle.slab.specs.Slab.{slab_len};
-ghost use Rattle.intern_index.specs.Leading.{leads};
-ghost use Rattle.intern_index.specs.Probing.{full_count};
+ghost use Rattle.intern_buckets.specs.Filling.{homes_of, full_of, HasRoom};
+ghost use Rattle.intern_buckets.specs.Leading.{leads};
+ghost use Rattle.intern_index.specs.Entries.{IsTied};
 
 use crate::births::Births;
-use crate::buckets::Buckets;
 use crate::entry::Entry;
 use crate::table_of::{Key, table_of};
+use intern_buckets::Buckets;
 use slab::Slab;
 use std::alloc::{AllocError, Global};
 
@@ -36,7 +35,7 @@ pub(crate) struct Tables<B: Births> {
     pub(crate) births: B,
     // how many entries may be entered before the tables are built anew
     left: usize,
-    ghost homed: { full_count by_hash.buckets.items + left ≤ by_hash.homes },
+    ghost homed: { full_of by_hash + left ≤ homes_of by_hash },
 }
 
 impl<B: Births> Tables<B> {
@@ -61,8 +60,7 @@ impl<B: Births> Tables<B> {
     ) -> Result<(), AllocError>
         requires { IsTied slots.now self.old.by_hash (B.IsFor self.old.births) }
         ensures tied { IsTied slots.now self.new.by_hash (B.IsFor self.new.births) }
-        ensures once { OnOk result
-            (full_count self.new.by_hash.buckets.items ≡ slab_len slots.now) }
+        ensures once { OnOk result (full_of self.new.by_hash ≡ slab_len slots.now) }
         ensures left { OnOk result (0 < self.new.left) }
     {
         let entries = slots.len();
@@ -82,8 +80,7 @@ impl<B: Births> Tables<B> {
     ) -> Result<(), AllocError>
         requires { IsTied slots.now self.old.by_hash (B.IsFor self.old.births) }
         ensures tied { IsTied slots.now self.new.by_hash (B.IsFor self.new.births) }
-        ensures bucket { OnOk result
-            (vec_len self.new.by_hash.buckets < vec_capacity self.new.by_hash.buckets) }
+        ensures bucket { OnOk result (HasRoom self.new.by_hash) }
         ensures birth { OnOk result (B.HasRoom self.new.births) }
         ensures left { OnOk result (0 < self.new.left) }
     {
@@ -97,7 +94,7 @@ impl<B: Births> Tables<B> {
     /// Enters an entry of a birth above all others.
     pub(crate) fn enter(&mut self, hash: u64, birth: u64, place: usize)
         requires small { place + 1 < 2 ^ 48 }
-        requires bucket { vec_len self.old.by_hash.buckets < vec_capacity self.old.by_hash.buckets }
+        requires bucket { HasRoom self.old.by_hash }
         requires birth { B.HasRoom self.old.births }
         requires left { 0 < self.old.left }
         ensures entered { leads self.new.by_hash hash place ≡ true }

@@ -1,9 +1,7 @@
 use Rattle.std.proofs.Common.{inl, inr, refl, ap, sym, ◌∙◌, length, arith}
 use Rattle.slab.proofs.SlabLemmas.{Contains-cons, Contains-cons_cases, Contains-entries, length-entries}
-use Rattle.intern_index.specs.Leading.{leads}
-use Rattle.intern_index.specs.Probing.{full_count}
+use Rattle.intern_buckets.specs.Leading.{leads}
 use Rattle.intern_index.proofs.Held.{told_there}
-use Rattle.intern_index.proofs.Probing.{led_still}
 use Rattle.intern_index.proofs.table_of.table_of.Goals as goal
 
 pub loop-place-init : goal.loop-place-init
@@ -31,7 +29,7 @@ loop-place-preserved g c =
       left = λ p e is. before.left p e (rw next (Contains-cons _ _ _ is));
       led = λ p e there.
           elim (before.led p e there) [
-            | inl led ↦ inl (entered.still (key e) p (led_still c.loop-place.table c.reserve.new.self room.buckets room.homes (key e) p led))
+            | inl led ↦ inl (entered.still (key e) p (room.led (key e) p ∙ led))
             | inr is ↦
                 elim (Contains-cons_cases _ _ _ (rw next at is)) [
                   | inl here ↦
@@ -42,8 +40,7 @@ loop-place-preserved g c =
           ];
       once =
           let one = ap length next in
-          let kept = ap full_count room.buckets in
-          omega (arith, entered.full, before.once);
+          omega (arith, room.full, entered.full, before.once);
       homes = omega (arith, before.homes, room.homes, entered.homes);
     }
 

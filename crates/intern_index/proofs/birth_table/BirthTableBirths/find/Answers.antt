@@ -1,21 +1,38 @@
-use Rattle.std.proofs.Common.{◌≡◌, ◌≢◌, ◌==◌, ℕ, Bool, true, false, Option, Some, None, IfNone, ap, ◌∙◌}
-use Rattle.std.proofs.lemmas.Bool.{eq-eqb}
+use Rattle.std.proofs.Common.{◌≡◌, ◌≢◌, ◌==◌, ℕ, ◌+◌, ◌<◌, ◌^◌, Bool, true, false, Option, Some, None, IfSome, IfNone, ap, sym, ◌∙◌}
+use Rattle.std.specs.Option.{option_map, option_map_or}
+use Rattle.std.proofs.lemmas.Bool.{eq-eqb, eqb-true}
 use Rattle.slab.specs.Slab.{Slab, get}
-use Rattle.intern_index.specs.Leading.{leads}
-use Rattle.intern_index.specs.Entries.{birth_at}
+use Rattle.intern_buckets.specs.Leading.{leads}
+use Rattle.intern_index.specs.Entries.{birth_at, passes_at, AreTold}
 use Rattle.intern_index.specs.declared.entry.Entry.{Entry}
 use Rattle.intern_index.proofs.Held.{entry_there}
 use Rattle.intern_index.proofs.birth_table.BirthTableBirths.find.Goals as goal
 
--- where no entry that is led to has the birth, no place has it
-absent : {T N : Type 0} (s : Slab (Entry T N)) (led : ℕ → Bool) (b : ℕ) (r : Option ℕ) → IfNone r ((p : ℕ) (e : Entry T N) → get s p ≡ Some e → led p ≡ true → (e.birth == b) ≡ false)
-    → ((p : ℕ) → birth_at s p ≡ Some b → led p ≡ true) → IfNone r ((p : ℕ) → birth_at s p ≢ Some b)
-absent s led b (Some p) none known = tt
-absent s led b None none known = λ p is.
-    let w = entry_there s p b is in
-    let other = none p w.0 w.1 (known p is) in
-    let same = eq-eqb w.0.birth b w.2 in
-    absurd (cc)
+module _ {T N : Type 0} (s : Slab (Entry T N)) (b : ℕ) where
+  abbrev has_birth : Entry T N → Bool
+  has_birth e = e.birth == b
+
+  -- a place that passes has the birth
+  found_of : (o : Option (Entry T N)) → option_map_or has_birth o false ≡ true → option_map (λ (e : Entry T N). e.birth) o ≡ Some b
+  found_of None passes = absurd (cc)
+  found_of (Some e) passes = ap Some (eqb-true e.birth b passes)
+
+  found : (r : Option ℕ) → IfSome r (λ p. passes_at has_birth s p ≡ true) → IfSome r (λ p. birth_at s p ≡ Some b)
+  found None passes = tt
+  found (Some p) passes = found_of (get s p) passes
+
+  -- where no place that is led to has the birth, none has it
+  absent : (led : ℕ → Bool) (r : Option ℕ) → IfNone r ((p : ℕ) → p + 1 < 2 ^ 48 → led p ≡ true → passes_at has_birth s p ≡ false)
+      → ((p : ℕ) → birth_at s p ≡ Some b → led p ≡ true) → AreTold s → IfNone r ((p : ℕ) → birth_at s p ≢ Some b)
+  absent led (Some p) none known told = tt
+  absent led None none known told = λ p is.
+      let w = entry_there s p b is in
+      let other = sym (ap (λ o. option_map_or has_birth o false) w.1) ∙ none p (told p b is) (known p is) in
+      let same = eq-eqb w.0.birth b w.2 in
+      absurd (cc)
+
+pub returns-clause-found : goal.returns-clause-found
+returns-clause-found g c = found c.args.slots.now c.args.birth _ c.search.ensures.found
 
 pub returns-clause-absent : goal.returns-clause-absent
-returns-clause-absent g c = absent c.args.slots.now _ c.args.birth _ c.search.ensures.none (λ p is. ap (λ h. leads c.args.self.now.buckets h p) c.mix.ensures ∙ c.requires.known p c.args.birth is)
+returns-clause-absent g c = absent c.args.slots.now c.args.birth _ _ c.search.ensures.none (λ p is. ap (λ h. leads c.args.self.now.buckets h p) c.mix.ensures ∙ c.requires.known p c.args.birth is) c.requires.told

@@ -1,4 +1,4 @@
-use Rattle.std.proofs.Common.{sym, ap, subst}
+use Rattle.std.proofs.Common.{sym, subst}
 use Rattle.std.specs.Prelude.{IsPermutation, map as list_map}
 use Rattle.intern_index.specs.Listed.{listed_at, listed}
 use Rattle.intern_index.proofs.Listings.{listed_in}
