@@ -71,7 +71,8 @@ impl Buckets {
         }
     }
 
-    /// An empty table for this many places, with eight homes for each seven.
+    /// An empty table for this many places, with eight homes for each seven, or `AllocError` where
+    /// there is no memory for it.
     pub fn with_room(alloc: Global, places: usize) -> Result<Buckets, AllocError>
         ensures empty { IfOk result (λ t. full_of t ≡ 0) }
         ensures homes { IfOk result (λ t. places ≤ homes_of t) }
@@ -97,7 +98,7 @@ impl Buckets {
         &self.buckets.as_slice()[self.home(hash)..]
     }
 
-    /// Makes room for one more bucket.
+    /// Makes room for one more bucket. Where there is no memory, the table leads where it did.
     pub fn reserve(&mut self) -> Result<(), AllocError>
         ensures homes { homes_of self.new ≡ homes_of self.old }
         ensures full { full_of self.new ≡ full_of self.old }
@@ -107,7 +108,7 @@ impl Buckets {
         self.buckets.reserve(1)
     }
 
-    /// Enters a place under a hash.
+    /// Enters a place under a hash, in room that was made before. It takes no memory.
     pub fn enter(&mut self, hash: u64, place: usize)
         requires small { place + 1 < 2 ^ 48 }
         requires room { HasRoom self.old }

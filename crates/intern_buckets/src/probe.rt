@@ -5,7 +5,7 @@ ghost use Rattle.intern_buckets.specs.Probing.{bucket as bucket_of};
 
 use crate::buckets::{Bucket, Buckets};
 
-/// A test of places.
+/// A test of what lies at places.
 pub trait Test {
     // Whether the entry at a place passes.
     ghost passes: { Self → ℕ → Bool };
@@ -29,7 +29,8 @@ fn place_of<Q: Test>(bucket: Bucket, hash: u64, test: &Q) -> Option<usize>
     }
 }
 
-/// A place that passes a test, among those that a hash's probe sequence leads to.
+/// A place that passes a test, among those that a hash's probe sequence leads to. It takes no
+/// memory.
 pub fn search<Q: Test>(table: &Buckets, hash: u64, test: &Q) -> Option<usize>
     ensures found { IfSome result (λ p. Q.passes test.now p ≡ true) }
     ensures none { IfNone result ((p : ℕ) → p + 1 < 2 ^ 48
