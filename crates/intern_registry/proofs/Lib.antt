@@ -1,0 +1,4 @@
+pub mod Parted
+pub mod Listed
+pub mod Named
+pub mod Changed

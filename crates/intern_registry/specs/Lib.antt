@@ -1,0 +1,4 @@
+pub mod Parts
+pub mod Registry
+pub mod Slotted
+pub mod Tied

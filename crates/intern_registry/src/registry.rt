@@ -1,0 +1,172 @@
+//! Names in slots, storage after storage.
+ghost use Rattle.std.specs.Prelude.{◌≡◌, ◌<◌, ◌≤◌, ℕ, length};
+ghost use Rattle.std.specs.Prelude.{Some, None, true, IfSome, IfNone, IfOk, OnOk, OnErr, option_and_then};
+ghost use Rattle.std.specs.Option.{option_map};
+ghost use Rattle.intern_store.specs.declared.names.Name.{Name as EntryName};
+ghost use Rattle.intern_registry.specs.Registry.{names, IsRegistry, no_names, added};
+ghost use Rattle.intern_registry.specs.Registry.{with_mark, is_unmarked};
+
+use crate::find::{hash_of, hinted, key_at, search_for, vacant_slot};
+use crate::flags::Flags;
+use crate::part::{Part, extend};
+use crate::slots::Slots;
+use intern_buckets::{Buckets, PLACES};
+use intern_store::EntryKey;
+use std::alloc::{AllocError, Global};
+use std::marker::Model;
+
+/// The names of the entries of some storages, in slots.
+///
+/// Where entries are added in the order of their places, each is in the slot of its place, counted
+/// from the first slot of its storage. A name is looked up there first, and then in a hash table:
+/// it takes constant time, beside a walk over the storages. Only `with_room`, `begin` and `add` take
+/// memory: 11 bytes a slot and 9 an entry.
+#[derive(Drop)]
+pub struct Registry {
+    parts: Vec<Part>,
+    slots: Slots,
+    table: Buckets,
+    size: usize,
+}
+
+impl Model for Registry {
+    ghost use Rattle.intern_registry.specs.Registry.{Register};
+
+    ghost Value = { Register };
+
+    ghost use Rattle.std.specs.Prelude.{None};
+    ghost use Rattle.intern_registry.specs.Parts.{last_number};
+    ghost use Rattle.intern_registry.specs.Slotted.{registered_in};
+    ghost use Rattle.intern_registry.specs.Tied.{IsTied};
+
+    ghost view = { λ a. record {
+      slots = registered_in a.parts.items a.slots;
+      storage = last_number None a.parts.items;
+    } };
+
+    ghost invariant = { λ a. IsTied a.parts.items a.slots a.table a.size };
+}
+
+impl Registry {
+    /// A registry of nothing. It takes no memory.
+    pub fn new(alloc: Global) -> Registry
+        ensures { names result ≡ no_names }
+    {
+        Registry {
+            parts: Vec::new(alloc),
+            slots: Slots::new(alloc),
+            table: Buckets::new(alloc),
+            size: 0,
+        }
+    }
+
+    /// A registry of nothing, with room for this many entries. Look-ups slow down past them.
+    pub fn with_room(alloc: Global, entries: usize) -> Result<Registry, AllocError>
+        ensures { IfOk result (λ r. names r ≡ no_names) }
+    {
+        Ok(Registry {
+            parts: Vec::new(alloc),
+            slots: Slots::with_room(alloc, entries)?,
+            table: Buckets::with_room(alloc, entries)?,
+            size: 0,
+        })
+    }
+
+    /// The entries that are added from here on are those of the storage of this number. After a
+    /// refusal nothing has changed.
+    pub fn begin(&mut self, number: u64) -> Result<(), AllocError>
+        ensures ok { OnOk result
+            (names self.new ≡ record (names self.old) { storage = Some number }) }
+        ensures err { OnErr result (self.new ≡ self.old) }
+    {
+        let slot = self.slots.len();
+        self.parts.push(Part {
+            number,
+            start: slot,
+            end: slot,
+        })?;
+        Ok(())
+    }
+
+    /// Adds an entry of the storage that was begun last. Its name isn't registered. After a refusal
+    /// nothing has changed.
+    ///
+    /// The entry's slot is that of its place. Slots before it that no entry takes stay vacant, and
+    /// where the slot is taken or passed over already, the entry's is the next.
+    pub fn add(&mut self, key: EntryKey, is_counted: bool) -> Result<(), AllocError>
+        requires begun { (names self.old).storage ≡ Some key.name.storage }
+        requires new { (names self.old).flags key.name ≡ None }
+        ensures ok { let old = names self.old in OnOk result (names self.new
+            ≡ record (added old key.name is_counted) { name_at = (names self.new).name_at }) }
+        ensures err { OnErr result (self.new ≡ self.old) }
+    {
+        let slot = vacant_slot(self.parts.as_slice(), &self.slots, key.place);
+        if slot >= PLACES - 1 {
+            return Err(AllocError);
+        }
+        self.table.reserve()?;
+        self.slots.reserve(slot + 1)?;
+        let flags = Flags {
+            is_counted,
+            is_marked: false,
+        };
+        self.slots.put(slot, key.name.birth, flags);
+        extend(&mut self.parts, slot + 1);
+        self.table.enter(hash_of(key.name), slot);
+        self.size += 1;
+        Ok(())
+    }
+
+    /// How many names are registered.
+    pub fn len(&self) -> usize
+        ensures size { result ≡ (names self.now).size }
+        ensures registry { IsRegistry (names self.now) }
+        ensures marks { (names self.now).marks ≤ (names self.now).size }
+    {
+        self.size
+    }
+
+    /// How many slots there are.
+    pub fn slots(&self) -> usize
+        ensures { result ≡ length self.now.slots }
+    {
+        self.slots.len()
+    }
+
+    /// The slot of a name.
+    pub fn find(&self, key: EntryKey) -> Option<usize>
+        ensures found { IfSome result (λ i. (names self.now).name_at i ≡ Some key.name) }
+        ensures none { IfNone result ((names self.now).flags key.name ≡ None) }
+    {
+        match hinted(self.parts.as_slice(), &self.slots, key) {
+            Some(slot) => Some(slot),
+            None => search_for(self.parts.as_slice(), &self.slots, &self.table, key.name),
+        }
+    }
+
+    /// What is known of the name in a slot.
+    pub fn flags(&self, slot: usize) -> Option<Flags>
+        ensures { let r = names self.now in
+            result ≡ option_and_then r.flags (r.name_at slot) }
+    {
+        self.slots.flags(slot)
+    }
+
+    /// The key of the entry in a slot.
+    pub fn key(&self, slot: usize) -> Option<EntryKey>
+        ensures { option_map (λ k. k.name) result ≡ (names self.now).name_at slot }
+    {
+        key_at(self.parts.as_slice(), &self.slots, slot)
+    }
+
+    /// Marks the name in a slot, which isn't marked.
+    pub fn mark(&mut self, slot: usize)
+        requires { let r = names self.old in
+            is_unmarked (option_and_then r.flags (r.name_at slot)) ≡ true }
+        ensures marked { (x : EntryName) → (names self.old).name_at slot ≡ Some x
+            → names self.new ≡ with_mark (names self.old) x }
+        ensures fewer { (names self.old).marks < (names self.old).size }
+    {
+        self.slots.mark(slot);
+    }
+}

@@ -1,0 +1,6 @@
+pub mod Names
+pub mod Reaching
+pub mod Rooting
+pub mod Seeing
+pub mod Steps
+pub mod Traces

@@ -1,0 +1,171 @@
+//! What is registered and marked, and what of it is still to be visited.
+ghost use Rattle.std.specs.Prelude.{◌≡◌, ◌<◌, ◌≤◌, ℕ, Bool, true, false, Some, None, IfSome, IfNone, IfOk, option_and_then, vec_capacity};
+ghost use Rattle.std.proofs.Props.{props};
+ghost use Rattle.intern_store.specs.declared.names.Name.{Name as EntryName};
+ghost use Rattle.intern_registry.specs.Registry.{names, is_unmarked};
+ghost use Rattle.intern_trace.specs.Collector.{fresh, placed, marks_now, counts_now, root, begun, with_counted};
+ghost use Rattle.intern_trace.specs.Seen.{IsSeen, is_counted_in};
+
+use crate::tallies::Visits;
+use intern_registry::Registry;
+use intern_store::EntryKey;
+use std::alloc::{AllocError, Global};
+
+/// Registered names with their marks, and the slots of those that are marked and not visited yet.
+#[derive(Drop)]
+pub(crate) struct Worklist {
+    registry: Registry,
+    pending: Vec<usize>,
+    visits: Visits,
+    ghost kept: { IsSeen (names registry) pending.items visits.0 (vec_capacity pending) } by { Prim.hlevel props },
+}
+
+impl Worklist {
+    ghost use Rattle.intern_trace.specs.Waiting.{waiting};
+
+    /// Nothing is registered. It takes no memory.
+    pub(crate) fn new(alloc: Global) -> Worklist
+        ensures { (calls : ℕ) → waiting result calls ≡ record (fresh (λ _. None) 0) { calls = calls } }
+    {
+        Worklist {
+            registry: Registry::new(alloc),
+            pending: Vec::new(alloc),
+            visits: Visits::new(),
+        }
+    }
+
+    /// What is registered, none of it marked, with room to mark all of it.
+    pub(crate) fn of(alloc: Global, registry: Registry) -> Result<Worklist, AllocError>
+        requires { (names registry).marks ≡ 0 }
+        ensures { IfOk result (λ w. (calls : ℕ) → waiting w calls
+            ≡ record (fresh (is_counted_in (names registry).flags) (names registry).size) { calls = calls }) }
+    {
+        Ok(Worklist {
+            pending: Vec::with_capacity(alloc, registry.len())?,
+            registry,
+            visits: Visits::new(),
+        })
+    }
+
+    /// Whether a name is marked.
+    pub(crate) fn is_marked(&self, key: EntryKey) -> bool
+        ensures { (calls : ℕ) → result ≡ (waiting self.now calls).marked key.name }
+    {
+        let Some(slot) = self.registry.find(key) else {
+            return false;
+        };
+        match self.registry.flags(slot) {
+            Some(flags) => flags.is_marked,
+            None => false,
+        }
+    }
+
+    /// How many visits there were.
+    pub(crate) fn visits(&self) -> usize
+        ensures { result ≡ self.now.visits.0 }
+    {
+        self.visits.get()
+    }
+
+    // Marks the name in a slot, which isn't marked. It is to be visited then.
+    fn place(&mut self, slot: usize)
+        requires { let r = names self.old.registry in
+            is_unmarked (option_and_then r.flags (r.name_at slot)) ≡ true }
+        ensures names { (names self.new.registry).name_at ≡ (names self.old.registry).name_at }
+        ensures state { (calls : ℕ) (x : EntryName) →
+            (names self.old.registry).name_at slot ≡ Some x →
+            waiting self.new calls ≡ placed true (waiting self.old calls) x }
+    {
+        self.registry.mark(slot);
+        self.pending.push_reserved(slot);
+    }
+
+    /// Marks a name where it is registered, isn't counted and isn't marked, and says whether it
+    /// was.
+    pub(crate) fn mark(&mut self, key: EntryKey) -> bool
+        ensures answer { (calls : ℕ) → result ≡ marks_now (waiting self.old calls) key.name }
+        ensures state { (calls : ℕ) →
+            waiting self.new calls ≡ placed result (waiting self.old calls) key.name }
+    {
+        let Some(slot) = self.registry.find(key) else {
+            return false;
+        };
+        let Some(flags) = self.registry.flags(slot) else {
+            return false;
+        };
+        if flags.is_counted {
+            return false;
+        }
+        if flags.is_marked {
+            return false;
+        }
+        self.place(slot);
+        true
+    }
+
+    /// Marks a name where it is registered and isn't marked.
+    pub(crate) fn root(&mut self, key: EntryKey)
+        ensures { (calls : ℕ) → waiting self.new calls ≡ root (waiting self.old calls) key.name }
+    {
+        let Some(slot) = self.registry.find(key) else {
+            return;
+        };
+        let Some(flags) = self.registry.flags(slot) else {
+            return;
+        };
+        if !flags.is_marked {
+            self.place(slot);
+        }
+    }
+
+    // Marks the name in a slot where it is counted and isn't marked.
+    fn root_slot(&mut self, slot: usize)
+        ensures names { (names self.new.registry).name_at ≡ (names self.old.registry).name_at }
+        ensures vacant { (names self.old.registry).name_at slot ≡ None → (calls : ℕ) →
+            waiting self.new calls ≡ waiting self.old calls }
+        ensures state { (x : EntryName) → (names self.old.registry).name_at slot ≡ Some x →
+            (calls : ℕ) → let old = waiting self.old calls in
+            waiting self.new calls ≡ placed (counts_now old x) old x }
+    {
+        let Some(flags) = self.registry.flags(slot) else {
+            return;
+        };
+        if !flags.is_counted {
+            return;
+        }
+        if !flags.is_marked {
+            self.place(slot);
+        }
+    }
+
+    /// Marks every counted name that isn't marked.
+    pub(crate) fn root_counted(&mut self)
+        ensures { (calls : ℕ) → waiting self.new calls ≡ with_counted (waiting self.old calls) }
+    {
+        // Its length brings in what holds of a registry.
+        let _len = self.registry.len();
+        for slot in 0..self.registry.slots() {
+            self.root_slot(slot);
+        }
+    }
+
+    /// The next pending name, whose visit begins.
+    pub(crate) fn next(&mut self) -> Option<EntryKey>
+        ensures none { IfNone result ((calls : ℕ) (x : EntryName) →
+            (waiting self.old calls).pending x ≡ false) }
+        ensures same { IfNone result ((calls : ℕ) →
+            waiting self.new calls ≡ waiting self.old calls) }
+        ensures waited { IfSome result (λ k. (calls : ℕ) →
+            (waiting self.old calls).pending k.name ≡ true) }
+        ensures begun { IfSome result (λ k. (calls : ℕ) →
+            waiting self.new calls ≡ begun (waiting self.old calls) k.name) }
+        ensures within { IfSome result (λ k. (calls : ℕ) →
+            (waiting self.new calls).visits ≤ (waiting self.new calls).size) }
+    {
+        // Its length brings in what holds of a registry.
+        let _len = self.registry.len();
+        let slot = self.pending.pop()?;
+        self.visits.tick();
+        self.registry.key(slot)
+    }
+}
