@@ -1,6 +1,6 @@
 -- What is reached, and what is left of it once the rest is gone.
-use Rattle.std.proofs.Common.{◌≡◌, Bool, true, false, cond, ◌||◌, List, [], ◌∷◌, Option, Some, None, is_some, refl, sym, ◌∙◌, ap, subst, ◌⊎◌, ◌↔◌, inl, inr, true≢false}
-use Rattle.std.specs.List.{find, filter}
+use Rattle.std.proofs.Common.{◌≡◌, Bool, true, false, cond, List, [], ◌∷◌, Option, Some, None, is_some, refl, sym, ◌∙◌, ap, inl, inr, true≢false}
+use Rattle.std.specs.List.{filter}
 use Rattle.std.proofs.lemmas.Bool.{cases_Bool, false_from_ne_true}
 use Rattle.intern_store.specs.declared.names.Name.{Name}
 use Rattle.intern_registry.specs.Registry.{same_name}
@@ -63,10 +63,11 @@ module _ (family : List Entry) (names : List Name) (is : IsReachedSet (starts fa
 
   into : (before : List Name) (x : Name) → IsPath (starts family) family before x → IsPath (starts rest) rest before x
   into [] x path = ap counted_entry (same_entry x ([], path)) ∙ path
-  into (parent ∷ before) x path =
-      ( ap is_some (same_entry x (parent ∷ before, path)) ∙ path.0
-      , ap (λ (o : Option Entry). has (children_of o) x) (same_entry parent (before, path.2)) ∙ path.1
-      , into before parent path.2 )
+  into (parent ∷ before) x path = (
+    ap is_some (same_entry x (parent ∷ before, path)) ∙ path.0,
+    ap (λ (o : Option Entry). has (children_of o) x) (same_entry parent (before, path.2)) ∙ path.1,
+    into before parent path.2,
+  )
 
   begins_there : (x : Name) (o : Option Entry) → entry_of rest x ≡ o → counted_entry o ≡ true → starts family x ≡ true
   begins_there x None at counted = cc
@@ -81,16 +82,19 @@ module _ (family : List Entry) (names : List Name) (is : IsReachedSet (starts fa
 
   out_of : (before : List Name) (x : Name) → IsPath (starts rest) rest before x → IsPath (starts family) family before x
   out_of [] x path = begins_there x (entry_of rest x) refl path
-  out_of (parent ∷ before) x path =
-      ( stays_there x (entry_of rest x) refl path.0
-      , declares parent x (entry_of rest parent) refl path.1
-      , out_of before parent path.2 )
+  out_of (parent ∷ before) x path = (
+    stays_there x (entry_of rest x) refl path.0,
+    declares parent x (entry_of rest parent) refl path.1,
+    out_of before parent path.2,
+  )
 
   pub reached_again : IsReachedSet (starts rest) rest names
   reached_again = record {
     once = is.once;
-    reached = λ x. ( (λ h. let r = (is.reached x).0 h in (r.0, into r.0 x r.1))
-                   , (λ r. (is.reached x).1 (r.0, out_of r.0 x r.1)) );
+    reached = λ x. (
+      (λ h. let r = (is.reached x).0 h in (r.0, into r.0 x r.1)),
+      (λ r. (is.reached x).1 (r.0, out_of r.0 x r.1)),
+    );
   }
 
   -- in a closed family each child of what is left is left

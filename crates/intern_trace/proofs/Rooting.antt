@@ -1,14 +1,14 @@
 -- The counted names are placed slot after slot.
-use Rattle.std.proofs.Common.{ℕ, ◌≡◌, ◌+◌, ◌≤◌, ◌<◌, length, Bool, true, false, not, ◌&&◌, ◌||◌, if◌then◌else◌, Option, Some, None, IsSome, List, [], ◌∷◌, suc, refl, sym, ◌∙◌, ap, subst, ◌⊎◌, inl, inr, arith}
+use Rattle.std.proofs.Common.{ℕ, ◌≡◌, ◌+◌, ◌≤◌, ◌<◌, length, Bool, true, false, not, ◌&&◌, ◌||◌, if◌then◌else◌, Option, Some, None, List, [], ◌∷◌, suc, refl, sym, ◌∙◌, ap, subst, inl, inr, arith}
 use Rattle.std.specs.Option.{option_map}
 use Rattle.std.proofs.lemmas.Bool.{cases_Bool, cases_lt}
 use Rattle.std.proofs.lemmas.Option.{same_Some}
 use Rattle.intern_store.specs.declared.names.Name.{Name}
-use Rattle.intern_registry.specs.Registry.{Names, Registered, flags_in, name_in, names, same_name, IsRegistry, Register}
+use Rattle.intern_registry.specs.Registry.{Registered, flags_in, name_in, same_name}
 use Rattle.intern_registry.specs.declared.flags.Flags.{Flags}
 use Rattle.intern_registry.proofs.Listed.{name_within, nowhere_flags}
 use Rattle.intern_trace.specs.Collector.{Collector, placed, was_counted, with_counted, counts_now}
-use Rattle.intern_trace.specs.Seen.{seen, is_counted_in}
+use Rattle.intern_trace.specs.Seen.{is_counted_in}
 use Rattle.intern_trace.proofs.Names.{is_same, same_as_itself}
 
 -- the names in the slots below this one are placed where they are counted, and no other

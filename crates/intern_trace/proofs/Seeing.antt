@@ -1,12 +1,11 @@
 -- What the steps of a tracer do to what is seen of it.
-use Rattle.std.proofs.Common.{ℕ, ◌≡◌, ◌+◌, ◌≤◌, ◌<◌, length, Bool, true, false, not, ◌&&◌, ◌||◌, nat_eq, if◌then◌else◌, Option, Some, None, IsSome, IfSome, IfNone, List, [], ◌∷◌, ◌++◌, refl, sym, ◌∙◌, ap, subst, ◌⊎◌, inl, inr, arith, length-append, option_and_then, is_some}
+use Rattle.std.proofs.Common.{ℕ, ◌≡◌, ◌+◌, ◌≤◌, Bool, true, false, not, ◌&&◌, ◌||◌, nat_eq, if◌then◌else◌, Option, Some, None, IfSome, IfNone, List, [], ◌∷◌, ◌++◌, refl, sym, ◌∙◌, ap, inl, inr, arith, length-append, option_and_then, is_some}
 use Rattle.std.specs.List.{IsDistinct, AllByRecursion, list_any}
 use Rattle.std.specs.Option.{option_map}
 use Rattle.std.proofs.lemmas.Bool.{cases_Bool, or_cases, or_left, or_right, eqb-true, eq-eqb, false_from_ne_true, true≢false, not-true}
 use Rattle.std.proofs.lemmas.Cmp.{nat_eq_equiv}
 use Rattle.std.proofs.lemmas.Map.Keys.{IsDistinct-push}
 use Rattle.std.proofs.lemmas.List.Folds.{list_any-append}
-use Rattle.std.proofs.lemmas.Option.{same_Some}
 use Rattle.intern_store.specs.declared.names.Name.{Name}
 use Rattle.intern_store.specs.declared.names.EntryKey.{EntryKey}
 use Rattle.intern_registry.specs.Registry.{Names, Registered, marks_in, flags_in, same_name, with_flags, marked_flags, with_mark, is_unmarked, IsRegistry}
@@ -95,9 +94,11 @@ not_pending r is (k ∷ slots) i x here out =
     rest : (a b : Bool) → (a || b) ≡ false → b ≡ false
     rest true b h = cc
     rest false b h = h
+
     first : (a b : Bool) → (a || b) ≡ false → a ≡ false
     first true b h = cc
     first false b h = refl
+
     other : (o : Option Name) → r.name_at k ≡ o → is_named o x ≡ false
     other None at = refl
     other (Some z) at = false_from_ne_true _ (λ same.
@@ -133,6 +134,7 @@ unmarked_name r i h = go (r.name_at i) refl (λ x. r.flags x) (λ x. refl) h
     flagged : (x : Name) (o : Option Flags) → r.flags x ≡ o → is_unmarked o ≡ true → (f : Flags) × (r.flags x ≡ Some f) × (f.is_marked ≡ false)
     flagged x None is unmarked = cc
     flagged x (Some f) is unmarked = (f, is, not-true f.is_marked unmarked)
+
     go : (o : Option Name) → r.name_at i ≡ o → (flags : Name → Option Flags) → ((x : Name) → r.flags x ≡ flags x) → is_unmarked (option_and_then r.flags o) ≡ true
         → (x : Name) × (f : Flags) × (r.name_at i ≡ Some x) × (r.flags x ≡ Some f) × (f.is_marked ≡ false)
     go None is flags same unmarked = cc

@@ -1,5 +1,5 @@
 -- What a mark call and the placing of a root do.
-use Rattle.std.proofs.Common.{ℕ, ◌≡◌, ◌+◌, ◌-◌, ◌^◌, ◌≤◌, min, length, Bool, true, false, not, ◌&&◌, ◌||◌, Option, Some, None, is_some, List, [], ◌∷◌, ◌++◌, refl, sym, ◌∙◌, ap, subst, ◌⊎◌, inl, inr, arith}
+use Rattle.std.proofs.Common.{ℕ, ◌≡◌, ◌+◌, ◌-◌, ◌^◌, ◌≤◌, min, length, Bool, true, false, not, ◌&&◌, ◌||◌, Option, is_some, List, [], ◌∷◌, refl, sym, ◌∙◌, ap, subst, ◌⊎◌, inl, inr, arith}
 use Rattle.std.proofs.lemmas.Bool.{not-true, and_parts, and_from, cases_Bool, or_cases, or_left, or_right}
 use Rattle.intern_store.specs.declared.names.Name.{Name}
 use Rattle.intern_registry.specs.Registry.{same_name}
@@ -124,10 +124,10 @@ marks_cases c [] x h = inl h
 marks_cases c (n ∷ ns) x h =
     elim (marks_cases (mark c n) ns x h) [
       | inl sooner ↦ elim (mark_cases c n x sooner) [
-          | inl old ↦ inl old
-          | inr new ↦ let P : Name → Type 0 = λ m. (has (n ∷ ns) m ≡ true) × (is_free_in c m ≡ true) in
-              inr (subst P (sym new.0) (has_head n ns, new.1))
-        ]
+        | inl old ↦ inl old
+        | inr new ↦ let P : Name → Type 0 = λ m. (has (n ∷ ns) m ≡ true) × (is_free_in c m ≡ true) in
+            inr (subst P (sym new.0) (has_head n ns, new.1))
+      ]
       | inr later ↦ inr (or_right _ _ later.0, sym (free-mark c n x) ∙ later.1)
     ]
 
@@ -138,7 +138,7 @@ marks_marks c (n ∷ ns) x h free =
     elim (or_cases _ _ h) [
       | inl now ↦ marks_keeps (mark c n) ns x
           (let P : Name → Type 0 = λ m. (mark c n).marked m ≡ true in
-           subst P (sym (is_same x n now)) (mark_marks c n (subst (λ m. is_free_in c m ≡ true) (is_same x n now) free)))
+          subst P (sym (is_same x n now)) (mark_marks c n (subst (λ m. is_free_in c m ≡ true) (is_same x n now) free)))
       | inr later ↦ marks_marks (mark c n) ns x later (free-mark c n x ∙ free)
     ]
 
@@ -235,10 +235,10 @@ roots_cases c [] x h = inl h
 roots_cases c (n ∷ ns) x h =
     elim (roots_cases (root c n) ns x h) [
       | inl sooner ↦ elim (root_cases c n x sooner) [
-          | inl old ↦ inl old
-          | inr new ↦ let P : Name → Type 0 = λ m. (has (n ∷ ns) m ≡ true) × (is_known_in c m ≡ true) in
-              inr (subst P (sym new.0) (has_head n ns, new.1))
-        ]
+        | inl old ↦ inl old
+        | inr new ↦ let P : Name → Type 0 = λ m. (has (n ∷ ns) m ≡ true) × (is_known_in c m ≡ true) in
+            inr (subst P (sym new.0) (has_head n ns, new.1))
+      ]
       | inr later ↦ inr (or_right _ _ later.0, sym (known-root c n x) ∙ later.1)
     ]
 
@@ -249,6 +249,6 @@ roots_marks c (n ∷ ns) x h known =
     elim (or_cases _ _ h) [
       | inl now ↦ roots_keeps (root c n) ns x
           (let P : Name → Type 0 = λ m. (root c n).marked m ≡ true in
-           subst P (sym (is_same x n now)) (root_marks c n (subst (λ m. is_known_in c m ≡ true) (is_same x n now) known)))
+          subst P (sym (is_same x n now)) (root_marks c n (subst (λ m. is_known_in c m ≡ true) (is_same x n now) known)))
       | inr later ↦ roots_marks (root c n) ns x later (known-root c n x ∙ known)
     ]

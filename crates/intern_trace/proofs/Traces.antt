@@ -1,17 +1,17 @@
 -- A trace goes on with each visit, and at its end the visited names are the reached ones.
-use Rattle.std.proofs.Common.{ℕ, ◌≡◌, ◌+◌, ◌-◌, ◌^◌, ◌≤◌, min, Bool, true, false, not, ◌&&◌, ◌||◌, ◌==◌, List, [], ◌∷◌, ◌++◌, length, Option, Some, None, is_some, refl, sym, ◌∙◌, ap, subst, ◌⊎◌, ◌↔◌, inl, inr, arith, length-append}
+use Rattle.std.proofs.Common.{ℕ, ◌≡◌, ◌+◌, ◌-◌, ◌^◌, ◌≤◌, min, Bool, true, false, not, ◌&&◌, ◌||◌, List, [], ◌∷◌, ◌++◌, length, Option, Some, None, is_some, refl, sym, ◌∙◌, ap, subst, inl, inr, arith, length-append}
 use Rattle.std.specs.List.{IsDistinct, sum_by}
 use Rattle.std.specs.Option.{option_map}
 use Rattle.std.proofs.lemmas.List.Sums.{sum_by-append}
 use Rattle.std.proofs.lemmas.Map.Keys.{IsDistinct-push}
-use Rattle.std.proofs.lemmas.Bool.{cases_Bool, and_parts, and_from, or_cases, or_left, or_right, true_from_ne_false}
+use Rattle.std.proofs.lemmas.Bool.{cases_Bool, and_parts, and_from, or_cases, or_left, or_right}
 use Rattle.intern_store.specs.declared.names.Name.{Name}
 use Rattle.intern_registry.specs.Registry.{same_name}
 use Rattle.intern_trace.specs.Collector.{Collector, has, is_free, fresh, was_counted, with_counted, marks, roots, begun, without}
 use Rattle.intern_trace.specs.Reach.{Entry, entry_of, is_entry, is_counted, counted_entry, children_in, starts, starts_with, IsPath, Reached, IsReachedSet, calls_of}
-use Rattle.intern_trace.specs.Trace.{counted_in, Knows, IsParted, IsTrace}
-use Rattle.intern_trace.proofs.Names.{is_same, same_as_itself, same_name_is_equivalence, has_append, has_head, has_one, has_cases}
-use Rattle.intern_trace.proofs.Steps.{is_free_in, is_known_in, roots-registered, roots-visits, roots-calls, roots_keeps, roots_cases, roots_marks, roots_parted, marks-registered, marks-visits, marks-calls, marks_keeps, marks_cases, marks_marks, marks_parted}
+use Rattle.intern_trace.specs.Trace.{counted_in, IsParted, IsTrace}
+use Rattle.intern_trace.proofs.Names.{is_same, same_name_is_equivalence, has_append, has_cases}
+use Rattle.intern_trace.proofs.Steps.{is_free_in, roots-registered, roots-visits, roots-calls, roots_keeps, roots_cases, roots_marks, roots_parted, marks-registered, marks-visits, marks-calls, marks_keeps, marks_cases, marks_marks, marks_parted}
 
 -- an entry that isn't counted is registered as free, and only such an entry
 there_if_free : (e : Option Entry) → is_free (option_map (λ (e : Entry). is_counted e.count) e) ≡ true → is_some e ≡ true

@@ -1,10 +1,10 @@
 -- What holds while a collection goes on.
-use Rattle.std.specs.Prelude.{ℕ, Bool, true, false, ◌||◌, List, length, Option, Some, None, ◌≡◌}
+use Rattle.std.specs.Prelude.{Bool, true, false, ◌||◌, List, length, Option, ◌≡◌}
 use Rattle.std.specs.List.{IsDistinct}
 use Rattle.std.specs.Option.{option_map}
 use Rattle.intern_store.specs.declared.names.Name.{Name}
 use Rattle.intern_registry.specs.Registry.{same_name}
-use Rattle.intern_trace.specs.Collector.{has, Collector, fresh}
+use Rattle.intern_trace.specs.Collector.{has, Collector}
 use Rattle.intern_trace.specs.Reach.{Entry, entry_of, is_entry, is_counted, children_in, Reached, calls_of}
 
 -- of a name, whether its entry is counted

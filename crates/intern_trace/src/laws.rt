@@ -47,7 +47,7 @@ pub fn what_is_reached_is_the_least_closed_set()
     ensures least { (begins : Name → Bool) (family : List Entry) (set : Name → Bool) →
         ((x : Name) → begins x ≡ true → set x ≡ true) →
         ((parent x : Name) → set parent ≡ true → has (children_in family parent) x ≡ true →
-            is_entry family x ≡ true → set x ≡ true) →
+        is_entry family x ≡ true → set x ≡ true) →
         (name : Name) → Reached begins family name → set name ≡ true }
 {}
 

@@ -1,13 +1,14 @@
 //! What is registered and marked, and what of it is still to be visited.
-ghost use Rattle.std.specs.Prelude.{◌≡◌, ◌<◌, ◌≤◌, ℕ, Bool, true, false, Some, None, IfSome, IfNone, IfOk, option_and_then, vec_capacity};
+ghost use Rattle.std.specs.Prelude.{◌≡◌, ◌<◌, ◌≤◌, ℕ, true, false, not, ◌&&◌, Some, None, IfSome, IfNone, IfOk, option_and_then, vec_capacity};
 ghost use Rattle.std.proofs.Props.{props};
+ghost use Rattle.std.specs.Option.{option_map};
 ghost use Rattle.intern_store.specs.declared.names.Name.{Name as EntryName};
 ghost use Rattle.intern_registry.specs.Registry.{names, is_unmarked};
 ghost use Rattle.intern_trace.specs.Collector.{fresh, placed, marks_now, counts_now, root, begun, with_counted};
 ghost use Rattle.intern_trace.specs.Seen.{IsSeen, is_counted_in};
 
 use crate::tallies::Visits;
-use intern_registry::Registry;
+use intern_registry::{Flags, Registry};
 use intern_store::EntryKey;
 use std::alloc::{AllocError, Global};
 
@@ -18,6 +19,13 @@ pub(crate) struct Worklist {
     pending: Vec<usize>,
     visits: Visits,
     ghost kept: { IsSeen (names registry) pending.items visits.0 (vec_capacity pending) } by { Prim.hlevel props },
+}
+
+// Whether an entry isn't counted and isn't marked.
+fn is_free(flags: Flags) -> bool
+    ensures { result ≡ (not flags.is_counted && not flags.is_marked) }
+{
+    !flags.is_counted && !flags.is_marked
 }
 
 impl Worklist {
@@ -47,15 +55,23 @@ impl Worklist {
         })
     }
 
+    // The slot of a name, and its flags.
+    fn known(&self, key: EntryKey) -> Option<(usize, Flags)>
+        ensures slot { IfSome result (λ k.
+            (names self.now.registry).name_at k.0 ≡ Some key.name) }
+        ensures flags { option_map (λ k. k.1) result
+            ≡ (names self.now.registry).flags key.name }
+    {
+        let slot = self.registry.find(key)?;
+        Some((slot, self.registry.flags(slot)?))
+    }
+
     /// Whether a name is marked.
     pub(crate) fn is_marked(&self, key: EntryKey) -> bool
         ensures { (calls : ℕ) → result ≡ (waiting self.now calls).marked key.name }
     {
-        let Some(slot) = self.registry.find(key) else {
-            return false;
-        };
-        match self.registry.flags(slot) {
-            Some(flags) => flags.is_marked,
+        match self.known(key) {
+            Some((_, flags)) => flags.is_marked,
             None => false,
         }
     }
@@ -87,30 +103,21 @@ impl Worklist {
         ensures state { (calls : ℕ) →
             waiting self.new calls ≡ placed result (waiting self.old calls) key.name }
     {
-        let Some(slot) = self.registry.find(key) else {
+        let Some((slot, flags)) = self.known(key) else {
             return false;
         };
-        let Some(flags) = self.registry.flags(slot) else {
-            return false;
-        };
-        if flags.is_counted {
-            return false;
+        let joins = is_free(flags);
+        if joins {
+            self.place(slot);
         }
-        if flags.is_marked {
-            return false;
-        }
-        self.place(slot);
-        true
+        joins
     }
 
     /// Marks a name where it is registered and isn't marked.
     pub(crate) fn root(&mut self, key: EntryKey)
         ensures { (calls : ℕ) → waiting self.new calls ≡ root (waiting self.old calls) key.name }
     {
-        let Some(slot) = self.registry.find(key) else {
-            return;
-        };
-        let Some(flags) = self.registry.flags(slot) else {
+        let Some((slot, flags)) = self.known(key) else {
             return;
         };
         if !flags.is_marked {
@@ -127,14 +134,9 @@ impl Worklist {
             (calls : ℕ) → let old = waiting self.old calls in
             waiting self.new calls ≡ placed (counts_now old x) old x }
     {
-        let Some(flags) = self.registry.flags(slot) else {
-            return;
-        };
-        if !flags.is_counted {
-            return;
-        }
-        if !flags.is_marked {
-            self.place(slot);
+        match self.registry.flags(slot) {
+            Some(flags) if flags.is_counted && !flags.is_marked => self.place(slot),
+            _ => {}
         }
     }
 

@@ -1,7 +1,6 @@
-use Rattle.std.proofs.Common.{◌≡◌, ◌≤◌, ℕ, ◌+◌, List, [], ◌∷◌, ◌++◌, length, length-append, subst, refl, sym, ap, ◌∙◌, arith}
+use Rattle.std.proofs.Common.{◌≡◌, ◌≤◌, ℕ, List, [], ◌∷◌, length, length-append, subst, refl, sym, ap, ◌∙◌, arith}
 use Rattle.std.specs.List.{IsDistinct}
 use Rattle.std.specs.Prelude.{nat_eq}
-use Rattle.intern_store.specs.declared.names.Name.{Name}
 use Rattle.intern_registry.specs.Registry.{names}
 use Rattle.intern_trace.specs.Collector.{begun}
 use Rattle.intern_trace.specs.Seen.{seen}
@@ -33,9 +32,9 @@ returns-clause-begun c =
     let once = subst (λ (xs : List ℕ). IsDistinct nat_eq xs) items c.args.self.now.kept.once in
     of_key c.key.result _ (λ x. (calls : ℕ) → seen r c.pop.new.self.items c.tick.new.self.0 calls ≡ begun (waiting c.args.self.now calls) x) c.key.ensures
     (λ x here calls.
-        (λ j. seen r c.pop.new.self.items (c.tick.ensures j) calls)
-        ∙ popped_seen r c.len-len.ensures.registry c.pop.new.self.items visits calls c.in_ok-slot.slot x here once
-        ∙ (λ j. begun (seen r (sym items j) visits calls) x))
+    (λ j. seen r c.pop.new.self.items (c.tick.ensures j) calls)
+    ∙ popped_seen r c.len-len.ensures.registry c.pop.new.self.items visits calls c.in_ok-slot.slot x here once
+    ∙ (λ j. begun (seen r (sym items j) visits calls) x))
 
 pub returns-clause-within : goal.returns-clause-within
 returns-clause-within c =

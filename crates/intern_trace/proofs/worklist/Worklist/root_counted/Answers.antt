@@ -1,4 +1,4 @@
-use Rattle.std.proofs.Common.{◌≡◌, ℕ, Option, refl, ap, sym, ◌∙◌, arith}
+use Rattle.std.proofs.Common.{ℕ, Option, refl, ap, ◌∙◌, arith}
 use Rattle.intern_store.specs.declared.names.Name.{Name}
 use Rattle.intern_registry.specs.Registry.{names}
 use Rattle.intern_trace.specs.Waiting.{waiting}
