@@ -4,9 +4,9 @@ use Rattle.std.specs.List.{filter}
 use Rattle.std.proofs.lemmas.Bool.{cases_Bool, false_from_ne_true}
 use Rattle.intern_store.specs.declared.names.Name.{Name}
 use Rattle.intern_registry.specs.Registry.{same_name}
+use Rattle.intern_registry.proofs.Listed.{names_same}
 use Rattle.intern_trace.specs.Collector.{has}
 use Rattle.intern_trace.specs.Reach.{Entry, entry_of, is_entry, counted_entry, children_of, children_in, starts, IsPath, Reached, IsReachedSet, kept_entries, IsClosed}
-use Rattle.intern_trace.proofs.Names.{is_same}
 
 -- each set that has the names at which paths begin, and with a name its children that are entries, has all that is reached
 pub least : (begins : Name → Bool) (family : List Entry) (set : Name → Bool) → ((x : Name) → begins x ≡ true → set x ≡ true)
@@ -28,7 +28,7 @@ module _ (names : List Name) where
         | inl stays ↦ ap (λ b. entry_of (cond b (e ∷ filter (λ e. has names e.name) family) (filter (λ e. has names e.name) family)) x) stays
             ∙ ap (λ o. cond (same_name x e.name) (Some e) o) (find_kept family x in_names)
         | inr goes ↦
-            let other : same_name x e.name ≡ false = false_from_ne_true _ (λ same. true≢false (sym in_names ∙ ap (has names) (is_same x e.name same) ∙ goes)) in
+            let other : same_name x e.name ≡ false = false_from_ne_true _ (λ same. true≢false (sym in_names ∙ ap (has names) (names_same x e.name same) ∙ goes)) in
             ap (λ b. entry_of (cond b (e ∷ filter (λ e. has names e.name) family) (filter (λ e. has names e.name) family)) x) goes
             ∙ find_kept family x in_names ∙ sym (ap (λ b. cond b (Some e) (entry_of family x)) other)
       ]
@@ -39,7 +39,7 @@ module _ (names : List Name) where
   find_gone (e ∷ family) x out =
       elim (cases_Bool (has names e.name)) [
         | inl stays ↦
-            let other : same_name x e.name ≡ false = false_from_ne_true _ (λ same. true≢false (sym stays ∙ ap (has names) (sym (is_same x e.name same)) ∙ out)) in
+            let other : same_name x e.name ≡ false = false_from_ne_true _ (λ same. true≢false (sym stays ∙ ap (has names) (sym (names_same x e.name same)) ∙ out)) in
             ap (λ b. entry_of (cond b (e ∷ filter (λ e. has names e.name) family) (filter (λ e. has names e.name) family)) x) stays
             ∙ ap (λ b. cond b (Some e) (entry_of (filter (λ e. has names e.name) family) x)) other ∙ find_gone family x out
         | inr goes ↦ ap (λ b. entry_of (cond b (e ∷ filter (λ e. has names e.name) family) (filter (λ e. has names e.name) family)) x) goes ∙ find_gone family x out

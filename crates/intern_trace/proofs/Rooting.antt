@@ -6,10 +6,10 @@ use Rattle.std.proofs.lemmas.Option.{same_Some}
 use Rattle.intern_store.specs.declared.names.Name.{Name}
 use Rattle.intern_registry.specs.Registry.{Registered, flags_in, name_in, same_name}
 use Rattle.intern_registry.specs.declared.flags.Flags.{Flags}
-use Rattle.intern_registry.proofs.Listed.{name_within, nowhere_flags}
+use Rattle.intern_registry.proofs.Listed.{name_within, nowhere_flags, names_same}
 use Rattle.intern_trace.specs.Collector.{Collector, placed, was_counted, with_counted, counts_now}
 use Rattle.intern_trace.specs.Seen.{is_counted_in}
-use Rattle.intern_trace.proofs.Names.{is_same, same_as_itself}
+use Rattle.intern_trace.proofs.Names.{same_as_itself}
 
 -- the names in the slots below this one are placed where they are counted, and no other
 pub record IsRooted (at : ℕ → Option Name) (i : ℕ) (before now : Collector) : Type 0 where
@@ -112,11 +112,11 @@ module _ (at : ℕ → Option Name) (apart : (i j : ℕ) (x : Name) → at i ≡
     visits = rooted.visits;
     calls = rooted.calls;
     marked = λ j x there under. elim (cases_Bool (same_name x y)) [
-      | inl same ↦ ap (placed (counts_now now y) now y).marked (is_same x y same) ∙ marked_y ∙ ap (with_counted before).marked (sym (is_same x y same))
+      | inl same ↦ ap (placed (counts_now now y) now y).marked (names_same x y same) ∙ marked_y ∙ ap (with_counted before).marked (sym (names_same x y same))
       | inr other ↦ marked_other x other ∙ rooted.marked j x there (below j x there other under)
     ];
     pending = λ j x there under. elim (cases_Bool (same_name x y)) [
-      | inl same ↦ ap (placed (counts_now now y) now y).pending (is_same x y same) ∙ pending_y ∙ ap (with_counted before).pending (sym (is_same x y same))
+      | inl same ↦ ap (placed (counts_now now y) now y).pending (names_same x y same) ∙ pending_y ∙ ap (with_counted before).pending (sym (names_same x y same))
       | inr other ↦ pending_other x other ∙ rooted.pending j x there (below j x there other under)
     ];
     marked_else = λ x none. marked_other x (not_y x none) ∙ rooted.marked_else x (λ j there. let far = none j there in omega arith);
@@ -126,7 +126,7 @@ module _ (at : ℕ → Option Name) (apart : (i j : ℕ) (x : Name) → at i ≡
       not_y : (x : Name) → ((j : ℕ) → at j ≡ Some x → i + 1 ≤ j) → same_name x y ≡ false
       not_y x none =
           elim (cases_Bool (same_name x y)) [
-            | inl same ↦ let far = none i (here ∙ ap Some (sym (is_same x y same))) in absurd (omega arith)
+            | inl same ↦ let far = none i (here ∙ ap Some (sym (names_same x y same))) in absurd (omega arith)
             | inr other ↦ other
           ]
 
@@ -141,7 +141,7 @@ step_rooted at apart i before now next (Some y) here vacant filled rooted =
 -- the slot of a registered name
 in_slots : (s : Bool) (x : Name) (g : Registered) (slots : List (Option Registered)) (f : Flags) → same_name x g.name ≡ s
     → (if s then Some g.flags else flags_in slots x) ≡ Some f → (flags_in slots x ≡ Some f → (j : ℕ) × (name_in slots j ≡ Some x)) → (j : ℕ) × (name_in (Some g ∷ slots) j ≡ Some x)
-in_slots true x g slots f same is rest = (0, ap Some (sym (is_same x g.name same)))
+in_slots true x g slots f same is rest = (0, ap Some (sym (names_same x g.name same)))
 in_slots false x g slots f other is rest = let found = rest is in (suc found.0, found.1)
 
 pub slot_of : (slots : List (Option Registered)) (x : Name) (f : Flags) → flags_in slots x ≡ Some f → (j : ℕ) × (name_in slots j ≡ Some x)

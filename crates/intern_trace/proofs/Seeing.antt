@@ -10,9 +10,10 @@ use Rattle.intern_store.specs.declared.names.Name.{Name}
 use Rattle.intern_store.specs.declared.names.EntryKey.{EntryKey}
 use Rattle.intern_registry.specs.Registry.{Names, Registered, marks_in, flags_in, same_name, with_flags, marked_flags, with_mark, is_unmarked, IsRegistry}
 use Rattle.intern_registry.specs.declared.flags.Flags.{Flags}
+use Rattle.intern_registry.proofs.Listed.{names_same}
 use Rattle.intern_trace.specs.Collector.{Collector, joined, placed, is_free, was_counted, counts_now, tick, mark, marks_now, roots_now, root, without, begun}
 use Rattle.intern_trace.specs.Seen.{is_marked_in, flags_at, is_named, is_pending, seen, IsSeen}
-use Rattle.intern_trace.proofs.Names.{is_same, same_as_itself}
+use Rattle.intern_trace.proofs.Names.{same_as_itself}
 
 abbrev pub counted_flag : Option Flags → Option Bool
 counted_flag o = option_map (λ f. f.is_counted) o
@@ -47,7 +48,7 @@ module _ (r : Names) (slots : List ℕ) (visits calls : ℕ) (i : ℕ) (x : Name
   same_registered y =
       elim (cases_Bool (same_name y x)) [
         | inl same ↦ ap counted_flag (with_same r.flags x (record f { is_marked = true }) y same)
-            ∙ sym (ap (λ z. counted_flag (r.flags z)) (is_same y x same) ∙ ap counted_flag known)
+            ∙ sym (ap (λ z. counted_flag (r.flags z)) (names_same y x same) ∙ ap counted_flag known)
         | inr other ↦ ap counted_flag (with_other r.flags x (record f { is_marked = true }) y other)
       ]
 
@@ -102,7 +103,7 @@ not_pending r is (k ∷ slots) i x here out =
     other : (o : Option Name) → r.name_at k ≡ o → is_named o x ≡ false
     other None at = refl
     other (Some z) at = false_from_ne_true _ (λ same.
-        let is_it : i ≡ k = is.apart i k x here (at ∙ ap Some (sym (is_same x z same))) in
+        let is_it : i ≡ k = is.apart i k x here (at ∙ ap Some (sym (names_same x z same))) in
         true≢false (sym (eq-eqb i k is_it) ∙ first (nat_eq i k) (list_any (nat_eq i) slots) out))
 
 -- the last slot is taken: its name is pending no longer
@@ -120,7 +121,7 @@ popped_seen r is slots visits calls i x here once = λ j. record {
     less : (y : Name) → is_pending r slots y ≡ without x (is_pending r (slots ++ i ∷ [])) y
     less y =
         elim (cases_Bool (same_name y x)) [
-          | inl same ↦ ap (is_pending r slots) (is_same y x same) ∙ not_pending r is slots i x here (last_once slots i once).1
+          | inl same ↦ ap (is_pending r slots) (names_same y x same) ∙ not_pending r is slots i x here (last_once slots i once).1
               ∙ sym (ap (λ b. not b && is_pending r (slots ++ i ∷ []) y) same)
           | inr other ↦ sym (ap (λ b. not b && is_pending r (slots ++ i ∷ []) y) other ∙ pending_more r slots i x here y
               ∙ ap (λ b. is_pending r slots y || b) other ∙ or_false (is_pending r slots y))

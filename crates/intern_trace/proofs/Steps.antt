@@ -3,9 +3,10 @@ use Rattle.std.proofs.Common.{ℕ, ◌≡◌, ◌+◌, ◌-◌, ◌^◌, ◌≤�
 use Rattle.std.proofs.lemmas.Bool.{not-true, and_parts, and_from, cases_Bool, or_cases, or_left, or_right}
 use Rattle.intern_store.specs.declared.names.Name.{Name}
 use Rattle.intern_registry.specs.Registry.{same_name}
+use Rattle.intern_registry.proofs.Listed.{names_same}
 use Rattle.intern_trace.specs.Collector.{Collector, has, joined, placed, is_free, marks_now, tick, mark, marks, roots_now, root, roots}
 use Rattle.intern_trace.specs.Trace.{IsParted}
-use Rattle.intern_trace.proofs.Names.{is_same, same_as_itself, has_head}
+use Rattle.intern_trace.proofs.Names.{same_as_itself, has_head}
 
 -- who is among the names, once one may have joined them
 pub joined_keeps : (b : Bool) (n : Name) (names : Name → Bool) (x : Name) → names x ≡ true → joined b n names x ≡ true
@@ -15,7 +16,7 @@ pub joined_cases : (b : Bool) (n : Name) (names : Name → Bool) (x : Name) → 
     → (names x ≡ true) ⊎ ((x ≡ n) × (b ≡ true))
 joined_cases b n names x h =
     elim (or_cases (b && same_name x n) (names x) h) [
-      | inl now ↦ let both = and_parts b (same_name x n) now in inr (is_same x n both.1, both.0)
+      | inl now ↦ let both = and_parts b (same_name x n) now in inr (names_same x n both.1, both.0)
       | inr old ↦ inl old
     ]
 
@@ -138,7 +139,7 @@ marks_marks c (n ∷ ns) x h free =
     elim (or_cases _ _ h) [
       | inl now ↦ marks_keeps (mark c n) ns x
           (let P : Name → Type 0 = λ m. (mark c n).marked m ≡ true in
-          subst P (sym (is_same x n now)) (mark_marks c n (subst (λ m. is_free_in c m ≡ true) (is_same x n now) free)))
+          subst P (sym (names_same x n now)) (mark_marks c n (subst (λ m. is_free_in c m ≡ true) (names_same x n now) free)))
       | inr later ↦ marks_marks (mark c n) ns x later (free-mark c n x ∙ free)
     ]
 
@@ -249,6 +250,6 @@ roots_marks c (n ∷ ns) x h known =
     elim (or_cases _ _ h) [
       | inl now ↦ roots_keeps (root c n) ns x
           (let P : Name → Type 0 = λ m. (root c n).marked m ≡ true in
-          subst P (sym (is_same x n now)) (root_marks c n (subst (λ m. is_known_in c m ≡ true) (is_same x n now) known)))
+          subst P (sym (names_same x n now)) (root_marks c n (subst (λ m. is_known_in c m ≡ true) (names_same x n now) known)))
       | inr later ↦ roots_marks (root c n) ns x later (known-root c n x ∙ known)
     ]

@@ -7,10 +7,11 @@ use Rattle.std.proofs.lemmas.Map.Keys.{IsDistinct-push}
 use Rattle.std.proofs.lemmas.Bool.{cases_Bool, and_parts, and_from, or_cases, or_left, or_right}
 use Rattle.intern_store.specs.declared.names.Name.{Name}
 use Rattle.intern_registry.specs.Registry.{same_name}
+use Rattle.intern_registry.proofs.Listed.{names_same}
 use Rattle.intern_trace.specs.Collector.{Collector, has, is_free, fresh, was_counted, with_counted, marks, roots, begun, without}
 use Rattle.intern_trace.specs.Reach.{Entry, entry_of, is_entry, is_counted, counted_entry, children_in, starts, starts_with, IsPath, Reached, IsReachedSet, calls_of}
 use Rattle.intern_trace.specs.Trace.{counted_in, IsParted, IsTrace}
-use Rattle.intern_trace.proofs.Names.{is_same, same_name_is_equivalence, has_append, has_cases}
+use Rattle.intern_trace.proofs.Names.{same_name_is_equivalence, has_append, has_cases}
 use Rattle.intern_trace.proofs.Steps.{is_free_in, roots-registered, roots-visits, roots-calls, roots_keeps, roots_cases, roots_marks, roots_parted, marks-registered, marks-visits, marks-calls, marks_keeps, marks_cases, marks_marks, marks_parted}
 
 -- an entry that isn't counted is registered as free, and only such an entry
@@ -75,7 +76,7 @@ module _ (begins : Name → Bool) (family : List Entry) (visited : List Name) (c
     begun_parted : IsParted more (begun c n)
     begun_parted = record {
       parted = λ x. elim (cases_Bool (same_name x n)) [
-        | inl same ↦ ap c.marked (is_same x n same) ∙ marked_n ∙ sym (or_left (has more x) (without n c.pending x) (more_n x same))
+        | inl same ↦ ap c.marked (names_same x n same) ∙ marked_n ∙ sym (or_left (has more x) (without n c.pending x) (more_n x same))
         | inr other ↦ t.parted.parted x ∙ (λ i. sym (more_other x other) i || (not (sym other i) && c.pending x)) ∙ refl
       ];
       apart = λ x h. elim (cases_Bool (same_name x n)) [
