@@ -4,7 +4,7 @@ use Rattle.std.proofs.lemmas.Bool.{not-true, and_parts, and_from, cases_Bool, or
 use Rattle.intern_store.specs.declared.names.Name.{Name}
 use Rattle.intern_registry.specs.Registry.{same_name}
 use Rattle.intern_registry.proofs.Listed.{names_same}
-use Rattle.intern_trace.specs.Collector.{Collector, has, joined, placed, is_free, marks_now, tick, mark, marks, roots_now, root, roots}
+use Rattle.intern_trace.specs.Collector.{Collector, has, joined, placed, is_free, marks_now, tick, each, mark, marks, roots_now, root, roots}
 use Rattle.intern_trace.specs.Trace.{IsParted}
 use Rattle.intern_trace.proofs.Names.{same_as_itself, has_head}
 
@@ -46,102 +46,114 @@ placed_parted visited b c n new p = record {
   ];
 }
 
-module _ (c : Collector) (n : Name) where
-  pub mark-registered : (mark c n).registered ≡ c.registered
-  unfolding mark
-  mark-registered = refl
+-- a step that places a name where it may be, and isn't marked
+pub record IsPlacing (may : Option Bool → Bool) (step : Collector → Name → Collector) : Type 0 where
+  pub registered : (c : Collector) (n : Name) → (step c n).registered ≡ c.registered
+  pub size : (c : Collector) (n : Name) → (step c n).size ≡ c.size
+  pub visits : (c : Collector) (n : Name) → (step c n).visits ≡ c.visits
+  pub marked : (c : Collector) (n : Name) → (step c n).marked ≡ joined (may (c.registered n) && not (c.marked n)) n c.marked
+  pub pending : (c : Collector) (n : Name) → (step c n).pending ≡ joined (may (c.registered n) && not (c.marked n)) n c.pending
 
-  pub mark-visits : (mark c n).visits ≡ c.visits
-  unfolding mark
-  mark-visits = refl
+pub mark_places : IsPlacing is_free mark
+unfolding mark marks_now
+mark_places = record {
+  registered = λ c n. refl;
+  size = λ c n. refl;
+  visits = λ c n. refl;
+  marked = λ c n. refl;
+  pending = λ c n. refl;
+}
 
-  pub mark-size : (mark c n).size ≡ c.size
-  unfolding mark
-  mark-size = refl
+pub root_places : IsPlacing is_some root
+unfolding root roots_now
+root_places = record {
+  registered = λ c n. refl;
+  size = λ c n. refl;
+  visits = λ c n. refl;
+  marked = λ c n. refl;
+  pending = λ c n. refl;
+}
 
-  pub mark-calls : (mark c n).calls ≡ tick c.calls
-  unfolding mark
-  mark-calls = refl
+module _ (may : Option Bool → Bool) (step : Collector → Name → Collector) (places : IsPlacing may step) where
+  abbrev pub joins : Collector → Name → Bool
+  joins c n = may (c.registered n) && not (c.marked n)
 
-  pub mark-marked : (mark c n).marked ≡ joined (marks_now c n) n c.marked
-  unfolding mark
-  mark-marked = refl
+  step_keeps : (c : Collector) (n x : Name) → c.marked x ≡ true → (step c n).marked x ≡ true
+  step_keeps c n x h = ap (λ m. m x) (places.marked c n) ∙ joined_keeps (joins c n) n c.marked x h
 
-  pub mark_keeps : (x : Name) → c.marked x ≡ true → (mark c n).marked x ≡ true
-  mark_keeps x h = ap (λ m. m x) mark-marked ∙ joined_keeps (marks_now c n) n c.marked x h
-
-  pub mark_cases : (x : Name) → (mark c n).marked x ≡ true → (c.marked x ≡ true) ⊎ ((x ≡ n) × (is_free (c.registered n) ≡ true))
-  unfolding marks_now
-  mark_cases x h =
-      elim (joined_cases (marks_now c n) n c.marked x (ap (λ m. m x) (sym mark-marked) ∙ h)) [
+  step_cases : (c : Collector) (n x : Name) → (step c n).marked x ≡ true → (c.marked x ≡ true) ⊎ ((x ≡ n) × (may (c.registered n) ≡ true))
+  step_cases c n x h =
+      elim (joined_cases (joins c n) n c.marked x (ap (λ m. m x) (sym (places.marked c n)) ∙ h)) [
         | inl old ↦ inl old
         | inr new ↦ inr (new.0, (and_parts _ _ new.1).0)
       ]
 
-  -- a registered name that isn't counted is marked afterwards
-  pub mark_marks : is_free (c.registered n) ≡ true → (mark c n).marked n ≡ true
-  unfolding marks_now
-  mark_marks free =
+  step_marks : (c : Collector) (n : Name) → may (c.registered n) ≡ true → (step c n).marked n ≡ true
+  step_marks c n known =
       elim (cases_Bool (c.marked n)) [
-        | inl old ↦ mark_keeps n old
-        | inr new ↦ ap (λ m. m n) mark-marked ∙ joined_joins (marks_now c n) n c.marked (and_from _ _ free (ap not new))
+        | inl old ↦ step_keeps c n n old
+        | inr new ↦ ap (λ m. m n) (places.marked c n) ∙ joined_joins (joins c n) n c.marked (and_from _ _ known (ap not new))
       ]
 
-  pub mark_parted : (visited : List Name) → IsParted visited c → IsParted visited (mark c n)
-  unfolding mark marks_now
-  mark_parted visited p =
-      let placed = placed_parted visited (marks_now c n) c n (λ e. not-true _ (and_parts _ _ e).1) p in
-      record { parted = placed.parted; apart = placed.apart }
+  step_parted : (visited : List Name) (c : Collector) (n : Name) → IsParted visited c → IsParted visited (step c n)
+  step_parted visited c n p =
+      let now = placed_parted visited (joins c n) c n (λ e. not-true _ (and_parts _ _ e).1) p in
+      record {
+        parted = λ x. ap (λ m. m x) (places.marked c n) ∙ now.parted x ∙ ap (λ (m : Name → Bool). has visited x || m x) (sym (places.pending c n));
+        apart = λ x h. now.apart x (ap (λ m. m x) (sym (places.pending c n)) ∙ h);
+      }
 
-pub marks-registered : (c : Collector) (ns : List Name) → (marks c ns).registered ≡ c.registered
-marks-registered c [] = refl
-marks-registered c (n ∷ ns) = marks-registered (mark c n) ns ∙ mark-registered c n
+  may-step : (c : Collector) (n x : Name) → may ((step c n).registered x) ≡ may (c.registered x)
+  may-step c n x = ap (λ (r : Name → Option Bool). may (r x)) (places.registered c n)
 
-pub marks-visits : (c : Collector) (ns : List Name) → (marks c ns).visits ≡ c.visits
-marks-visits c [] = refl
-marks-visits c (n ∷ ns) = marks-visits (mark c n) ns ∙ mark-visits c n
+  pub each-registered : (c : Collector) (ns : List Name) → (each step c ns).registered ≡ c.registered
+  each-registered c [] = refl
+  each-registered c (n ∷ ns) = each-registered (step c n) ns ∙ places.registered c n
 
-pub marks-size : (c : Collector) (ns : List Name) → (marks c ns).size ≡ c.size
-marks-size c [] = refl
-marks-size c (n ∷ ns) = marks-size (mark c n) ns ∙ mark-size c n
+  pub each-size : (c : Collector) (ns : List Name) → (each step c ns).size ≡ c.size
+  each-size c [] = refl
+  each-size c (n ∷ ns) = each-size (step c n) ns ∙ places.size c n
 
-pub marks_keeps : (c : Collector) (ns : List Name) (x : Name) → c.marked x ≡ true → (marks c ns).marked x ≡ true
-marks_keeps c [] x h = h
-marks_keeps c (n ∷ ns) x h = marks_keeps (mark c n) ns x (mark_keeps c n x h)
+  pub each-visits : (c : Collector) (ns : List Name) → (each step c ns).visits ≡ c.visits
+  each-visits c [] = refl
+  each-visits c (n ∷ ns) = each-visits (step c n) ns ∙ places.visits c n
 
-pub marks_parted : (visited : List Name) (c : Collector) (ns : List Name) → IsParted visited c → IsParted visited (marks c ns)
-marks_parted visited c [] p = p
-marks_parted visited c (n ∷ ns) p = marks_parted visited (mark c n) ns (mark_parted c n visited p)
+  pub each_parted : (visited : List Name) (c : Collector) (ns : List Name) → IsParted visited c → IsParted visited (each step c ns)
+  each_parted visited c [] p = p
+  each_parted visited c (n ∷ ns) p = each_parted visited (step c n) ns (step_parted visited c n p)
 
-abbrev pub is_free_in : Collector → Name → Bool
-is_free_in c x = is_free (c.registered x)
+  pub each_keeps : (c : Collector) (ns : List Name) (x : Name) → c.marked x ≡ true → (each step c ns).marked x ≡ true
+  each_keeps c [] x h = h
+  each_keeps c (n ∷ ns) x h = each_keeps (step c n) ns x (step_keeps c n x h)
 
-free-mark : (c : Collector) (n x : Name) → is_free_in (mark c n) x ≡ is_free_in c x
-free-mark c n x = ap (λ (r : Name → Option Bool). is_free (r x)) (mark-registered c n)
-
-pub marks_cases : (c : Collector) (ns : List Name) (x : Name) → (marks c ns).marked x ≡ true
-    → (c.marked x ≡ true) ⊎ ((has ns x ≡ true) × (is_free_in c x ≡ true))
-marks_cases c [] x h = inl h
-marks_cases c (n ∷ ns) x h =
-    elim (marks_cases (mark c n) ns x h) [
-      | inl sooner ↦ elim (mark_cases c n x sooner) [
-        | inl old ↦ inl old
-        | inr new ↦ let P : Name → Type 0 = λ m. (has (n ∷ ns) m ≡ true) × (is_free_in c m ≡ true) in
-            inr (subst P (sym new.0) (has_head n ns, new.1))
+  -- what is marked was marked, or is among these names and may be
+  pub each_cases : (c : Collector) (ns : List Name) (x : Name) → (each step c ns).marked x ≡ true
+      → (c.marked x ≡ true) ⊎ ((has ns x ≡ true) × (may (c.registered x) ≡ true))
+  each_cases c [] x h = inl h
+  each_cases c (n ∷ ns) x h =
+      elim (each_cases (step c n) ns x h) [
+        | inl sooner ↦ elim (step_cases c n x sooner) [
+            | inl old ↦ inl old
+            | inr new ↦ let P : Name → Type 0 = λ m. (has (n ∷ ns) m ≡ true) × (may (c.registered m) ≡ true) in
+                inr (subst P (sym new.0) (has_head n ns, new.1))
+          ]
+        | inr later ↦ inr (or_right _ _ later.0, sym (may-step c n x) ∙ later.1)
       ]
-      | inr later ↦ inr (or_right _ _ later.0, sym (free-mark c n x) ∙ later.1)
-    ]
 
--- each of these names that is registered and not counted is marked afterwards
-pub marks_marks : (c : Collector) (ns : List Name) (x : Name) → has ns x ≡ true → is_free_in c x ≡ true → (marks c ns).marked x ≡ true
-marks_marks c [] x h free = cc
-marks_marks c (n ∷ ns) x h free =
-    elim (or_cases _ _ h) [
-      | inl now ↦ marks_keeps (mark c n) ns x
-          (let P : Name → Type 0 = λ m. (mark c n).marked m ≡ true in
-          subst P (sym (names_same x n now)) (mark_marks c n (subst (λ m. is_free_in c m ≡ true) (names_same x n now) free)))
-      | inr later ↦ marks_marks (mark c n) ns x later (free-mark c n x ∙ free)
-    ]
+  -- each of these names that may be is marked afterwards
+  pub each_marks : (c : Collector) (ns : List Name) (x : Name) → has ns x ≡ true → may (c.registered x) ≡ true → (each step c ns).marked x ≡ true
+  each_marks c [] x h known = cc
+  each_marks c (n ∷ ns) x h known =
+      elim (or_cases _ _ h) [
+        | inl now ↦ each_keeps (step c n) ns x
+            (let P : Name → Type 0 = λ m. (step c n).marked m ≡ true in
+             subst P (sym (names_same x n now)) (step_marks c n (subst (λ m. may (c.registered m) ≡ true) (names_same x n now) known)))
+        | inr later ↦ each_marks (step c n) ns x later (may-step c n x ∙ known)
+      ]
+
+mark-calls : (c : Collector) (n : Name) → (mark c n).calls ≡ tick c.calls
+unfolding mark
+mark-calls c n = refl
 
 ticked : (a b top : ℕ) → a ≤ top → min (min (a + 1) top + b) top ≡ min (a + (b + 1)) top
 ticked a b top h = omega arith
@@ -154,102 +166,8 @@ marks-calls c (n ∷ ns) h =
     let fits : (mark c n).calls ≤ 2 ^ 64 - 1 = omega arith in
     marks-calls (mark c n) ns fits ∙ ap (λ k. min (k + length ns) (2 ^ 64 - 1)) e ∙ ticked c.calls (length ns) (2 ^ 64 - 1) h ∙ omega arith
 
-module _ (c : Collector) (n : Name) where
-  root-marked : (root c n).marked ≡ joined (roots_now c n) n c.marked
-  unfolding root
-  root-marked = refl
-
-  root-registered : (root c n).registered ≡ c.registered
-  unfolding root
-  root-registered = refl
-
-  root-visits : (root c n).visits ≡ c.visits
-  unfolding root
-  root-visits = refl
-
-  root-calls : (root c n).calls ≡ c.calls
-  unfolding root
-  root-calls = refl
-
-  root-size : (root c n).size ≡ c.size
-  unfolding root
-  root-size = refl
-
-  root_parted : (visited : List Name) → IsParted visited c → IsParted visited (root c n)
-  unfolding root roots_now
-  root_parted visited p =
-      let placed = placed_parted visited (roots_now c n) c n (λ e. not-true _ (and_parts _ _ e).1) p in
-      record { parted = placed.parted; apart = placed.apart }
-
-  root_keeps : (x : Name) → c.marked x ≡ true → (root c n).marked x ≡ true
-  root_keeps x h = ap (λ m. m x) root-marked ∙ joined_keeps (roots_now c n) n c.marked x h
-
-  root_cases : (x : Name) → (root c n).marked x ≡ true → (c.marked x ≡ true) ⊎ ((x ≡ n) × (is_some (c.registered n) ≡ true))
-  unfolding roots_now
-  root_cases x h =
-      elim (joined_cases (roots_now c n) n c.marked x (ap (λ m. m x) (sym root-marked) ∙ h)) [
-        | inl old ↦ inl old
-        | inr new ↦ inr (new.0, (and_parts _ _ new.1).0)
-      ]
-
-  root_marks : is_some (c.registered n) ≡ true → (root c n).marked n ≡ true
-  unfolding roots_now
-  root_marks known =
-      elim (cases_Bool (c.marked n)) [
-        | inl old ↦ root_keeps n old
-        | inr new ↦ ap (λ m. m n) root-marked ∙ joined_joins (roots_now c n) n c.marked (and_from _ _ known (ap not new))
-      ]
-
-abbrev pub is_known_in : Collector → Name → Bool
-is_known_in c x = is_some (c.registered x)
-
-known-root : (c : Collector) (n x : Name) → is_known_in (root c n) x ≡ is_known_in c x
-known-root c n x = ap (λ (r : Name → Option Bool). is_some (r x)) (root-registered c n)
-
-pub roots-registered : (c : Collector) (ns : List Name) → (roots c ns).registered ≡ c.registered
-roots-registered c [] = refl
-roots-registered c (n ∷ ns) = roots-registered (root c n) ns ∙ root-registered c n
-
-pub roots-visits : (c : Collector) (ns : List Name) → (roots c ns).visits ≡ c.visits
-roots-visits c [] = refl
-roots-visits c (n ∷ ns) = roots-visits (root c n) ns ∙ root-visits c n
-
+-- roots are no mark calls
 pub roots-calls : (c : Collector) (ns : List Name) → (roots c ns).calls ≡ c.calls
+unfolding root
 roots-calls c [] = refl
-roots-calls c (n ∷ ns) = roots-calls (root c n) ns ∙ root-calls c n
-
-pub roots-size : (c : Collector) (ns : List Name) → (roots c ns).size ≡ c.size
-roots-size c [] = refl
-roots-size c (n ∷ ns) = roots-size (root c n) ns ∙ root-size c n
-
-pub roots_parted : (visited : List Name) (c : Collector) (ns : List Name) → IsParted visited c → IsParted visited (roots c ns)
-roots_parted visited c [] p = p
-roots_parted visited c (n ∷ ns) p = roots_parted visited (root c n) ns (root_parted c n visited p)
-
-pub roots_keeps : (c : Collector) (ns : List Name) (x : Name) → c.marked x ≡ true → (roots c ns).marked x ≡ true
-roots_keeps c [] x h = h
-roots_keeps c (n ∷ ns) x h = roots_keeps (root c n) ns x (root_keeps c n x h)
-
-pub roots_cases : (c : Collector) (ns : List Name) (x : Name) → (roots c ns).marked x ≡ true
-    → (c.marked x ≡ true) ⊎ ((has ns x ≡ true) × (is_known_in c x ≡ true))
-roots_cases c [] x h = inl h
-roots_cases c (n ∷ ns) x h =
-    elim (roots_cases (root c n) ns x h) [
-      | inl sooner ↦ elim (root_cases c n x sooner) [
-        | inl old ↦ inl old
-        | inr new ↦ let P : Name → Type 0 = λ m. (has (n ∷ ns) m ≡ true) × (is_known_in c m ≡ true) in
-            inr (subst P (sym new.0) (has_head n ns, new.1))
-      ]
-      | inr later ↦ inr (or_right _ _ later.0, sym (known-root c n x) ∙ later.1)
-    ]
-
--- each of these names that is registered is marked afterwards
-pub roots_marks : (c : Collector) (ns : List Name) (x : Name) → has ns x ≡ true → is_known_in c x ≡ true → (roots c ns).marked x ≡ true
-roots_marks c [] x h known = cc
-roots_marks c (n ∷ ns) x h known =
-    elim (or_cases _ _ h) [
-      | inl now ↦ roots_keeps (root c n) ns x
-          (let P : Name → Type 0 = λ m. (root c n).marked m ≡ true in
-          subst P (sym (names_same x n now)) (root_marks c n (subst (λ m. is_known_in c m ≡ true) (names_same x n now) known)))
-      | inr later ↦ roots_marks (root c n) ns x later (known-root c n x ∙ known)
-    ]
+roots-calls c (n ∷ ns) = roots-calls (root c n) ns

@@ -8,11 +8,11 @@ use Rattle.std.proofs.lemmas.Bool.{cases_Bool, and_parts, and_from, or_cases, or
 use Rattle.intern_store.specs.declared.names.Name.{Name}
 use Rattle.intern_registry.specs.Registry.{same_name}
 use Rattle.intern_registry.proofs.Listed.{names_same}
-use Rattle.intern_trace.specs.Collector.{Collector, has, is_free, fresh, was_counted, with_counted, marks, roots, begun, without}
+use Rattle.intern_trace.specs.Collector.{Collector, begun, fresh, has, is_free, mark, marks, root, roots, was_counted, with_counted, without}
 use Rattle.intern_trace.specs.Reach.{Entry, entry_of, is_entry, is_counted, counted_entry, children_in, starts, starts_with, IsPath, Reached, IsReachedSet, calls_of}
 use Rattle.intern_trace.specs.Trace.{counted_in, IsParted, IsTrace}
 use Rattle.intern_trace.proofs.Names.{same_name_is_equivalence, has_append, has_cases}
-use Rattle.intern_trace.proofs.Steps.{is_free_in, roots-registered, roots-visits, roots-calls, roots_keeps, roots_cases, roots_marks, roots_parted, marks-registered, marks-visits, marks-calls, marks_keeps, marks_cases, marks_marks, marks_parted}
+use Rattle.intern_trace.proofs.Steps.{mark_places, root_places, each-registered, each-visits, each_keeps, each_cases, each_marks, each_parted, marks-calls, roots-calls}
 
 -- an entry that isn't counted is registered as free, and only such an entry
 there_if_free : (e : Option Entry) → is_free (option_map (λ (e : Entry). is_counted e.count) e) ≡ true → is_some e ≡ true
@@ -88,12 +88,12 @@ module _ (begins : Name → Bool) (family : List Entry) (visited : List Name) (c
     abbrev pub next : Collector
     next = marks (begun c n) kids
 
-    free-family : (x : Name) → is_free_in (begun c n) x ≡ is_free (counted_in family x)
+    free-family : (x : Name) → is_free ((begun c n).registered x) ≡ is_free (counted_in family x)
     free-family x = ap is_free (t.known x)
 
     next_reached : (x : Name) → next.marked x ≡ true → Reached begins family x
     next_reached x h =
-        elim (marks_cases (begun c n) kids x h) [
+        elim (each_cases is_free mark mark_places (begun c n) kids x h) [
           | inl old ↦ t.reached x old
           | inr new ↦ let up = t.reached n marked_n in
               (n ∷ up.0, (there_if_free (entry_of family x) (sym (free-family x) ∙ new.1), new.0, up.1))
@@ -103,14 +103,14 @@ module _ (begins : Name → Bool) (family : List Entry) (visited : List Name) (c
     next_marks : (x : Name) → has kids x ≡ true → is_entry family x ≡ true → next.marked x ≡ true
     next_marks x h there =
         elim (cases_Bool (starts family x)) [
-          | inl rooted ↦ marks_keeps (begun c n) kids x (t.begun x (counted x rooted))
-          | inr bare ↦ marks_marks (begun c n) kids x h (free-family x ∙ free_if_there (entry_of family x) there bare)
+          | inl rooted ↦ each_keeps is_free mark mark_places (begun c n) kids x (t.begun x (counted x rooted))
+          | inr bare ↦ each_marks is_free mark mark_places (begun c n) kids x h (free-family x ∙ free_if_there (entry_of family x) there bare)
         ]
 
     next_closed : (parent x : Name) → has more parent ≡ true → has (children_in family parent) x ≡ true → is_entry family x ≡ true → next.marked x ≡ true
     next_closed parent x h child there =
         elim (has_cases visited n parent h) [
-          | inl old ↦ marks_keeps (begun c n) kids x (t.closed parent x old child there)
+          | inl old ↦ each_keeps is_free mark mark_places (begun c n) kids x (t.closed parent x old child there)
           | inr new ↦ next_marks x (subst (λ p. has (children_in family p) x ≡ true) new child) there
         ]
 
@@ -125,13 +125,13 @@ module _ (begins : Name → Bool) (family : List Entry) (visited : List Name) (c
 
     pub visit_keeps : IsTrace begins family more next
     visit_keeps = record {
-      known = λ x. ap (λ (r : Name → Option Bool). r x) (marks-registered (begun c n) kids) ∙ t.known x;
+      known = λ x. ap (λ (r : Name → Option Bool). r x) (each-registered is_free mark mark_places (begun c n) kids) ∙ t.known x;
       reached = next_reached;
-      begun = λ x h. marks_keeps (begun c n) kids x (t.begun x h);
+      begun = λ x h. each_keeps is_free mark mark_places (begun c n) kids x (t.begun x h);
       closed = next_closed;
-      parted = marks_parted more (begun c n) kids begun_parted;
+      parted = each_parted is_free mark mark_places more (begun c n) kids begun_parted;
       once = IsDistinct-push same_name_is_equivalence visited n t.once (t.parted.apart n waits);
-      visits = marks-visits (begun c n) kids ∙ ap (λ k. k + 1) t.visits ∙ sym (length_more visited n);
+      visits = each-visits is_free mark mark_places (begun c n) kids ∙ ap (λ k. k + 1) t.visits ∙ sym (length_more visited n);
       calls = next-calls;
     }
       where
@@ -175,7 +175,7 @@ module _ (family : List Entry) (listed : List Name) (registered : Name → Optio
 
   first_reached : (x : Name) → (roots rooted listed).marked x ≡ true → Reached (starts_with listed family) family x
   first_reached x h =
-      elim (roots_cases rooted listed x h) [
+      elim (each_cases is_some root root_places rooted listed x h) [
         | inl counted ↦ ([], or_left (starts family x) _ (left_of (starts family x) (sym (rooted-marked x) ∙ counted)))
         | inr new ↦
             let there = sym (there_as (entry_of family x)) ∙ ap is_some (sym (known x)) ∙ new.1 in
@@ -185,21 +185,21 @@ module _ (family : List Entry) (listed : List Name) (registered : Name → Optio
   first_begun : (x : Name) → starts_with listed family x ≡ true → (roots rooted listed).marked x ≡ true
   first_begun x h =
       elim (or_cases (starts family x) (is_entry family x && has listed x) h) [
-        | inl counted ↦ roots_keeps rooted listed x (rooted-marked x ∙ or_left (starts family x) false counted)
+        | inl counted ↦ each_keeps is_some root root_places rooted listed x (rooted-marked x ∙ or_left (starts family x) false counted)
         | inr both ↦
             let parts = and_parts (is_entry family x) (has listed x) both in
-            roots_marks rooted listed x parts.1 (ap is_some (known x) ∙ there_as (entry_of family x) ∙ parts.0)
+            each_marks is_some root root_places rooted listed x parts.1 (ap is_some (known x) ∙ there_as (entry_of family x) ∙ parts.0)
       ]
 
   pub trace_begins : IsTrace (starts_with listed family) family [] (roots rooted listed)
   trace_begins = record {
-    known = λ x. ap (λ (r : Name → Option Bool). r x) (roots-registered rooted listed) ∙ known x;
+    known = λ x. ap (λ (r : Name → Option Bool). r x) (each-registered is_some root root_places rooted listed) ∙ known x;
     reached = first_reached;
     begun = first_begun;
     closed = λ parent x h child there. cc;
-    parted = roots_parted [] rooted listed rooted_parted;
+    parted = each_parted is_some root root_places [] rooted listed rooted_parted;
     once = none_once;
-    visits = roots-visits rooted listed;
+    visits = each-visits is_some root root_places rooted listed;
     calls = roots-calls rooted listed;
   }
 

@@ -63,10 +63,14 @@ tick calls = min (calls + 1) (2 ^ 64 - 1)
 unfoldable pub mark : Collector → Name → Collector
 mark c name = record (placed (marks_now c name) c name) { calls = tick c.calls }
 
--- a mark call for each name, in order
+-- a step for each name, in order
+abbrev pub each : (Collector → Name → Collector) → Collector → List Name → Collector
+each step c [] = c
+each step c (name ∷ names) = each step (step c name) names
+
+-- a mark call for each name
 abbrev pub marks : Collector → List Name → Collector
-marks c [] = c
-marks c (name ∷ names) = marks (mark c name) names
+marks c names = each mark c names
 
 -- whether a name is placed as a root: it is registered and not marked
 unfoldable pub roots_now : Collector → Name → Bool
@@ -76,10 +80,9 @@ roots_now c name = is_some (c.registered name) && not (c.marked name)
 unfoldable pub root : Collector → Name → Collector
 root c name = placed (roots_now c name) c name
 
--- each name is placed as a root, in order
+-- each name is placed as a root
 abbrev pub roots : Collector → List Name → Collector
-roots c [] = c
-roots c (name ∷ names) = roots (root c name) names
+roots c names = each root c names
 
 -- whether an entry is registered as counted
 abbrev pub was_counted : Option Bool → Bool
