@@ -39,7 +39,8 @@ registered (Some storage) birth (Some flags) = Some (record {
 })
 
 -- what is registered in the slots from this one on
-unfoldable pub registered_from : List Part → ℕ → List ℕ → List (Option Flags) → List (Option Registered)
+unfoldable pub registered_from : List Part → ℕ → List ℕ → List (Option Flags)
+    → List (Option Registered)
 registered_from parts i [] flags = []
 registered_from parts i (b ∷ births) [] = []
 registered_from parts i (b ∷ births) (f ∷ flags) =

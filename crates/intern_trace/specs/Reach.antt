@@ -55,7 +55,9 @@ abbrev pub Reached : (Name → Bool) → List Entry → Name → Type 0
 Reached begins family name = (before : List Name) × IsPath begins family before name
 
 -- a list has each reached name once, and no other
-pub record IsReachedSet (begins : Name → Bool) (family : List Entry) (names : List Name) : Type 0 where
+pub record IsReachedSet (begins : Name → Bool) (family : List Entry) (names : List Name)
+    : Type 0
+  where
   pub once : IsDistinct same_name names
   pub reached : (name : Name) → (has names name ≡ true) ↔ Reached begins family name
 
@@ -73,4 +75,5 @@ kept_entries family names = filter (λ e. has names e.name) family
 
 -- each child of an entry is the name of an entry
 abbrev pub IsClosed : List Entry → Type 0
-IsClosed family = (parent name : Name) → has (children_in family parent) name ≡ true → is_entry family name ≡ true
+IsClosed family = (parent name : Name) → has (children_in family parent) name ≡ true
+    → is_entry family name ≡ true

@@ -21,15 +21,18 @@ pub record IsParted (visited : List Name) (c : Collector) : Type 0 where
   pub apart : (name : Name) → c.pending name ≡ true → has visited name ≡ false
 
 -- between two visits: these names were visited
-pub record IsTrace (begins : Name → Bool) (family : List Entry) (visited : List Name) (c : Collector) : Type 0 where
+pub record IsTrace (begins : Name → Bool) (family : List Entry) (visited : List Name)
+    (c : Collector) : Type 0
+  where
   pub known : Knows c family
   -- what is marked is reached
   pub reached : (name : Name) → c.marked name ≡ true → Reached begins family name
   -- where paths begin is marked
   pub begun : (name : Name) → begins name ≡ true → c.marked name ≡ true
   -- a child of what was visited is marked, where it is that of an entry
-  pub closed : (parent name : Name) → has visited parent ≡ true → has (children_in family parent) name ≡ true
-      → is_entry family name ≡ true → c.marked name ≡ true
+  pub closed : (parent name : Name) → has visited parent ≡ true
+      → has (children_in family parent) name ≡ true → is_entry family name ≡ true
+      → c.marked name ≡ true
   pub parted : IsParted visited c
   pub once : IsDistinct same_name visited
   pub visits : c.visits ≡ length visited

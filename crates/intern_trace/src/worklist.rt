@@ -18,7 +18,8 @@ pub(crate) struct Worklist {
     registry: Registry,
     pending: Vec<usize>,
     visits: Visits,
-    ghost kept: { IsSeen (names registry) pending.items visits.0 (vec_capacity pending) } by { Prim.hlevel props },
+    ghost kept: { IsSeen (names registry) pending.items visits.0 (vec_capacity pending) }
+        by { Prim.hlevel props },
 }
 
 // Whether an entry isn't counted and isn't marked.
@@ -33,7 +34,8 @@ impl Worklist {
 
     /// Nothing is registered. It takes no memory.
     pub(crate) fn new(alloc: Global) -> Worklist
-        ensures { (calls : ℕ) → waiting result calls ≡ record (fresh (λ _. None) 0) { calls = calls } }
+        ensures { (calls : ℕ) →
+            waiting result calls ≡ record (fresh (λ _. None) 0) { calls = calls } }
     {
         Worklist {
             registry: Registry::new(alloc),
@@ -45,8 +47,8 @@ impl Worklist {
     /// What is registered, none of it marked, with room to mark all of it.
     pub(crate) fn of(alloc: Global, registry: Registry) -> Result<Worklist, AllocError>
         requires { (names registry).marks ≡ 0 }
-        ensures { IfOk result (λ w. (calls : ℕ) → waiting w calls
-            ≡ record (fresh (is_counted_in (names registry).flags) (names registry).size) { calls = calls }) }
+        ensures { let r = names registry in IfOk result (λ w. (calls : ℕ) → waiting w calls
+            ≡ record (fresh (is_counted_in r.flags) r.size) { calls = calls }) }
     {
         Ok(Worklist {
             pending: Vec::with_capacity(alloc, registry.len())?,
