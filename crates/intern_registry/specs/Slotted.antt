@@ -46,6 +46,7 @@ registered_from parts i (b ∷ births) [] = []
 registered_from parts i (b ∷ births) (f ∷ flags) =
     registered (storage_at parts i) b f ∷ registered_from parts (i + 1) births flags
 
+-- what is registered in all slots
 abbrev pub registered_in : List Part → Slots → List (Option Registered)
 registered_in parts s = registered_from parts 0 s.births.items s.flags.items
 

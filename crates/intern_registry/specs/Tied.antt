@@ -14,6 +14,7 @@ use Rattle.intern_registry.specs.declared.slots.Slots.{Slots}
 abbrev pub hash_of : Name → ℕ
 hash_of x = mixed ((x.birth + mixed x.storage) % 2 ^ 64)
 
+-- how the parts, the slots, the table and the size agree
 pub record IsTied (parts : List Part) (s : Slots) (table : Buckets) (size : ℕ) : Type 0 where
   -- the parts follow one another over all slots
   pub follow : Follow 0 parts (slot_count s)

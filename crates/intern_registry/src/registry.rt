@@ -1,6 +1,6 @@
 //! Names in slots, storage after storage.
-ghost use Rattle.std.specs.Prelude.{◌≡◌, ◌<◌, ◌≤◌, ℕ, length};
-ghost use Rattle.std.specs.Prelude.{Some, None, true, IfSome, IfNone, IfOk, OnOk, OnErr, option_and_then};
+ghost use Rattle.std.specs.Prelude.{◌≡◌, ◌<◌, ◌≤◌, ℕ, true, length};
+ghost use Rattle.std.specs.Prelude.{Some, IfSome, IfNone, IfOk, OnOk, OnErr, option_and_then};
 ghost use Rattle.std.specs.Option.{option_map};
 ghost use Rattle.intern_store.specs.declared.names.Name.{Name as EntryName};
 ghost use Rattle.intern_registry.specs.Registry.{names, IsRegistry, no_names, added};
@@ -18,9 +18,9 @@ use std::marker::Model;
 /// The names of the entries of some storages, in slots.
 ///
 /// Where entries are added in the order of their places, each is in the slot of its place, counted
-/// from the first slot of its storage. A name is looked up there first, and then in a hash table:
-/// it takes constant time, beside a walk over the storages. Only `with_room`, `begin` and `add` take
-/// memory: 11 bytes a slot and 9 an entry.
+/// from the first slot of its storage. A name is looked up there first, and then in a hash table: it
+/// takes expected constant time, beside a walk over the storages. Only `with_room`, `begin` and
+/// `add` take memory: 11 bytes a slot and 9 an entry.
 #[derive(Drop)]
 pub struct Registry {
     parts: Vec<Part>,
@@ -48,7 +48,7 @@ impl Model for Registry {
 }
 
 impl Registry {
-    /// A registry of nothing. It takes no memory.
+    /// A registry of nothing, without room: it slows down as entries are added. It takes no memory.
     pub fn new(alloc: Global) -> Registry
         ensures { names result ≡ no_names }
     {
@@ -60,7 +60,7 @@ impl Registry {
         }
     }
 
-    /// A registry of nothing, with room for this many entries. Look-ups slow down past them.
+    /// A registry of nothing, with room for this many entries. Past them it works on, but slows down.
     pub fn with_room(alloc: Global, entries: usize) -> Result<Registry, AllocError>
         ensures { IfOk result (λ r. names r ≡ no_names) }
     {

@@ -27,7 +27,8 @@ fn put<T: Copy>(items: &mut Vec<T>, slot: usize, between: T, item: T)
 }
 
 impl Slots {
-    ghost use Rattle.intern_registry.specs.Slotted.{birth_at, flags_at, slot_count, HasRoom, marked};
+    ghost use Rattle.intern_registry.specs.Slotted.{birth_at, flags_at, slot_count};
+    ghost use Rattle.intern_registry.specs.Slotted.{HasRoom, marked};
 
     /// No slots. They take no memory.
     pub(crate) fn new(alloc: Global) -> Slots

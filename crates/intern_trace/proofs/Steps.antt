@@ -133,10 +133,10 @@ module _ (may : Option Bool → Bool) (step : Collector → Name → Collector) 
   each_cases c (n ∷ ns) x h =
       elim (each_cases (step c n) ns x h) [
         | inl sooner ↦ elim (step_cases c n x sooner) [
-            | inl old ↦ inl old
-            | inr new ↦ let P : Name → Type 0 = λ m. (has (n ∷ ns) m ≡ true) × (may (c.registered m) ≡ true) in
-                inr (subst P (sym new.0) (has_head n ns, new.1))
-          ]
+          | inl old ↦ inl old
+          | inr new ↦ let P : Name → Type 0 = λ m. (has (n ∷ ns) m ≡ true) × (may (c.registered m) ≡ true) in
+              inr (subst P (sym new.0) (has_head n ns, new.1))
+        ]
         | inr later ↦ inr (or_right _ _ later.0, sym (may-step c n x) ∙ later.1)
       ]
 
@@ -147,7 +147,7 @@ module _ (may : Option Bool → Bool) (step : Collector → Name → Collector) 
       elim (or_cases _ _ h) [
         | inl now ↦ each_keeps (step c n) ns x
             (let P : Name → Type 0 = λ m. (step c n).marked m ≡ true in
-             subst P (sym (names_same x n now)) (step_marks c n (subst (λ m. may (c.registered m) ≡ true) (names_same x n now) known)))
+            subst P (sym (names_same x n now)) (step_marks c n (subst (λ m. may (c.registered m) ≡ true) (names_same x n now) known)))
         | inr later ↦ each_marks (step c n) ns x later (may-step c n x ∙ known)
       ]
 

@@ -58,8 +58,8 @@ Reached begins family name = (before : List Name) × IsPath begins family before
 pub record IsReachedSet (begins : Name → Bool) (family : List Entry) (names : List Name)
     : Type 0
   where
-  pub once : IsDistinct same_name names
-  pub reached : (name : Name) → (has names name ≡ true) ↔ Reached begins family name
+    pub once : IsDistinct same_name names
+    pub reached : (name : Name) → (has names name ≡ true) ↔ Reached begins family name
 
 -- how many children the entries of these names declare, up to the greatest u64
 abbrev pub calls_of : List Entry → List Name → ℕ

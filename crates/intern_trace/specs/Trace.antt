@@ -24,19 +24,19 @@ pub record IsParted (visited : List Name) (c : Collector) : Type 0 where
 pub record IsTrace (begins : Name → Bool) (family : List Entry) (visited : List Name)
     (c : Collector) : Type 0
   where
-  pub known : Knows c family
-  -- what is marked is reached
-  pub reached : (name : Name) → c.marked name ≡ true → Reached begins family name
-  -- where paths begin is marked
-  pub begun : (name : Name) → begins name ≡ true → c.marked name ≡ true
-  -- a child of what was visited is marked, where it is that of an entry
-  pub closed : (parent name : Name) → has visited parent ≡ true
-      → has (children_in family parent) name ≡ true → is_entry family name ≡ true
-      → c.marked name ≡ true
-  pub parted : IsParted visited c
-  pub once : IsDistinct same_name visited
-  pub visits : c.visits ≡ length visited
-  pub calls : c.calls ≡ calls_of family visited
+    pub known : Knows c family
+    -- what is marked is reached
+    pub reached : (name : Name) → c.marked name ≡ true → Reached begins family name
+    -- where paths begin is marked
+    pub begun : (name : Name) → begins name ≡ true → c.marked name ≡ true
+    -- a child of what was visited is marked, where it is that of an entry
+    pub closed : (parent name : Name) → has visited parent ≡ true
+        → has (children_in family parent) name ≡ true → is_entry family name ≡ true
+        → c.marked name ≡ true
+    pub parted : IsParted visited c
+    pub once : IsDistinct same_name visited
+    pub visits : c.visits ≡ length visited
+    pub calls : c.calls ≡ calls_of family visited
 
 -- a trace, whatever was visited
 abbrev pub Traces : (Name → Bool) → List Entry → Collector → Type 0

@@ -18,8 +18,7 @@ pub(crate) struct Worklist {
     registry: Registry,
     pending: Vec<usize>,
     visits: Visits,
-    ghost kept: { IsSeen (names registry) pending.items visits.0 (vec_capacity pending) }
-        by { Prim.hlevel props },
+    ghost kept: { IsSeen (names registry) pending.items visits.0 (vec_capacity pending) } by { Prim.hlevel props },
 }
 
 // Whether an entry isn't counted and isn't marked.
