@@ -4,7 +4,7 @@ ghost use Rattle.slab.specs.Slab.{get};
 ghost use Rattle.intern_index.specs.Swept.{if_marked};
 
 use crate::entry::Entry;
-use intern_store::Marks;
+use intern_store::{Marks, Spot};
 use slab::Slab;
 
 /// Keeps the entries of marked births, each at its place. It takes no memory.
@@ -13,7 +13,10 @@ pub(crate) fn keep_marked<T: Drop, N: Copy, M: Marks>(slots: &mut Slab<Entry<T, 
 {
     for place in 0..slots.capacity() {
         let is_stale = match slots.get(place) {
-            Some(entry) => !marks.is_marked(entry.birth),
+            Some(entry) => {
+                let birth = entry.birth;
+                !marks.is_marked(Spot { birth, place })
+            }
             None => false,
         };
         if is_stale {

@@ -1,10 +1,11 @@
 //! Indexes of few entries and many births: they stay small, and each read is right.
-ghost use Rattle.std.specs.Prelude.{ℕ, ◌<◌, ◌==◌, nat_lt, IsSome};
+ghost use Rattle.std.specs.Prelude.{ℕ, ◌<◌, ◌==◌, nat_lt, true, IsSome};
 ghost use Rattle.std.specs.FinMap as map;
 
 use crate::{BirthOrder, BirthTable, Births, Index, Offer, Query};
 use intern_store::{Marks, Spot};
 use std::alloc::Global;
+use std::cell::Cell;
 use std::process::Abort;
 
 // A number to store, or to look up.
@@ -34,8 +35,28 @@ struct Below(u64);
 impl Marks for Below {
     ghost marked = { λ m b. nat_lt b m.0 };
 
-    fn is_marked(&self, birth: u64) -> bool {
-        birth < self.0
+    fn is_marked(&self, spot: Spot) -> bool {
+        spot.birth < self.0
+    }
+}
+
+// Keeps all, and counts the entries that it is asked of at these places.
+#[derive(Drop)]
+struct Placed<'a> {
+    spots: &'a [Spot],
+    asked: Cell<usize>,
+}
+
+impl Marks for Placed<'_> {
+    ghost marked = { λ m b. true };
+
+    fn is_marked(&self, spot: Spot) -> bool {
+        for placed in self.spots {
+            if (placed.birth, placed.place) == (spot.birth, spot.place) {
+                self.asked.set(self.asked.get().saturating_add(1));
+            }
+        }
+        true
     }
 }
 
@@ -93,9 +114,9 @@ impl<B: Births> Numbers<B> {
         assert_eq!(rt; self.index.remove(spot), Some(spot.birth));
     }
 
-    // Keeps the numbers below this one.
-    fn keep_below(&mut self, number: u64) {
-        self.index.keep(&Below(number));
+    // Keeps the numbers that are marked.
+    fn keep<M: Marks>(&mut self, marks: &M) {
+        self.index.keep(marks);
     }
 
     // Reads a number, also where the place is wrong.
@@ -242,6 +263,22 @@ fn tables_have_room_for_as_many_entries_as_there_are_slots(rt: HostRuntime) {
     assert!(rt; buckets >= slots, "{buckets} buckets for {slots} slots");
 }
 
+// A wrong place would change no answer, and cost those who go by it a look-up.
+#[test]
+fn a_sweep_asks_by_the_right_places(rt: HostRuntime) {
+    let alloc = rt.alloc();
+    let mut numbers = Numbers::<BirthTable>::new(alloc, SPREAD);
+    let mut spots = added(&rt, alloc, &mut numbers, 10);
+    replace(&rt, &mut numbers, &mut spots);
+    let marks = Placed {
+        spots: &spots,
+        asked: Cell::new(0),
+    };
+    numbers.keep(&marks);
+    assert_eq!(rt; marks.asked.get(), 10);
+    all_there(&rt, &numbers, &spots);
+}
+
 // Checks that these are the entries from a number on, in the order of births.
 fn in_order(rt: &impl Abort, numbers: &Numbers<BirthOrder>, from: usize, spots: &[Spot]) {
     for (at, spot) in spots.iter().enumerate() {
@@ -258,7 +295,7 @@ fn sweep(rt: &impl Abort, alloc: Global, numbers: &mut Numbers<BirthOrder>, stay
     let going = added(rt, alloc, numbers, 500);
     in_order(rt, numbers, 0, staying);
     in_order(rt, numbers, 500, &going);
-    numbers.keep_below(500);
+    numbers.keep(&Below(500));
     all_there(rt, numbers, staying);
     for spot in &going {
         numbers.has_not(rt, *spot);

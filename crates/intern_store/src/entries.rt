@@ -94,9 +94,9 @@ pub trait Marks {
     // The births that are kept.
     ghost marked: { Self → ℕ → Bool };
 
-    /// Whether the entry of a birth is kept.
-    fn is_marked(&self, birth: u64) -> bool
-        ensures { result ≡ marked self.now birth };
+    /// Whether an entry is kept. Its birth decides, its place saves a look-up.
+    fn is_marked(&self, spot: Spot) -> bool
+        ensures { result ≡ marked self.now spot.birth };
 }
 
 /// A table that can be cut to the entries that are marked.

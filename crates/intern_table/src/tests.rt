@@ -3,7 +3,7 @@ ghost use Rattle.std.specs.Prelude.{[], nat_eq, refl};
 ghost use Rattle.std.specs.HashSet.{contains};
 
 use crate::{SliceTable, Table};
-use intern_store::{Marks, Refusal, Store};
+use intern_store::{Marks, Refusal, Spot, Store};
 use std::alloc::Global;
 use std::cmp::Eq;
 use std::collections::HashSet;
@@ -43,8 +43,8 @@ struct Marked(HashSet<u64>);
 impl Marks for Marked {
     ghost marked = { λ m. contains nat_eq m.0 };
 
-    fn is_marked(&self, birth: u64) -> bool {
-        self.0.contains(&birth)
+    fn is_marked(&self, spot: Spot) -> bool {
+        self.0.contains(&spot.birth)
     }
 }
 

@@ -1,8 +1,7 @@
 use Rattle.std.proofs.Common.{Bool, true, false, cond, Option, None, IsSome, is_some, ap, sym, ◌∙◌}
-use Rattle.std.specs.Prelude.{nat_lt}
 use Rattle.std.specs.FinMap.{get as map_get}
 use Rattle.intern_store.proofs.Compared.{get-retained}
-use Rattle.intern_index.proofs.tests.Numbers.keep_below.Goals as goal
+use Rattle.intern_index.proofs.tests.Numbers.keep.Goals as goal
 
 was_there : {X : Type 0} (t : Bool) (o : Option X) → IsSome (cond t o None) → IsSome o
 was_there true o some = some
@@ -11,6 +10,6 @@ was_there false o some = absurd (cc)
 pub invariant_of-self : goal.invariant_of-self
 invariant_of-self g c = record {
   below = λ b some.
-      c.args.self.now.below b (was_there (nat_lt b c.args.number) _
+      c.args.self.now.below b (was_there (g.M.Marks.marked c.args.marks.now b) _
       (sym (ap (λ m. is_some (map_get m b)) c.keep.ensures ∙ ap is_some (get-retained c.args.self.now.index _ b)) ∙ some));
 }
