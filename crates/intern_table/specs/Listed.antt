@@ -7,6 +7,14 @@ use Rattle.intern_table.specs.Read.{shown}
 use Rattle.intern_table.specs.Sliced.{Sliced}
 use Rattle.intern_table.specs.declared.pool.SlicePayload.{SlicePayload}
 
+-- the count of a slice
+abbrev pub slice_count : SlicePayload → ℕ
+slice_count p = p.count
+
+-- each birth with the count of its entry
+abbrev pub listed_counts : {V : Type 0} → FinMap nat_cmp (Kept V) → List (ℕ × ℕ)
+listed_counts m = list_map (λ e. (e.0, e.1.count)) (entries m)
+
 -- each birth with its value and its count
 abbrev pub listed_values : {T : Type 0} → FinMap nat_cmp (Kept T) → List (ℕ × (T × ℕ))
 listed_values m = list_map (λ e. (e.0, (e.1.value, e.1.count))) (entries m)

@@ -1,6 +1,7 @@
 //! How a storage keeps its entries: in an index, and those of slices with one vector of all items.
 #![tactic(auto)]
 
+mod counted;
 mod counts;
 mod equivalent;
 mod pool;
@@ -10,6 +11,7 @@ mod slice_table;
 mod table;
 mod text;
 
+pub use counted::{Counted, Counts};
 pub use equivalent::Equivalent;
 pub use intern_index::Iter;
 pub use slice::{HeaderSlice, HeaderWithLength, SliceValue};

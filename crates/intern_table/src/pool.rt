@@ -8,7 +8,7 @@ use intern_index::{BirthOrder, Change, Index};
 
 /// Where the items of an entry lie among all, and the entry's count.
 #[derive(Clone, Copy)]
-pub(crate) struct SlicePayload {
+pub struct SlicePayload {
     pub(crate) start: usize,
     pub(crate) length: usize,
     pub(crate) count: u64,

@@ -4,9 +4,10 @@ ghost use Rattle.std.specs.Option.{option_map};
 ghost use Rattle.std.specs.FinMap as map;
 ghost use Rattle.intern_table.specs.Sliced.{sliced_eq, sliced_input};
 ghost use Rattle.intern_table.specs.Hashes.{hash_of};
-ghost use Rattle.intern_table.specs.Listed.{listed_slices};
+ghost use Rattle.intern_table.specs.Listed.{listed_counts, listed_slices};
 ghost use Rattle.intern_table.specs.Read.{read, shown};
 
+use crate::counted::{Counted, Counts};
 use crate::counts::{Lower, OfCount, Raise};
 use crate::equivalent::hash_value;
 use crate::pool::{SlicePayload, compact, part};
@@ -95,13 +96,21 @@ impl<H: Hash + Eq, S: Hash + Eq + Copy> SliceTable<H, S> {
             items: self.items.as_slice(),
         }
     }
+
+    /// The entries, each with its count, in no promised order.
+    pub fn counts(&self) -> Counts<'_, H, SlicePayload>
+        ensures { IsPermutation result (listed_counts self.now) }
+    {
+        let entries = self.index.iter();
+        Counts { entries }
+    }
 }
 
 // The count in a payload.
 fn count_of(payload: Option<SlicePayload>) -> Option<u64>
     ensures { result ≡ option_map (λ p. p.count) payload }
 {
-    Some(payload?.count)
+    Some(payload?.count())
 }
 
 impl<H: Hash + Eq, S: Hash + Eq + Copy> Entries for SliceTable<H, S> {

@@ -3,8 +3,9 @@ ghost use Rattle.std.specs.Prelude.{◌≡◌, IsPermutation, option_copied};
 ghost use Rattle.std.specs.Option.{option_map};
 ghost use Rattle.std.specs.FinMap as map;
 ghost use Rattle.intern_table.specs.Hashes.{hash_of};
-ghost use Rattle.intern_table.specs.Listed.{listed_values};
+ghost use Rattle.intern_table.specs.Listed.{listed_counts, listed_values};
 
+use crate::counted::Counts;
 use crate::counts::{Lower, Raise};
 use crate::equivalent::Equivalent;
 use intern_index::{BirthTable, Index, Iter, Query};
@@ -70,6 +71,14 @@ impl<T: Hash + Eq> Table<T> {
         ensures { IsPermutation result (listed_values self.now) }
     {
         self.index.iter()
+    }
+
+    /// The entries, each with its count, in no promised order.
+    pub fn counts(&self) -> Counts<'_, T, u64>
+        ensures { IsPermutation result (listed_counts self.now) }
+    {
+        let entries = self.index.iter();
+        Counts { entries }
     }
 }
 

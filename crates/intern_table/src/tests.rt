@@ -1,9 +1,10 @@
-//! Sweeps, also after churn; items that take no room; values that share a hash; and refused memory.
+//! Sweeps, also after churn; walks over counts; items that take no room; values that share a hash; and
+//! refused memory.
 ghost use Rattle.std.specs.Prelude.{[], nat_eq, refl};
 ghost use Rattle.std.specs.HashSet.{contains};
 
 use crate::{SliceTable, Table};
-use intern_store::{Marks, Refusal, Spot, Store};
+use intern_store::{Entries, Marks, Refusal, Spot, Store};
 use std::alloc::Global;
 use std::cmp::Eq;
 use std::collections::HashSet;
@@ -197,6 +198,34 @@ fn sweeps_after_churn_keep_values(rt: HostRuntime) {
         assert_eq!(rt; number_at(&store, birth), Some(birth));
     }
     assert_eq!(rt; store.len(), 30);
+}
+
+#[test]
+fn a_walk_counts_values(rt: HostRuntime) {
+    let mut store = Store::new(rt.alloc(), 1);
+    add_numbers(&rt, &mut store, 0, 3);
+    let handle = store.entry(1).expect(&rt, "stored");
+    assert_eq!(rt; store.count_up(handle), Ok(()));
+    let table = store.table();
+    assert_eq!(rt; table.counts().count(), 3);
+    for (spot, count) in table.counts() {
+        assert_eq!(rt; table.place(spot.birth), Some(spot.place));
+        assert_eq!(rt; count, if spot.birth == 1 { 2 } else { 1 });
+    }
+}
+
+#[test]
+fn a_walk_counts_slices(rt: HostRuntime) {
+    let mut store = Store::new(rt.alloc(), 1);
+    add_slices(&rt, &mut store, 0, 3);
+    let handle = store.entry(1).expect(&rt, "stored");
+    assert_eq!(rt; store.count_up(handle), Ok(()));
+    let table = store.table();
+    assert_eq!(rt; table.counts().count(), 3);
+    for (spot, count) in table.counts() {
+        assert_eq!(rt; table.place(spot.birth), Some(spot.place));
+        assert_eq!(rt; count, if spot.birth == 1 { 1 } else { 0 });
+    }
 }
 
 // A number that hashes as every other does.

@@ -1,0 +1,8 @@
+use Rattle.std.proofs.Common.{refl}
+use Rattle.intern_table.specs.Joined.{sliced_entry}
+use Rattle.intern_table.specs.Listed.{slice_count}
+use Rattle.intern_table.proofs.Walks.{counted}
+use Rattle.intern_table.proofs.slice_table.SliceTable.counts.Goals as goal
+
+pub returns : goal.returns
+returns g c = counted slice_count (sliced_entry c.self.inside.items.items) (λ r. refl) _ _ c.self.view_is _ c.iter-entries.ensures
