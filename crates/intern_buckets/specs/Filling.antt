@@ -1,5 +1,5 @@
 -- How full a table is.
-use Rattle.std.specs.Prelude.{ℕ, ◌<◌}
+use Rattle.std.specs.Prelude.{ℕ, ◌+◌, ◌-◌, ◌/◌, ◌^◌, ◌<◌, min}
 use Rattle.std.specs.Vec.{vec_len, vec_capacity}
 use Rattle.intern_buckets.specs.Probing.{full_count}
 use Rattle.intern_buckets.specs.declared.buckets.Buckets.{Buckets}
@@ -7,6 +7,10 @@ use Rattle.intern_buckets.specs.declared.buckets.Buckets.{Buckets}
 -- how many homes there are
 abbrev pub homes_of : Buckets → ℕ
 homes_of t = t.homes
+
+-- how many homes a table for this many places has: eight for each seven, if they can be counted
+abbrev pub homes_for : ℕ → ℕ
+homes_for places = min (places + places / 7) (2 ^ 64 - 1)
 
 -- how many buckets are full
 abbrev pub full_of : Buckets → ℕ

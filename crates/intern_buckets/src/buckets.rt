@@ -1,6 +1,6 @@
 //! A hash table of places.
 ghost use Rattle.std.specs.Prelude.{◌≡◌, ℕ, ◌+◌, ◌<◌, ◌≤◌, ◌^◌};
-ghost use Rattle.std.specs.Prelude.{length, Some, true, IfOk, OnOk};
+ghost use Rattle.std.specs.Prelude.{length, Some, true, IfSome, IfOk, OnOk, IsOk};
 ghost use Rattle.intern_buckets.specs.Probing.{home, bucket, is_empty};
 
 use std::alloc::{AllocError, Global};
@@ -48,7 +48,8 @@ impl Bucket {
 
     /// The place, where the bucket may be that of an entry of this hash.
     pub(crate) fn place(self, hash: u64) -> Option<usize>
-        ensures { (p : ℕ) → p + 1 < 2 ^ 48 → self ≡ bucket hash p → result ≡ Some p }
+        ensures found { (p : ℕ) → p + 1 < 2 ^ 48 → self ≡ bucket hash p → result ≡ Some p }
+        ensures is { IfSome result (λ p. self ≡ bucket hash p) }
     {
         if self.0 / (1 << 48) != hash % (1 << 16) {
             return None;
@@ -58,12 +59,13 @@ impl Bucket {
 }
 
 impl Buckets {
-    ghost use Rattle.intern_buckets.specs.Filling.{homes_of, full_of, capacity_of, HasRoom};
+    ghost use Rattle.intern_buckets.specs.Filling.{homes_of, homes_for, full_of, capacity_of, HasRoom};
     ghost use Rattle.intern_buckets.specs.Leading.{leads, probe_sequence};
 
     /// A table without a bucket. It takes no memory.
     pub fn new(alloc: Global) -> Buckets
-        ensures { full_of result ≡ 0 }
+        ensures full { full_of result ≡ 0 }
+        ensures capacity { capacity_of result ≡ 0 }
     {
         Buckets {
             buckets: Vec::new(alloc),
@@ -75,7 +77,7 @@ impl Buckets {
     /// there is no memory for it.
     pub fn with_room(alloc: Global, places: usize) -> Result<Buckets, AllocError>
         ensures empty { IfOk result (λ t. full_of t ≡ 0) }
-        ensures homes { IfOk result (λ t. places ≤ homes_of t) }
+        ensures homes { IfOk result (λ t. homes_of t ≡ homes_for places) }
     {
         let homes = places.saturating_add(places / 7);
         let mut buckets = Vec::with_capacity(alloc, homes.saturating_add(SPARE))?;
@@ -104,6 +106,7 @@ impl Buckets {
         ensures full { full_of self.new ≡ full_of self.old }
         ensures led { (h p : ℕ) → leads self.new h p ≡ leads self.old h p }
         ensures ok { OnOk result (HasRoom self.new) }
+        ensures succeeds { HasRoom self.old → IsOk result }
     {
         self.buckets.reserve(1)
     }
@@ -113,6 +116,7 @@ impl Buckets {
         requires small { place + 1 < 2 ^ 48 }
         requires room { HasRoom self.old }
         ensures homes { homes_of self.new ≡ homes_of self.old }
+        ensures capacity { capacity_of self.new ≡ capacity_of self.old }
         ensures full { full_of self.new ≡ full_of self.old + 1 }
         ensures entered { leads self.new hash place ≡ true }
         ensures still { (h p : ℕ) →

@@ -18,6 +18,7 @@ pub trait Test {
 // The place of a bucket, where it passes a test.
 fn place_of<Q: Test>(bucket: Bucket, hash: u64, test: &Q) -> Option<usize>
     ensures found { IfSome result (λ p. Q.passes test.now p ≡ true) }
+    ensures led { IfSome result (λ p. bucket ≡ bucket_of hash p) }
     ensures none { IfNone result ((p : ℕ) → p + 1 < 2 ^ 48
         → bucket ≡ bucket_of hash p → Q.passes test.now p ≡ false) }
 {
@@ -33,6 +34,7 @@ fn place_of<Q: Test>(bucket: Bucket, hash: u64, test: &Q) -> Option<usize>
 /// memory.
 pub fn search<Q: Test>(table: &Buckets, hash: u64, test: &Q) -> Option<usize>
     ensures found { IfSome result (λ p. Q.passes test.now p ≡ true) }
+    ensures led { IfSome result (λ p. leads table.now hash p ≡ true) }
     ensures none { IfNone result ((p : ℕ) → p + 1 < 2 ^ 48
         → leads table.now hash p ≡ true → Q.passes test.now p ≡ false) }
 {

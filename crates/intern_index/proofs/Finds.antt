@@ -35,6 +35,13 @@ module _ {T N : Type 0} (fits : T → N → Bool) (h : ℕ) (s : Slab (Entry T N
       let both = sym (ap (λ o. option_map_or passes o false) there) ∙ found in
       ap (is_sought fits) (ap (λ n. map_get n e.birth) (sym view) ∙ read_there s tied.apart p e there) ∙ (and_parts (nat_eq e.hash h) _ both).1
 
+  -- it has that hash
+  pub one_hashed : (p : ℕ) (e : Entry T N) → get s p ≡ Some e → passes_at passes s p ≡ true → has_hash h (map_get m e.birth) ≡ true
+  one_hashed p e there found =
+      let both = sym (ap (λ o. option_map_or passes o false) there) ∙ found in
+      let same = eqb-true e.hash h (and_parts (nat_eq e.hash h) _ both).0 in
+      ap (has_hash h) (ap (λ n. map_get n e.birth) (sym view) ∙ read_there s tied.apart p e there) ∙ eq-eqb h e.hash (sym same)
+
   -- and its place is told
   pub one_placed : (p : ℕ) (e : Entry T N) → get s p ≡ Some e → option_map (λ (e : IndexEntry T N). e.place) (map_get m e.birth) ≡ Some p
   one_placed p e there = ap (option_map (λ (e : IndexEntry T N). e.place)) (ap (λ n. map_get n e.birth) (sym view) ∙ read_there s tied.apart p e there)

@@ -62,6 +62,9 @@ impl Births for BirthOrder {
 
     ghost HasRoom = { λ t. vec_len t.places < vec_capacity t.places };
 
+    // It is no table: it is right as it is.
+    ghost IsBuilt = { λ _ _ _. Unit {0} };
+
     fn new(alloc: Global) -> BirthOrder {
         BirthOrder {
             places: Vec::new(alloc),

@@ -1,6 +1,6 @@
 //! Births in a table of buckets.
 ghost use Rattle.std.specs.Prelude.{◌≡◌, ◌==◌, ℕ, true, Some};
-ghost use Rattle.intern_buckets.specs.Filling.{HasRoom as HasBucket};
+ghost use Rattle.intern_buckets.specs.Filling.{HasRoom as HasBucket, homes_of, homes_for, full_of};
 ghost use Rattle.intern_buckets.specs.Leading.{leads};
 ghost use Rattle.intern_buckets.specs.Mixed.{mixed};
 ghost use Rattle.intern_index.specs.Entries.{passes_at};
@@ -62,6 +62,8 @@ impl Births for BirthTable {
         at p ≡ Some b → leads t.buckets (mixed b) p ≡ true };
 
     ghost HasRoom = { λ t. HasBucket t.buckets };
+
+    ghost IsBuilt = { λ t n room. (full_of t.buckets ≡ n) × (homes_of t.buckets ≡ homes_for room) };
 
     fn new(alloc: Global) -> BirthTable {
         BirthTable {

@@ -1,6 +1,7 @@
 //! How the place of a birth is found.
 ghost use Rattle.std.specs.Prelude.{◌≡◌, ◌≢◌, ℕ, ◌+◌, ◌<◌, ◌^◌};
 ghost use Rattle.std.specs.Prelude.{Some, None, Option, IfSome, IfNone, OnOk};
+ghost use Rattle.slab.specs.Slab.{slab_len};
 ghost use Rattle.intern_index.specs.Entries.{birth_at, AreTold};
 
 use crate::entry::Entry;
@@ -14,6 +15,9 @@ pub trait Births: Sized {
 
     // Whether one more can be entered.
     ghost HasRoom: { Self → Type 0 };
+
+    // Whether it was built from so many births, with room for so many.
+    ghost IsBuilt: { Self → ℕ → ℕ → Type 0 };
 
     /// One that knows no birth. It takes no memory.
     fn new(alloc: Global) -> Self
@@ -49,7 +53,8 @@ pub trait Births: Sized {
     ) -> Result<(), AllocError>
         requires known { IsFor self.old (birth_at slots.now) }
         requires told { AreTold slots.now }
-        ensures { IsFor self.new (birth_at slots.now) };
+        ensures finds { IsFor self.new (birth_at slots.now) }
+        ensures built { OnOk result (IsBuilt self.new (slab_len slots.now) room) };
 
     /// Forgets the births that are gone. It takes no memory.
     fn forget<T, N: Copy>(&mut self, slots: &Slab<Entry<T, N>>)

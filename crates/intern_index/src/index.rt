@@ -191,6 +191,7 @@ impl<T, N: Copy, B: Births> Index<T, N, B> {
             is_sought (Q.fits query.now) (map.get self.now s.birth) ≡ true) }
         ensures place { IfSome result (λ s.
             option_map (λ e. e.place) (map.get self.now s.birth) ≡ Some s.place) }
+        ensures hash { IfSome result (λ s. has_hash hash (map.get self.now s.birth) ≡ true) }
         ensures none { IfNone result ((b : ℕ) → has_hash hash (map.get self.now b) ≡ true →
             is_sought (Q.fits query.now) (map.get self.now b) ≡ false) }
     {

@@ -1,7 +1,7 @@
 //! Tables built from the entries.
 ghost use Rattle.std.specs.Prelude.{◌≡◌, ◌≤◌, ℕ, true, Some, IfOk};
 ghost use Rattle.slab.specs.Slab.{get, slab_len};
-ghost use Rattle.intern_buckets.specs.Filling.{homes_of, full_of};
+ghost use Rattle.intern_buckets.specs.Filling.{homes_of, homes_for, full_of};
 ghost use Rattle.intern_buckets.specs.Leading.{leads};
 ghost use Rattle.intern_index.specs.Entries.{AreTold};
 ghost use Rattle.intern_index.specs.declared.entry.Entry.{Entry as Kept};
@@ -32,7 +32,7 @@ pub(crate) fn table_of<T, N: Copy, K: Key<T, N>>(
     ensures led { IfOk result (λ t. (p : ℕ) (e : Kept T N) →
         get slots.now p ≡ Some e → leads t (K.key by.now e) p ≡ true) }
     ensures once { IfOk result (λ t. full_of t ≡ slab_len slots.now) }
-    ensures homes { IfOk result (λ t. room ≤ homes_of t) }
+    ensures homes { IfOk result (λ t. homes_of t ≡ homes_for room) }
 {
     let mut table = Buckets::with_room(alloc, room)?;
     for (place, entry) in slots.iter() {

@@ -1,6 +1,7 @@
 //! What finds the places of entries.
 ghost use Rattle.std.specs.Prelude.{◌≡◌, ◌≢◌, ℕ, ◌+◌, ◌<◌, ◌≤◌, ◌^◌};
 ghost use Rattle.std.specs.Prelude.{true, Option, Some, None, OnOk};
+ghost use Rattle.intern_index.specs.Room.{left_for, left_then};
 ghost use Rattle.slab.specs.Slab.{slab_len};
 ghost use Rattle.intern_buckets.specs.Filling.{homes_of, full_of, HasRoom};
 ghost use Rattle.intern_buckets.specs.Leading.{leads};
@@ -61,7 +62,8 @@ impl<B: Births> Tables<B> {
         requires { IsTied slots.now self.old.by_hash (B.IsFor self.old.births) }
         ensures tied { IsTied slots.now self.new.by_hash (B.IsFor self.new.births) }
         ensures once { OnOk result (full_of self.new.by_hash ≡ slab_len slots.now) }
-        ensures left { OnOk result (0 < self.new.left) }
+        ensures left { OnOk result (self.new.left ≡ left_for slots.now) }
+        ensures some { OnOk result (0 < self.new.left) }
     {
         let entries = slots.len();
         let room = entries.saturating_mul(2).max(slots.capacity()).max(LEAST);
@@ -82,7 +84,8 @@ impl<B: Births> Tables<B> {
         ensures tied { IsTied slots.now self.new.by_hash (B.IsFor self.new.births) }
         ensures bucket { OnOk result (HasRoom self.new.by_hash) }
         ensures birth { OnOk result (B.HasRoom self.new.births) }
-        ensures left { OnOk result (0 < self.new.left) }
+        ensures left { OnOk result (self.new.left ≡ left_then self.old.left slots.now) }
+        ensures some { OnOk result (0 < self.new.left) }
     {
         if self.left == 0 {
             self.rebuild(alloc, slots)?;

@@ -49,7 +49,8 @@ pub struct EntryKey {
 impl Spot {
     /// The key of the entry in the storage of this number.
     pub fn in_storage(self, number: u64) -> EntryKey
-        ensures { result.name ≡ record { storage = number; birth = self.birth } }
+        ensures name { result.name ≡ record { storage = number; birth = self.birth } }
+        ensures place { result.place ≡ self.place }
     {
         EntryKey {
             name: Name {
@@ -64,7 +65,8 @@ impl Spot {
 impl EntryKey {
     /// Where the entry is.
     pub fn spot(self) -> Spot
-        ensures { result.birth ≡ self.name.birth }
+        ensures birth { result.birth ≡ self.name.birth }
+        ensures place { result.place ≡ self.place }
     {
         Spot {
             birth: self.name.birth,

@@ -41,7 +41,7 @@ loop-place-preserved g c =
       once =
           let one = ap length next in
           omega (arith, room.full, entered.full, before.once);
-      homes = omega (arith, before.homes, room.homes, entered.homes);
+      homes = entered.homes ∙ room.homes ∙ before.homes;
     }
 
 pub returns-clause-led : goal.returns-clause-led

@@ -1,4 +1,4 @@
-use Rattle.intern_index.proofs.Finds.{none_fits, one_fits, one_placed}
+use Rattle.intern_index.proofs.Finds.{none_fits, one_fits, one_hashed, one_placed}
 use Rattle.intern_index.proofs.index.Index.find.Goals as goal
 
 pub returns-in_err-place-clause-none : goal.returns-in_err-place-clause-none
@@ -9,6 +9,10 @@ returns-in_err-place-clause-none g c =
 pub returns-clause-found : goal.returns-clause-found
 returns-clause-found g c =
     one_fits (g.Q.Query.fits c.args.query.now) c.args.hash c.self.inside.slots c.self.inside.tables.by_hash _ c.self.invariant _ c.self.view_is c.in_ok-place.place c.index.result.now c.index.ensures c.in_ok-place.ensures.found
+
+pub returns-clause-hash : goal.returns-clause-hash
+returns-clause-hash g c =
+    one_hashed (g.Q.Query.fits c.args.query.now) c.args.hash c.self.inside.slots c.self.inside.tables.by_hash _ c.self.invariant _ c.self.view_is c.in_ok-place.place c.index.result.now c.index.ensures c.in_ok-place.ensures.found
 
 pub returns-clause-place : goal.returns-clause-place
 returns-clause-place g c =
