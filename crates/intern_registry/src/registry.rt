@@ -72,8 +72,8 @@ impl Registry {
         })
     }
 
-    /// The entries that are added from here on are those of the storage of this number. After a
-    /// refusal nothing has changed.
+    /// The entries that are added from here on are those of the storage of this number. Where there
+    /// is no memory, `AllocError`, and nothing has changed.
     pub fn begin(&mut self, number: u64) -> Result<(), AllocError>
         ensures ok { OnOk result
             (names self.new ≡ record (names self.old) { storage = Some number }) }
@@ -88,8 +88,8 @@ impl Registry {
         Ok(())
     }
 
-    /// Adds an entry of the storage that was begun last. Its name isn't registered. After a refusal
-    /// nothing has changed.
+    /// Adds an entry of the storage that was begun last. Its name isn't registered. Where there is no
+    /// memory, or 2^48 slots are taken, `AllocError`, and nothing has changed.
     ///
     /// The entry's slot is that of its place. Slots before it that no entry takes stay vacant, and
     /// where the slot is taken or passed over already, the entry's is the next.

@@ -1,5 +1,5 @@
 -- What the entries of a family declare, and what their paths reach.
-use Rattle.std.specs.Prelude.{ℕ, ◌-◌, ◌^◌, min, Bool, true, false, not, ◌&&◌, ◌||◌, ◌==◌, List, [], ◌∷◌, map, length, Option, Some, None, is_some, ◌≡◌, ◌↔◌}
+use Rattle.std.specs.Prelude.{ℕ, ◌-◌, ◌^◌, min, Bool, true, false, not, ◌&&◌, ◌||◌, ◌==◌, List, [], ◌∷◌, length, Option, Some, None, is_some, ◌≡◌, ◌↔◌}
 use Rattle.std.specs.List.{find, filter, sum_by, IsDistinct}
 use Rattle.intern_store.specs.declared.names.Name.{Name}
 use Rattle.intern_registry.specs.Registry.{same_name}
@@ -64,10 +64,6 @@ pub record IsReachedSet (begins : Name → Bool) (family : List Entry) (names : 
 -- how many children the entries of these names declare, up to the greatest u64
 abbrev pub calls_of : List Entry → List Name → ℕ
 calls_of family names = min (sum_by (λ name. length (children_in family name)) names) (2 ^ 64 - 1)
-
--- the names of the entries
-abbrev pub names_of : List Entry → List Name
-names_of family = map (λ e. e.name) family
 
 -- the entries whose names are in a list
 abbrev pub kept_entries : List Entry → List Name → List Entry

@@ -49,7 +49,8 @@ impl Tracer {
         }
     }
 
-    /// A tracer of what is registered, none of it marked, with room to mark all of it.
+    /// A tracer of what is registered, none of it marked, with room to mark all of it. Where there
+    /// is no memory for that, `AllocError`, and the registry is dropped.
     pub fn of(alloc: Global, registry: Registry) -> Result<Tracer, AllocError>
         requires { (names registry).marks ≡ 0 }
         ensures { let r = names registry in
