@@ -1,12 +1,12 @@
 -- What is reached, and what is left of it once the rest is gone.
-use Rattle.std.proofs.Common.{◌≡◌, Bool, true, false, cond, List, [], ◌∷◌, Option, Some, None, is_some, refl, sym, ◌∙◌, ap, inl, inr, true≢false}
+use Rattle.std.proofs.Common.{◌≡◌, Bool, true, false, cond, ◌&&◌, ◌||◌, List, [], ◌∷◌, Option, Some, None, is_some, refl, sym, ◌∙◌, ap, inl, inr, true≢false}
 use Rattle.std.specs.List.{filter}
 use Rattle.std.proofs.lemmas.Bool.{cases_Bool, false_from_ne_true}
 use Rattle.intern_store.specs.declared.names.Name.{Name}
 use Rattle.intern_registry.specs.Registry.{same_name}
 use Rattle.intern_registry.proofs.Listed.{names_same}
 use Rattle.intern_trace.specs.Collector.{has}
-use Rattle.intern_trace.specs.Reach.{Entry, entry_of, is_entry, counted_entry, children_of, children_in, starts, IsPath, Reached, IsReachedSet, kept_entries, IsClosed}
+use Rattle.intern_trace.specs.Reach.{Entry, entry_of, is_entry, counted_entry, children_of, children_in, starts_with, IsPath, Reached, IsReachedSet, kept_entries, IsClosed}
 
 -- each set that has the names at which paths begin, and with a name its children that are entries, has all that is reached
 pub least : (begins : Name → Bool) (family : List Entry) (set : Name → Bool) → ((x : Name) → begins x ≡ true → set x ≡ true)
@@ -34,7 +34,7 @@ module _ (names : List Name) where
       ]
 
   -- no other is there
-  find_gone : (family : List Entry) (x : Name) → has names x ≡ false → entry_of (filter (λ e. has names e.name) family) x ≡ None
+  pub find_gone : (family : List Entry) (x : Name) → has names x ≡ false → entry_of (filter (λ e. has names e.name) family) x ≡ None
   find_gone [] x out = refl
   find_gone (e ∷ family) x out =
       elim (cases_Bool (has names e.name)) [
@@ -46,11 +46,11 @@ module _ (names : List Name) where
       ]
 
 -- what is reached is reached once the rest is gone, and nothing else is
-module _ (family : List Entry) (names : List Name) (is : IsReachedSet (starts family) family names) where
+module _ (family : List Entry) (listed names : List Name) (is : IsReachedSet (starts_with listed family) family names) where
   abbrev pub rest : List Entry
   rest = kept_entries family names
 
-  same_entry : (x : Name) → Reached (starts family) family x → entry_of rest x ≡ entry_of family x
+  same_entry : (x : Name) → Reached (starts_with listed family) family x → entry_of rest x ≡ entry_of family x
   same_entry x reached = find_kept names family x ((is.reached x).1 reached)
 
   -- what an entry that is left tells, it told before
@@ -61,17 +61,19 @@ module _ (family : List Entry) (names : List Name) (is : IsReachedSet (starts fa
         | inr goes ↦ let none = ap is_some (sym (find_gone names family x goes) ∙ at) in let no : false ≡ true = none ∙ there in absurd (true≢false (sym no))
       ]
 
-  into : (before : List Name) (x : Name) → IsPath (starts family) family before x → IsPath (starts rest) rest before x
-  into [] x path = ap counted_entry (same_entry x ([], path)) ∙ path
+  into : (before : List Name) (x : Name) → IsPath (starts_with listed family) family before x → IsPath (starts_with listed rest) rest before x
+  into [] x path = ap (λ (o : Option Entry). counted_entry o || (is_some o && has listed x)) (same_entry x ([], path)) ∙ path
   into (parent ∷ before) x path = (
     ap is_some (same_entry x (parent ∷ before, path)) ∙ path.0,
     ap (λ (o : Option Entry). has (children_of o) x) (same_entry parent (before, path.2)) ∙ path.1,
     into before parent path.2,
   )
 
-  begins_there : (x : Name) (o : Option Entry) → entry_of rest x ≡ o → counted_entry o ≡ true → starts family x ≡ true
-  begins_there x None at counted = cc
-  begins_there x (Some e) at counted = ap counted_entry (from_rest x (Some e) at refl) ∙ counted
+  begins_there : (x : Name) (o : Option Entry) → entry_of rest x ≡ o → (counted_entry o || (is_some o && has listed x)) ≡ true
+      → starts_with listed family x ≡ true
+  begins_there x None at first = cc
+  begins_there x (Some e) at first =
+      ap (λ (o : Option Entry). counted_entry o || (is_some o && has listed x)) (from_rest x (Some e) at refl) ∙ first
 
   declares : (parent x : Name) (o : Option Entry) → entry_of rest parent ≡ o → has (children_of o) x ≡ true → has (children_in family parent) x ≡ true
   declares parent x None at child = cc
@@ -80,7 +82,7 @@ module _ (family : List Entry) (names : List Name) (is : IsReachedSet (starts fa
   stays_there : (x : Name) (o : Option Entry) → entry_of rest x ≡ o → is_some o ≡ true → is_entry family x ≡ true
   stays_there x o at there = ap is_some (from_rest x o at there) ∙ there
 
-  out_of : (before : List Name) (x : Name) → IsPath (starts rest) rest before x → IsPath (starts family) family before x
+  out_of : (before : List Name) (x : Name) → IsPath (starts_with listed rest) rest before x → IsPath (starts_with listed family) family before x
   out_of [] x path = begins_there x (entry_of rest x) refl path
   out_of (parent ∷ before) x path = (
     stays_there x (entry_of rest x) refl path.0,
@@ -88,7 +90,7 @@ module _ (family : List Entry) (names : List Name) (is : IsReachedSet (starts fa
     out_of before parent path.2,
   )
 
-  pub reached_again : IsReachedSet (starts rest) rest names
+  pub reached_again : IsReachedSet (starts_with listed rest) rest names
   reached_again = record {
     once = is.once;
     reached = λ x. (

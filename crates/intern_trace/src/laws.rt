@@ -51,19 +51,19 @@ pub fn what_is_reached_is_the_least_closed_set()
         (name : Name) → Reached begins family name → set name ≡ true }
 {}
 
-/// What is reached is reached again once the rest is gone, so a second collection keeps all that
-/// the first has left.
+/// What is reached is reached again once the rest is gone, from the same roots, so a second
+/// collection keeps all that the first has left.
 pub fn a_second_collection_keeps_all()
-    ensures reached { (family : List Entry) (names : List Name) →
-        IsReachedSet (starts family) family names → let rest = kept_entries family names in
-        IsReachedSet (starts rest) rest names }
+    ensures reached { (family : List Entry) (listed names : List Name) →
+        IsReachedSet (starts_with listed family) family names →
+        let rest = kept_entries family names in IsReachedSet (starts_with listed rest) rest names }
     ensures kept { (family : List Entry) (names : List Name) →
         let rest = kept_entries family names in kept_entries rest names ≡ rest }
 {}
 
 /// Where each child of an entry is that of an entry, the same holds of what is left.
 pub fn a_closed_family_stays_closed()
-    ensures { (family : List Entry) (names : List Name) →
-        IsReachedSet (starts family) family names →
+    ensures { (family : List Entry) (listed names : List Name) →
+        IsReachedSet (starts_with listed family) family names →
         IsClosed family → IsClosed (kept_entries family names) }
 {}

@@ -62,6 +62,13 @@ impl Tracer {
         })
     }
 
+    /// How many names are registered.
+    pub fn len(&self) -> usize
+        ensures { result ≡ (state self.now).size }
+    {
+        self.worklist.len()
+    }
+
     /// Whether a name is marked.
     pub fn is_marked(&self, key: EntryKey) -> bool
         ensures { result ≡ (state self.now).marked key.name }

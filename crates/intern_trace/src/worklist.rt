@@ -67,6 +67,13 @@ impl Worklist {
         Some((slot, self.registry.flags(slot)?))
     }
 
+    /// How many names are registered.
+    pub(crate) fn len(&self) -> usize
+        ensures { (calls : ℕ) → result ≡ (waiting self.now calls).size }
+    {
+        self.registry.len()
+    }
+
     /// Whether a name is marked.
     pub(crate) fn is_marked(&self, key: EntryKey) -> bool
         ensures { (calls : ℕ) → result ≡ (waiting self.now calls).marked key.name }

@@ -1,4 +1,10 @@
+mod Collections
+mod Entries
+mod Following
+mod Learning
 mod Listings
+mod Pairs
+mod Registering
 mod Slices
 mod Tables
 mod Texts

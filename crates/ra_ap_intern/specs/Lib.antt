@@ -1,9 +1,14 @@
 pub mod Constants
+pub mod Families
 pub mod Handle
+pub mod PairLaws
 pub mod Slices
+pub mod StorageLaws
 pub mod Symbols
 pub use Rattle.intern_presets.specs.Numbers
 pub use Rattle.intern_presets.specs.Presets
+pub use Rattle.intern_registry.specs.Registry
+pub use Rattle.intern_registry.specs.declared.flags.Flags
 pub use Rattle.intern_store.specs.Kept
 pub use Rattle.intern_store.specs.Outcome
 pub use Rattle.intern_store.specs.State
@@ -15,3 +20,8 @@ pub use Rattle.intern_table.specs.Read
 pub use Rattle.intern_table.specs.Sliced
 pub use Rattle.intern_table.specs.declared.slice.HeaderSlice
 pub use Rattle.intern_table.specs.declared.slice.HeaderWithLength
+pub use Rattle.intern_trace.specs.Collector
+pub use Rattle.intern_trace.specs.Reach
+pub use Rattle.intern_trace.specs.Seen
+pub use Rattle.intern_trace.specs.Trace
+pub use Rattle.intern_trace.specs.Traced

@@ -15,7 +15,7 @@ ghost use Rattle.ra_ap_intern.specs.Handle.{name_of, ref_name};
 mod iter;
 
 use crate::typed_key::TypedKey;
-use intern_store::{Limits, Name, Refusal, Refused, Store};
+use intern_store::{EntryKey, Limits, Name, Refusal, Refused, Store};
 use intern_table::Table;
 pub use iter::Iter;
 use std::alloc::Global;
@@ -39,7 +39,7 @@ pub trait Internable: Hash + Eq {
 /// average. Reads, counts and removals go straight to the entry; `from_raw` looks its birth up.
 #[derive(Drop)]
 pub struct InternStorage<T: Internable> {
-    store: Store<Table<T>>,
+    pub(crate) store: Store<Table<T>>,
 }
 
 impl<T: Internable> Model for InternStorage<T> {
@@ -60,13 +60,13 @@ impl<T: Internable> Model for InternStorage<T> {
 #[derive(Drop)]
 #[derive_where(PartialEq, Eq, Hash)]
 pub struct Interned<T> {
-    key: TypedKey<T>,
+    pub(crate) key: TypedKey<T>,
 }
 
 /// A reference, which counts nothing. It is compared and hashed by its name alone.
 #[derive_where(Clone, Copy, PartialEq, Eq, Hash)]
 pub struct InternedRef<T> {
-    key: TypedKey<T>,
+    pub(crate) key: TypedKey<T>,
 }
 
 impl<T: Internable> InternStorage<T> {
@@ -138,6 +138,13 @@ impl<T: Internable> InternStorage<T> {
         ensures { result ≡ counts self.now (ref_name reference) }
     {
         self.store.count(reference.key.entry)
+    }
+
+    // The value of the entry of a key.
+    pub(crate) fn read(&self, key: EntryKey) -> Option<&T>
+        ensures { option_copied result ≡ reads self.now key.name }
+    {
+        self.store.own(key)?.get(key.spot())
     }
 }
 
@@ -259,8 +266,7 @@ impl<T: Internable> InternedRef<T> {
     pub fn get<'a>(self, storage: &'a InternStorage<T>) -> Option<&'a T>
         ensures { option_copied result ≡ reads storage.now (ref_name self) }
     {
-        let key = self.key.entry;
-        storage.store.own(key)?.get(key.spot())
+        storage.read(self.key.entry)
     }
 
     /// An owned handle of the entry, which counts one more, also from zero.

@@ -16,7 +16,7 @@ ghost use Rattle.ra_ap_intern.specs.Slices.{slice_name, slice_ref_name, slice_of
 mod iter;
 
 use crate::typed_key::TypedKey;
-use intern_store::{Limits, Name, Refusal, Refused, Store};
+use intern_store::{EntryKey, Limits, Name, Refusal, Refused, Store};
 use intern_table::{HeaderSlice, SliceTable};
 pub use iter::SliceIter;
 use std::alloc::Global;
@@ -45,7 +45,7 @@ pub trait SliceInternable {
 /// memory; its items are copied once.
 #[derive(Drop)]
 pub struct InternSliceStorage<T: SliceInternable> {
-    store: Store<SliceTable<T::Header, T::SliceType>>,
+    pub(crate) store: Store<SliceTable<T::Header, T::SliceType>>,
 }
 
 impl<T: SliceInternable> Model for InternSliceStorage<T> {
@@ -63,13 +63,13 @@ impl<T: SliceInternable> Model for InternSliceStorage<T> {
 #[derive(Drop)]
 #[derive_where(PartialEq, Eq, Hash)]
 pub struct InternedSlice<T> {
-    key: TypedKey<T>,
+    pub(crate) key: TypedKey<T>,
 }
 
 /// A reference, which counts nothing. It is compared and hashed by its name alone.
 #[derive_where(Clone, Copy, PartialEq, Eq, Hash)]
 pub struct InternedSliceRef<T> {
-    key: TypedKey<T>,
+    pub(crate) key: TypedKey<T>,
 }
 
 impl<T: SliceInternable> InternSliceStorage<T> {
@@ -142,6 +142,13 @@ impl<T: SliceInternable> InternSliceStorage<T> {
         ensures { result ≡ counts self.now (slice_ref_name reference) }
     {
         self.store.count(reference.key.entry)
+    }
+
+    // The header and the items of the entry of a key.
+    pub(crate) fn read(&self, key: EntryKey) -> Option<HeaderSlice<'_, T::Header, T::SliceType>>
+        ensures { option_map read result ≡ option_map sized (reads self.now key.name) }
+    {
+        self.store.own(key)?.get(key.spot())
     }
 }
 
@@ -237,8 +244,7 @@ impl<T: SliceInternable> InternedSliceRef<T> {
         ensures { option_map read result
             ≡ option_map sized (reads storage.now (slice_ref_name self)) }
     {
-        let key = self.key.entry;
-        storage.store.own(key)?.get(key.spot())
+        storage.read(self.key.entry)
     }
 
     /// An owned handle of the entry, which counts one more, also from zero.

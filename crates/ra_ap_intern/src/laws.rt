@@ -4,10 +4,13 @@ ghost use Rattle.std.specs.List.{list_all};
 ghost use Rattle.std.specs.Str.{bytes_eq};
 ghost use Rattle.intern_presets.specs.Numbers.{number_value};
 ghost use Rattle.intern_presets.specs.Presets.{preset_text, place_of};
-ghost use Rattle.intern_store.specs.State.{State, Stored, IsState, IsGone, reads, entry_at, count_at, birth_of, interned, interned_name, name_in, counted_up, counted_down, released, kept, due_interning, full, any_count};
+ghost use Rattle.intern_store.specs.State.{State, Stored, IsState, IsGone, reads, counts, entry_at, count_at, birth_of, interned, interned_name, name_in, counted_up, counted_down, released, kept, due_interning, full, any_count};
 ghost use Rattle.intern_store.specs.declared.names.Name.{Name};
 ghost use Rattle.intern_table.specs.Sliced.{Sliced, sliced_eq};
+ghost use Rattle.intern_trace.specs.Collector.{has};
+ghost use Rattle.intern_trace.specs.Reach.{Entry, IsReachedSet, IsClosed, starts_with};
 ghost use Rattle.ra_ap_intern.specs.Constants.{constants};
+ghost use Rattle.ra_ap_intern.specs.Families.{kept_named};
 ghost use Rattle.ra_ap_intern.specs.Handle.{name_of, ref_name};
 ghost use Rattle.ra_ap_intern.specs.Slices.{slice_name, slice_ref_name};
 ghost use Rattle.ra_ap_intern.specs.Symbols.{IsTable, Named, Counted, symbol_name, symbol_ref_name, has_its_text, text_of, symbol_in, due_symbol, at_entry};
@@ -19,9 +22,13 @@ ghost use Rattle.ra_ap_intern.specs.declared.intern_slice.InternedSliceRef.{Inte
 ghost use Rattle.ra_ap_intern.specs.declared.symbol.Symbol.{Symbol as Sym};
 ghost use Rattle.ra_ap_intern.specs.declared.symbol.SymbolRef.{SymbolRef as SymRef};
 
+use crate::gc::Family;
 use crate::intern::{Interned, InternedRef};
 use crate::intern_slice::{InternedSlice, InternedSliceRef, SliceInternable};
 use crate::symbol::{Symbol, SymbolRef};
+pub use intern_trace::laws::{
+    roots_without_entries_begin_nothing, what_is_reached_is_the_least_closed_set,
+};
 use std::cmp::Eq;
 use std::hash::Hash;
 
@@ -209,4 +216,43 @@ pub fn a_stored_text_is_found()
 /// Each constant has its text.
 pub fn constants_have_their_texts()
     ensures { list_all has_its_text constants ≡ true }
+{}
+
+/// A family that was cut to a set of names is left as it is by the same cut.
+pub fn a_cut_family_is_cut_no_more<F: Family>()
+    ensures { (f : F) (set : Name → Bool) → F.kept (F.kept f set) set ≡ F.kept f set }
+{}
+
+/// A second collection from the same roots, with no call between, removes nothing.
+pub fn a_second_collection_removes_nothing<F: Family>()
+    ensures { (f : F) (listed names again : List Name) → let all = F.entries f in
+        IsReachedSet (starts_with listed all) all names →
+        let left = F.kept f (has names) in
+        IsReachedSet (starts_with listed (F.entries left)) (F.entries left) again →
+        F.kept left (has again) ≡ left }
+{}
+
+/// Where each child of an entry is that of an entry, a collection leaves it so.
+pub fn a_closed_family_stays_closed<F: Family>()
+    ensures { (f : F) (listed names : List Name) → let all = F.entries f in
+        IsReachedSet (starts_with listed all) all names →
+        IsClosed all → IsClosed (F.entries (F.kept f (has names))) }
+{}
+
+/// What is reached depends on the family and the roots alone.
+pub fn what_is_reached_is_one_set()
+    ensures { (begins : Name → Bool) (family : List Entry) (names others : List Name) →
+        IsReachedSet begins family names → IsReachedSet begins family others →
+        has names ≡ has others }
+{}
+
+/// What a collection leaves of a storage: the reads and counts of the names that it keeps, and
+/// nothing of the others. Its number, limits and next birth stay.
+pub fn a_collection_leaves_what_it_keeps<T>()
+    ensures reads { (s : State T) (set : Name → Bool) (n : Name) →
+        reads (kept_named s set) n ≡ (if set n then reads s n else None) }
+    ensures counts { (s : State T) (set : Name → Bool) (n : Name) →
+        counts (kept_named s set) n ≡ (if set n then counts s n else None) }
+    ensures rest { (s : State T) (set : Name → Bool) →
+        kept_named s set ≡ record s { map = (kept_named s set).map } }
 {}

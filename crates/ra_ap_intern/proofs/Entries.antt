@@ -1,0 +1,63 @@
+-- The entries of a storage, by their names.
+use Rattle.std.proofs.Common.{◌≡◌, ℕ, Bool, true, false, cond, ◌==◌, length, List, [], ◌∷◌, ◌++◌, Option, Some, None, is_some, refl, sym, ap, ◌∙◌}
+use Rattle.std.specs.Option.{option_map}
+use Rattle.std.specs.FinMap.{entries, len, len-entries}
+use Rattle.std.proofs.lemmas.List.{length-map}
+use Rattle.intern_store.specs.Kept.{Kept}
+use Rattle.intern_store.specs.State.{State, entry_at, reads}
+use Rattle.intern_store.specs.declared.names.Name.{Name}
+use Rattle.intern_table.specs.Sliced.{Sliced}
+use Rattle.intern_trace.specs.Collector.{Collector, mark, marks}
+use Rattle.intern_trace.specs.Reach.{is_entry, children_of, children_in}
+use Rattle.ra_ap_intern.specs.Families.{entries_of}
+use Rattle.ra_ap_intern.specs.Slices.{sized}
+use Rattle.ra_ap_intern.specs.StorageLaws.{as_entry, entry_named}
+
+module _ {V : Type 0} (children : V → List Name) where
+  -- the names that a value declares, where there is one
+  abbrev pub declared : Option V → List Name
+  declared None = []
+  declared (Some v) = children v
+
+  module _ (s : State V) where
+    pub entries-length : length (entries_of children s) ≡ len s.map
+    entries-length = length-map (entries s.map) _ ∙ sym (len-entries s.map)
+
+    -- a name is that of an entry, where it reads a value
+    pub read_entry : (x : Name) → is_some (reads s x) ≡ is_entry (entries_of children s) x
+    read_entry x = go (x.storage == s.number) (entry_at s x.birth) ∙ sym (ap is_some (entry_named children s x))
+      where
+        go : (t : Bool) (o : Option (Kept V)) → is_some (cond t (option_map (λ k. k.value) o) None) ≡ is_some (cond t (option_map (as_entry children s x.birth) o) None)
+        go false o = refl
+        go true None = refl
+        go true (Some k) = refl
+
+    -- whose children are those that the value declares
+    pub read_children : (x : Name) → declared (reads s x) ≡ children_in (entries_of children s) x
+    read_children x = go (x.storage == s.number) (entry_at s x.birth) ∙ sym (ap children_of (entry_named children s x))
+      where
+        go : (t : Bool) (o : Option (Kept V)) → declared (cond t (option_map (λ k. k.value) o) None) ≡ children_of (cond t (option_map (as_entry children s x.birth) o) None)
+        go false o = refl
+        go true None = refl
+        go true (Some k) = refl
+
+-- the same, of what is read of a slice together with its length
+module _ {H I : Type 0} (children : Sliced H I → List Name) (s : State (Sliced H I)) (x : Name) (o : Option (Sliced H I × ℕ)) (is : o ≡ option_map sized (reads s x)) where
+  pub shown_entry : is_some o ≡ is_entry (entries_of children s) x
+  shown_entry = ap is_some is ∙ go (reads s x) ∙ read_entry children s x
+    where
+      go : (r : Option (Sliced H I)) → is_some (option_map sized r) ≡ is_some r
+      go None = refl
+      go (Some v) = refl
+
+  pub shown_children : declared children (option_map (λ r. r.0) o) ≡ children_in (entries_of children s) x
+  shown_children = ap (λ o. declared children (option_map (λ r. r.0) o)) is ∙ go (reads s x) ∙ read_children children s x
+    where
+      go : (r : Option (Sliced H I)) → declared children (option_map (λ r. r.0) (option_map sized r)) ≡ declared children r
+      go None = refl
+      go (Some v) = refl
+
+-- mark calls for two lists of names
+pub marks-append : (c : Collector) (xs ys : List Name) → marks (marks c xs) ys ≡ marks c (xs ++ ys)
+marks-append c [] ys = refl
+marks-append c (x ∷ xs) ys = marks-append (mark c x) xs ys

@@ -1,0 +1,102 @@
+-- What a registry learns of the entries of a storage, whose counts come in some order.
+use Rattle.std.proofs.Common.{◌≡◌, ℕ, ◌+◌, Bool, true, false, cond, ◌==◌, nat_eq, length, List, [], ◌∷◌, Option, Some, None, refl, sym, ap, ◌∙◌, subst, arith}
+use Rattle.std.specs.Prelude.{T, IsPermutation, map as list_map}
+use Rattle.std.specs.List.{IsDistinct, AllByRecursion}
+use Rattle.std.specs.Map.{keys_of, lookup}
+use Rattle.std.specs.Option.{option_map, option_or}
+use Rattle.std.specs.Ordering.{nat_cmp}
+use Rattle.std.specs.FinMap.{FinMap, find, entries, entries_sorted, get-entries, is_sorted}
+use Rattle.std.specs.FinMap.Entries.{below_all}
+use Rattle.std.proofs.lemmas.Bool.{eqb-true, ne_eqb}
+use Rattle.std.proofs.lemmas.Cmp.{nat_eq_equiv}
+use Rattle.std.proofs.lemmas.List.{length-map}
+use Rattle.std.proofs.lemmas.List.Sorted.{IsPermutation-sym, IsPermutation-map, length_permutation, Contains-permutation}
+use Rattle.std.proofs.lemmas.Map.Keys.{IsDistinct-IsPermutation}
+use Rattle.std.proofs.lemmas.Map.Views.{Contains-from_lookup, lookup-from_Contains}
+use Rattle.intern_registry.specs.Registry.{Names, unmarked}
+use Rattle.intern_store.specs.Kept.{Kept}
+use Rattle.intern_store.specs.State.{State, entry_at}
+use Rattle.intern_store.specs.declared.names.Name.{Name}
+use Rattle.intern_store.proofs.Compared.{tied}
+use Rattle.intern_store.proofs.Sorted.{parts, less}
+use Rattle.intern_table.specs.Listed.{listed_counts}
+use Rattle.intern_trace.specs.Reach.{is_counted}
+use Rattle.ra_ap_intern.specs.Families.{entries_of, learnt, counted_flags, with_counts, with_family}
+use Rattle.ra_ap_intern.specs.StorageLaws.{as_entry, entry_named}
+
+-- a look-up finds the same in lists that have the same entries, where keys differ
+lookup_permutation : {X : Type 0} (q : ℕ) (xs ys : List (ℕ × X)) → IsPermutation xs ys → IsDistinct nat_eq (keys_of xs) → IsDistinct nat_eq (keys_of ys) → lookup (nat_eq q) xs ≡ lookup (nat_eq q) ys
+lookup_permutation {X} q xs ys same first second = go (lookup (nat_eq q) xs) refl (lookup (nat_eq q) ys) refl
+  where
+    found : (us vs : List (ℕ × X)) → IsPermutation us vs → IsDistinct nat_eq (keys_of vs) → (v : X) → lookup (nat_eq q) us ≡ Some v → lookup (nat_eq q) vs ≡ Some v
+    found us vs same distinct v is = lookup-from_Contains nat_eq_equiv q v vs distinct (Contains-permutation us vs (q, v) same (Contains-from_lookup eqb-true q v us is))
+
+    go : (o : Option X) → lookup (nat_eq q) xs ≡ o → (p : Option X) → lookup (nat_eq q) ys ≡ p → o ≡ p
+    go (Some v) is p at = sym (found xs ys same second v is) ∙ at
+    go None is None at = refl
+    go None is (Some v) at = sym is ∙ found ys xs (IsPermutation-sym xs ys same) first v at
+
+module _ {V : Type 0} where
+  above : (b : ℕ) (es : List (ℕ × Kept V)) → T (below_all nat_cmp b es) → AllByRecursion (λ k. nat_eq b k ≡ false) (keys_of (list_map (λ e. (e.0, e.1.count)) es))
+  above b [] below = tt
+  above b (e ∷ es) below =
+      let both = parts _ _ below in
+      let under = less b e.0 both.0 in
+      (ne_eqb b e.0 (λ same. absurd (omega arith)), above b es both.1)
+
+  apart : (es : List (ℕ × Kept V)) → T (is_sorted nat_cmp es) → IsDistinct nat_eq (keys_of (list_map (λ e. (e.0, e.1.count)) es))
+  unfolding IsDistinct
+  apart [] sorted = tt
+  apart (e ∷ es) sorted = let both = parts _ _ sorted in (above e.0 es both.0, apart es both.1)
+
+  -- no birth of a map is listed twice
+  pub births_apart : (m : FinMap nat_cmp (Kept V)) (counts : List (ℕ × ℕ)) → IsPermutation counts (listed_counts m) → IsDistinct nat_eq (keys_of counts)
+  births_apart m counts listed =
+      IsDistinct-IsPermutation nat_eq nat_eq_equiv.symm _ _ (IsPermutation-map (λ e. e.0) _ _ (IsPermutation-sym counts (listed_counts m) listed)) (apart (entries m) (entries_sorted m))
+
+  counts_found : (q : ℕ) (es : List (ℕ × Kept V)) → lookup (nat_eq q) (list_map (λ e. (e.0, e.1.count)) es) ≡ option_map (λ k. k.count) (find nat_cmp q es)
+  counts_found q [] = refl
+  counts_found q (e ∷ es) =
+      ap (cond (nat_eq q e.0) (Some e.1.count)) (counts_found q es) ∙ here (nat_eq q e.0)
+      ∙ ap (λ t. option_map (λ k. k.count) (cond t (Some e.1) (find nat_cmp q es))) (sym (tied q e.0))
+    where
+      here : (t : Bool) → cond t (Some e.1.count) (option_map (λ k. k.count) (find nat_cmp q es)) ≡ option_map (λ k. k.count) (cond t (Some e.1) (find nat_cmp q es))
+      here true = refl
+      here false = refl
+
+  module _ (children : V → List Name) (s : State V) (counts : List (ℕ × ℕ)) (listed : IsPermutation counts (listed_counts s.map)) where
+    -- a look-up in the counts finds the count of an entry
+    lookup_count : (q : ℕ) → lookup (nat_eq q) counts ≡ option_map (λ k. k.count) (entry_at s q)
+    lookup_count q =
+        lookup_permutation q counts (listed_counts s.map) listed (births_apart s.map counts listed) (apart (entries s.map) (entries_sorted s.map))
+        ∙ counts_found q (entries s.map) ∙ ap (option_map (λ k. k.count)) (sym (get-entries s.map q))
+
+    flags_learnt : (x : Name) → counted_flags s.number counts x ≡ learnt (entries_of children s) x
+    flags_learnt x =
+        ap (λ o. cond (x.storage == s.number) (option_map (λ n. unmarked (is_counted n)) o) None) (lookup_count x.birth)
+        ∙ here (x.storage == s.number) (entry_at s x.birth)
+        ∙ sym (ap (option_map (λ e. unmarked (is_counted e.count))) (entry_named children s x))
+      where
+        here : (t : Bool) (o : Option (Kept V)) → cond t (option_map (λ n. unmarked (is_counted n)) (option_map (λ k. k.count) o)) None
+            ≡ option_map (λ e. unmarked (is_counted e.count)) (cond t (option_map (as_entry children s x.birth) o) None)
+        here false o = refl
+        here true None = refl
+        here true (Some k) = refl
+
+    many : length counts ≡ length (entries_of children s)
+    many = sym (length_permutation counts (listed_counts s.map) listed) ∙ length-map (entries s.map) _ ∙ sym (length-map (entries s.map) _)
+
+    all_learnt : (r t : Names) → t ≡ with_counts r s.number counts t.name_at → t ≡ with_family r (entries_of children s) t.name_at t.storage
+    all_learnt r t is =
+        is ∙ (λ i. record r {
+          flags = λ x. option_or (flags_learnt x i) (r.flags x);
+          size = r.size + many i;
+          name_at = t.name_at;
+          storage = Some s.number;
+        }) ∙ ap (with_family r (entries_of children s) t.name_at) (sym (ap (λ (n : Names). n.storage) is))
+
+  -- with the counts of a storage's table, a registry has the entries of the storage
+  pub storage_learnt : (children : V → List Name) (s : State V) (m : FinMap nat_cmp (Kept V)) (number : ℕ) (counts : List (ℕ × ℕ)) → m ≡ s.map → number ≡ s.number → IsPermutation counts (listed_counts m)
+      → (r t : Names) → t ≡ with_counts r number counts t.name_at → t ≡ with_family r (entries_of children s) t.name_at t.storage
+  storage_learnt children s m number counts same named listed r t is =
+      all_learnt children s counts (subst (λ m. IsPermutation counts (listed_counts m)) same listed) r t (is ∙ ap (λ n. with_counts r n counts t.name_at) named)
