@@ -1,12 +1,13 @@
 //! A tour of the library: values, slices and symbols, each with its calls in turn.
 ghost use Rattle.std.specs.Prelude.{false, true};
 
+use intern_fixtures::allowed;
 use ra_ap_intern::{
     InternSliceStorage, InternStorage, Internable, Interned, InternedSlice, SliceInternable,
     Symbol, SymbolTable, sym,
 };
-use std::alloc::{AllocError, Global};
-use std::test::Fail;
+use std::alloc::Global;
+use std::process::Abort;
 
 /// A text that is stored once.
 #[derive(Debug, Drop, PartialEq, Eq, Hash)]
@@ -32,44 +33,45 @@ impl SliceInternable for Application {
     ghost USE_GC = { true };
 }
 
-fn make_word(alloc: Global, text: &str) -> Result<Word, AllocError> {
-    Ok(Word(String::from_str(alloc, text)?))
+fn make_word(rt: &impl Abort, alloc: Global, text: &str) -> Word {
+    Word(String::from_str(alloc, text).expect(rt, "memory"))
 }
 
 #[test]
-fn one_copy_of_each_word(rt: HostRuntime) -> Result<(), Fail> {
+fn one_copy_of_each_word(rt: HostRuntime) {
     let alloc = rt.alloc();
     let mut words = InternStorage::new(alloc, 1);
-    let (hello, back) = Interned::new(&mut words, make_word(alloc, "hello")?)?;
+    let hello = make_word(&rt, alloc, "hello");
+    let (hello, back) = allowed(Interned::new(&mut words, hello)).expect(&rt, "interned");
     assert_eq!(rt; back, None);
 
     // An equal word is stored already: it comes back, and the handles are equal.
-    let (again, back) = Interned::new(&mut words, make_word(alloc, "hello")?)?;
-    assert_eq!(rt; back, Some(make_word(alloc, "hello")?));
+    let again = make_word(&rt, alloc, "hello");
+    let (again, back) = allowed(Interned::new(&mut words, again)).expect(&rt, "interned");
+    assert_eq!(rt; back, Some(make_word(&rt, alloc, "hello")));
     assert!(rt; hello == again);
     assert_eq!(rt; words.len(), 1);
     assert_eq!(rt; words.count(hello.as_ref()), Some(2));
 
     // The last release frees the word and gives it back. A reference to it reads nothing then.
     let reference = hello.as_ref();
-    assert_eq!(rt; hello.release(&mut words).map_err(|r| r.why)?, None);
-    assert_eq!(rt;
-        again.release(&mut words).map_err(|r| r.why)?,
-        Some(make_word(alloc, "hello")?)
-    );
+    assert_eq!(rt; allowed(hello.release(&mut words)), Ok(None));
+    let freed = allowed(again.release(&mut words)).expect(&rt, "released");
+    assert_eq!(rt; freed, Some(make_word(&rt, alloc, "hello")));
     assert!(rt; reference.get(&words).is_none());
-    Ok(())
 }
 
 #[test]
-fn one_copy_of_each_slice(rt: HostRuntime) -> Result<(), Fail> {
+fn one_copy_of_each_slice(rt: HostRuntime) {
     let mut types: InternSliceStorage<Application> = InternSliceStorage::new(rt.alloc(), 2);
     let arguments = [20, 21].as_slice();
-    let (pair, back) = InternedSlice::from_header_and_slice(&mut types, 7, arguments)?;
+    let pair = InternedSlice::from_header_and_slice(&mut types, 7, arguments);
+    let (pair, back) = allowed(pair).expect(&rt, "interned");
     assert_eq!(rt; back, None);
 
     // An equal header with equal items is stored already: the header comes back.
-    let (again, back) = InternedSlice::from_header_and_slice(&mut types, 7, arguments)?;
+    let again = InternedSlice::from_header_and_slice(&mut types, 7, arguments);
+    let (again, back) = allowed(again).expect(&rt, "interned");
     assert_eq!(rt; back, Some(7));
     assert!(rt; pair == again);
 
@@ -79,31 +81,30 @@ fn one_copy_of_each_slice(rt: HostRuntime) -> Result<(), Fail> {
     assert_eq!(rt; read.slice, arguments);
 
     // A reference counts nothing; an owned handle does, until it is released.
-    let owned = pair.to_owned(&mut types)?;
+    let owned = pair.to_owned(&mut types).expect(&rt, "owned");
     assert_eq!(rt; types.count(pair), Some(1));
     assert!(rt; owned.release(&mut types).is_ok());
     assert_eq!(rt; types.count(pair), Some(0));
-    Ok(())
 }
 
 #[test]
-fn one_symbol_for_each_text(rt: HostRuntime) -> Result<(), Fail> {
+fn one_symbol_for_each_text(rt: HostRuntime) {
     let mut table = SymbolTable::new(rt.alloc(), 3);
 
     // A preset's text gives its constant, and is in no table.
-    assert!(rt; Symbol::intern(&mut table, "Clone")? == sym::Clone);
+    let preset = Symbol::intern(&mut table, "Clone").expect(&rt, "interned");
+    assert!(rt; preset == sym::Clone);
     assert_eq!(rt; table.len(), 0);
 
     // Any other text is kept while it is counted.
-    let hello = Symbol::intern(&mut table, "hello")?;
-    let again = Symbol::intern(&mut table, "hello")?;
+    let hello = Symbol::intern(&mut table, "hello").expect(&rt, "interned");
+    let again = Symbol::intern(&mut table, "hello").expect(&rt, "interned");
     assert!(rt; hello == again);
     assert_eq!(rt; table.count(&hello), Some(2));
     assert_eq!(rt; hello.as_str(&table), Some("hello"));
 
     // A number's digits are a symbol too, and are read back.
-    let number = sym::Integer::get(&mut table, 1000)?;
+    let number = sym::Integer::get(&mut table, 1000).expect(&rt, "interned");
     assert_eq!(rt; sym::Integer::as_uint(&number, &table), Some(1000));
     assert_eq!(rt; table.len(), 2);
-    Ok(())
 }
