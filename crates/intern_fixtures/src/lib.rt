@@ -4,8 +4,12 @@
 
 mod answers;
 mod keys;
+mod nodes;
+mod slices;
 mod values;
 
-pub use answers::{allowed, refusal};
+pub use answers::{allowed, refusal, told};
 pub use keys::{a_map_tells_apart, a_set_tells_apart};
+pub use nodes::{GcString, Node, make_gc_string, make_node};
+pub use slices::{NodeSlice, StringSlice};
 pub use values::{Unhashed, Word, make_word};

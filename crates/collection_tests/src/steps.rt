@@ -1,0 +1,101 @@
+//! Steps of tests over any type, each with the answer that it must get.
+ghost use Rattle.std.specs.Prelude.{◌≡◌, true};
+
+use intern_fixtures::{allowed, told};
+use ra_ap_intern::{
+    Family, GarbageCollector, InternSliceStorage, InternStorage, Internable, Interned,
+    InternedRef, InternedSlice, InternedSliceRef, SliceInternable,
+};
+use std::alloc::Global;
+use std::process::Abort;
+
+/// Adds a value at the end of a list.
+pub fn push<V: Drop>(rt: &impl Abort, list: &mut Vec<V>, value: V) {
+    let pushed: Result<_, _> = list.push(value);
+    pushed.expect(rt, "memory");
+}
+
+/// Collects a family: the visits, the mark calls and the removed entries are these.
+pub fn collects<F: Family>(
+    rt: &impl Abort,
+    alloc: Global,
+    family: &mut F,
+    answer: (usize, u64, usize),
+)
+    requires { F.collected ≡ true }
+{
+    assert!(rt; GarbageCollector::distinct(family));
+    let gc = GarbageCollector::new(alloc);
+    assert_eq!(rt; told(gc.collect(family)), Some(answer));
+}
+
+/// Interns a value that isn't stored: it gets this birth.
+pub fn intern<T: Internable + Drop>(
+    rt: &impl Abort,
+    storage: &mut InternStorage<T>,
+    value: T,
+    birth: u64,
+) -> InternedRef<T>
+    requires { T.Internable.USE_GC ≡ true }
+{
+    let (reference, back) = allowed(Interned::new_gc(storage, value)).expect(rt, "interned");
+    assert!(rt; back.is_none());
+    assert_eq!(rt; reference.as_raw(), birth);
+    reference
+}
+
+/// Makes an owned handle.
+pub fn own<T: Internable>(
+    rt: &impl Abort,
+    storage: &mut InternStorage<T>,
+    reference: InternedRef<T>,
+) -> Interned<T> {
+    reference.to_owned(storage).expect(rt, "owned")
+}
+
+/// Releases an owned handle. The entry stays.
+pub fn release<T: Internable + Drop>(
+    rt: &impl Abort,
+    storage: &mut InternStorage<T>,
+    handle: Interned<T>,
+) {
+    let freed = allowed(handle.release(storage)).expect(rt, "released");
+    assert!(rt; freed.is_none());
+}
+
+/// Interns items behind a header that aren't stored: they get this birth.
+pub fn intern_slice<K: SliceInternable>(
+    rt: &impl Abort,
+    storage: &mut InternSliceStorage<K>,
+    header: K::Header,
+    items: &[K::SliceType],
+    birth: u64,
+) -> InternedSliceRef<K>
+where
+    K::Header: Drop,
+    requires { K.SliceInternable.USE_GC ≡ true }
+{
+    let answer = InternedSlice::from_header_and_slice(storage, header, items);
+    let (slice, back) = allowed(answer).expect(rt, "interned");
+    assert!(rt; back.is_none());
+    assert_eq!(rt; slice.name().birth, birth);
+    slice
+}
+
+/// Makes an owned handle of a slice.
+pub fn own_slice<K: SliceInternable>(
+    rt: &impl Abort,
+    storage: &mut InternSliceStorage<K>,
+    slice: InternedSliceRef<K>,
+) -> InternedSlice<K> {
+    slice.to_owned(storage).expect(rt, "owned")
+}
+
+/// Releases an owned handle of a slice.
+pub fn release_slice<K: SliceInternable>(
+    rt: &impl Abort,
+    storage: &mut InternSliceStorage<K>,
+    handle: InternedSlice<K>,
+) {
+    assert_eq!(rt; allowed(handle.release(storage)), Ok(()));
+}
