@@ -1,10 +1,16 @@
 //! Values and kinds of slices that only these tests intern.
-ghost use Rattle.std.specs.Prelude.{true};
+ghost use Rattle.std.specs.Prelude.{true, []};
+ghost use Rattle.std.specs.Cmp.Rules.{hashing};
+ghost use Rattle.std.proofs.Common.{rules};
 
 use intern_fixtures::StringSlice;
-use ra_ap_intern::{GarbageCollector, GcInternedVisit, Internable, InternedSliceRef};
+use ra_ap_intern::{
+    GarbageCollector, GcInternedSliceVisit, GcInternedVisit, Internable, InternedRef,
+    InternedSliceRef, SliceInternable,
+};
+use std::hash::{Hash, Hasher};
 
-/// A value over one slice, which it declares.
+/// A value over one slice of numbers, which it declares.
 #[derive(Drop, PartialEq, Eq, Hash)]
 pub struct Outer(pub InternedSliceRef<StringSlice>);
 
@@ -15,7 +21,7 @@ impl Internable for Outer {
 }
 
 impl GcInternedVisit for Outer {
-    ghost use Rattle.std.specs.Prelude.{[], ◌∷◌};
+    ghost use Rattle.std.specs.Prelude.{◌∷◌};
     ghost use Rattle.collection_tests.specs.declared.kinds.Outer.{out-Outer};
     ghost use Rattle.ra_ap_intern.specs.Slices.{slice_ref_name};
 
@@ -24,4 +30,105 @@ impl GcInternedVisit for Outer {
     fn visit_with(&self, gc: &mut GarbageCollector) {
         let _ = gc.mark_interned_slice_alive(self.0);
     }
+}
+
+/// A value over a slice of values of its own type. It declares the slice, where it is over one.
+#[derive(Drop, PartialEq, Eq, Hash)]
+pub struct Link(pub Option<InternedSliceRef<LinkSlice>>);
+
+impl Internable for Link {
+    const USE_GC: bool = true;
+
+    ghost USE_GC = { true };
+}
+
+impl GcInternedVisit for Link {
+    ghost use Rattle.std.specs.Prelude.{map, option_to_list};
+    ghost use Rattle.collection_tests.specs.declared.kinds.Link.{out-Link};
+    ghost use Rattle.ra_ap_intern.specs.Slices.{slice_ref_name};
+
+    ghost children = { λ link. map slice_ref_name (option_to_list (out-Link link).0) };
+
+    fn visit_with(&self, gc: &mut GarbageCollector) {
+        if let Some(slice) = self.0 {
+            let _ = gc.mark_interned_slice_alive(slice);
+        }
+    }
+}
+
+/// Links without anything before them, each of which is declared.
+pub struct LinkSlice;
+
+impl SliceInternable for LinkSlice {
+    type Header = ();
+
+    type SliceType = InternedRef<Link>;
+
+    const USE_GC: bool = true;
+
+    ghost USE_GC = { true };
+}
+
+impl GcInternedSliceVisit for LinkSlice {
+    ghost use Rattle.std.specs.Prelude.{map};
+    ghost use Rattle.ra_ap_intern.specs.Handle.{ref_name};
+
+    ghost header_children = { λ _. [] };
+
+    ghost slice_children = { λ items. map ref_name items };
+
+    fn visit_header(_header: &(), _gc: &mut GarbageCollector) {}
+
+    fn visit_slice(slice: &[InternedRef<Link>], gc: &mut GarbageCollector) {
+        for link in slice {
+            let _ = gc.mark_interned_alive(*link);
+        }
+    }
+}
+
+/// Items of no size behind a text.
+pub struct UnitSlice;
+
+impl SliceInternable for UnitSlice {
+    type Header = String;
+
+    type SliceType = ();
+
+    const USE_GC: bool = true;
+
+    ghost USE_GC = { true };
+}
+
+impl GcInternedSliceVisit for UnitSlice {
+    ghost header_children = { λ _. [] };
+
+    ghost slice_children = { λ _. [] };
+
+    fn visit_header(_header: &String, _gc: &mut GarbageCollector) {}
+
+    fn visit_slice(_slice: &[()], _gc: &mut GarbageCollector) {}
+}
+
+/// A number whose hash writes nothing, so that all have the same hash. It declares nothing.
+#[derive(Clone, Copy, PartialEq, Eq)]
+pub struct Alike(pub u64);
+
+impl Hash for Alike {
+    ghost hash_input = { λ _. [] };
+
+    ghost respects_eq = { Prim.search (hashing, rules) };
+
+    fn hash<H: Hasher>(&self, _state: &mut H) {}
+}
+
+impl Internable for Alike {
+    const USE_GC: bool = true;
+
+    ghost USE_GC = { true };
+}
+
+impl GcInternedVisit for Alike {
+    ghost children = { λ _. [] };
+
+    fn visit_with(&self, _gc: &mut GarbageCollector) {}
 }

@@ -5,8 +5,16 @@
 #[cfg(test)]
 mod kinds;
 #[cfg(test)]
+mod nodes;
+#[cfg(test)]
+mod paths;
+#[cfg(test)]
+mod pool;
+#[cfg(test)]
 mod ported;
 #[cfg(test)]
 mod steps;
 #[cfg(test)]
 mod texts;
+#[cfg(test)]
+mod visited;

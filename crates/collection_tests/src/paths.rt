@@ -1,0 +1,102 @@
+//! What paths of declared children keep.
+use crate::kinds::{Link, LinkSlice};
+use crate::nodes::{Nodes, intern_node, intern_owned};
+use crate::steps::{collects, intern, intern_slice, own, release};
+use intern_fixtures::Node;
+use ra_ap_intern::{
+    GarbageCollector, InternSliceStorage, InternStorage, InternedRef, NoStorages, Pair,
+};
+use std::alloc::Global;
+use std::process::Abort;
+
+#[test]
+fn what_two_paths_reach_is_visited_once(rt: HostRuntime) {
+    let alloc = rt.alloc();
+    let mut storage = InternStorage::new(alloc, 1);
+    let leaf = intern_node(&rt, alloc, &mut storage, (0, &[]), 0);
+    let left = intern_node(&rt, alloc, &mut storage, (1, &[leaf]), 1);
+    let right = intern_node(&rt, alloc, &mut storage, (2, &[leaf]), 2);
+    let top = intern_owned(&rt, alloc, &mut storage, &[left, right], 3);
+    collects(&rt, alloc, &mut storage, (4, 4, 0));
+    release(&rt, &mut storage, top);
+    collects(&rt, alloc, &mut storage, (0, 0, 4));
+}
+
+#[test]
+fn a_child_that_is_declared_twice_is_visited_once(rt: HostRuntime) {
+    let alloc = rt.alloc();
+    let mut storage = InternStorage::new(alloc, 1);
+    let child = intern_node(&rt, alloc, &mut storage, (0, &[]), 0);
+    let _ = intern_owned(&rt, alloc, &mut storage, &[child, child], 1);
+    collects(&rt, alloc, &mut storage, (2, 2, 0));
+}
+
+#[test]
+fn an_owned_child_is_visited_once(rt: HostRuntime) {
+    let alloc = rt.alloc();
+    let mut storage = InternStorage::new(alloc, 1);
+    let child = intern_owned(&rt, alloc, &mut storage, &[], 0);
+    let _ = intern_owned(&rt, alloc, &mut storage, &[child.as_ref()], 1);
+    collects(&rt, alloc, &mut storage, (2, 1, 0));
+}
+
+/// Two storages of values, with one of slices between them.
+type Links = Pair<
+    Pair<Pair<NoStorages, InternStorage<Link>>, InternSliceStorage<LinkSlice>>,
+    InternStorage<Link>,
+>;
+
+/// A value over a slice over a value of another storage, none of which is owned, with a reference
+/// to the first.
+fn a_path_through_three_storages(rt: &impl Abort, alloc: Global) -> (Links, InternedRef<Link>) {
+    let mut below = InternStorage::new(alloc, 1);
+    let bottom = intern(rt, &mut below, Link(None), 0);
+    let mut slices = InternSliceStorage::new(alloc, 2);
+    let slice = intern_slice(rt, &mut slices, (), &[bottom], 0);
+    let mut above = InternStorage::new(alloc, 3);
+    let top = intern(rt, &mut above, Link(Some(slice)), 0);
+
+    let family = GarbageCollector::add_storage(NoStorages, below);
+    let family = GarbageCollector::add_slice_storage(family, slices);
+    (GarbageCollector::add_storage(family, above), top)
+}
+
+#[test]
+fn a_path_goes_through_storages(rt: HostRuntime) {
+    let alloc = rt.alloc();
+    let (mut family, top) = a_path_through_three_storages(&rt, alloc);
+    let top = own(&rt, &mut family.second, top);
+    collects(&rt, alloc, &mut family, (3, 2, 0));
+    release(&rt, &mut family.second, top);
+    collects(&rt, alloc, &mut family, (0, 0, 3));
+}
+
+#[test]
+fn two_to_the_thirty_paths_are_followed_at_once(rt: HostRuntime) {
+    let alloc = rt.alloc();
+    let mut storage = InternStorage::new(alloc, 1);
+    let left = intern_node(&rt, alloc, &mut storage, (0, &[]), 0);
+    let right = intern_node(&rt, alloc, &mut storage, (1, &[]), 1);
+    let mut below = [left, right];
+    for layer in 1..31 {
+        below = intern_layer(&rt, alloc, &mut storage, below, layer);
+    }
+    let _ = intern_owned(&rt, alloc, &mut storage, &below, 62);
+    collects(&rt, alloc, &mut storage, (63, 122, 0));
+}
+
+/// Interns two nodes over both of the layer below. Their births are twice the number of the layer,
+/// and the next one.
+fn intern_layer(
+    rt: &impl Abort,
+    alloc: Global,
+    storage: &mut Nodes,
+    below: [InternedRef<Node>; 2],
+    layer: u32,
+) -> [InternedRef<Node>; 2] {
+    let birth = u64::from(layer) * 2;
+    [
+        intern_node(rt, alloc, storage, (0, &below), birth),
+        intern_node(rt, alloc, storage, (1, &below), birth + 1),
+    ]
+}
