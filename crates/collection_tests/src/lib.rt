@@ -3,15 +3,27 @@
 #![tactic(auto)]
 
 #[cfg(test)]
+mod families;
+#[cfg(test)]
+mod hostile;
+#[cfg(test)]
 mod kinds;
 #[cfg(test)]
+mod large;
+#[cfg(test)]
+mod marks;
+#[cfg(test)]
 mod nodes;
+#[cfg(test)]
+mod outers;
 #[cfg(test)]
 mod paths;
 #[cfg(test)]
 mod pool;
 #[cfg(test)]
 mod ported;
+#[cfg(test)]
+mod roots;
 #[cfg(test)]
 mod steps;
 #[cfg(test)]

@@ -1,13 +1,9 @@
 //! The tests of the Rust crate.
 use crate::kinds::Outer;
-use crate::steps::{collects, intern, own, release, release_slice};
-use crate::texts::{have_lens, intern_numbers, reads_numbers, reads_text, two_texts_and_a_slice};
-use intern_fixtures::StringSlice;
-use ra_ap_intern::{
-    GarbageCollector, InternSliceStorage, InternStorage, Interned, InternedRef, InternedSliceRef,
-    NoStorages, Pair,
-};
-use std::alloc::Global;
+use crate::outers::{Outers, a_value_over_a_slice};
+use crate::steps::{collects, own, release, release_slice};
+use crate::texts::{have_lens, reads_numbers, reads_text, two_texts_and_a_slice};
+use ra_ap_intern::Interned;
 use std::process::Abort;
 
 #[test]
@@ -29,24 +25,6 @@ fn simple_gc_after_the_release(rt: HostRuntime) {
     release_slice(&rt, &mut family.second, slice);
     collects(&rt, alloc, &mut family, (0, 0, 2));
     have_lens(&rt, &family, (0, 0));
-}
-
-/// A storage of slices, and one of values over them.
-type Outers = Pair<Pair<NoStorages, InternSliceStorage<StringSlice>>, InternStorage<Outer>>;
-
-/// A value over a slice, neither of which is owned, with references to both.
-fn a_value_over_a_slice(
-    rt: &impl Abort,
-    alloc: Global,
-) -> (Outers, InternedRef<Outer>, InternedSliceRef<StringSlice>) {
-    let mut slices = InternSliceStorage::new(alloc, 1);
-    let pair = ("abc", [123, 456, 789].as_slice());
-    let inner = intern_numbers(rt, alloc, &mut slices, pair, 0);
-    let mut outers = InternStorage::new(alloc, 2);
-    let outer = intern(rt, &mut outers, Outer(inner), 0);
-    let family = GarbageCollector::add_slice_storage(NoStorages, slices);
-    let family = GarbageCollector::add_storage(family, outers);
-    (family, outer, inner)
 }
 
 #[test]

@@ -4,7 +4,7 @@ ghost use Rattle.std.specs.Prelude.{◌≡◌, true};
 use intern_fixtures::{allowed, told};
 use ra_ap_intern::{
     Family, GarbageCollector, InternSliceStorage, InternStorage, Internable, Interned,
-    InternedRef, InternedSlice, InternedSliceRef, SliceInternable,
+    InternedRef, InternedSlice, InternedSliceRef, Name, SliceInternable,
 };
 use std::alloc::Global;
 use std::process::Abort;
@@ -13,6 +13,14 @@ use std::process::Abort;
 pub fn push<V: Drop>(rt: &impl Abort, list: &mut Vec<V>, value: V) {
     let pushed: Result<_, _> = list.push(value);
     pushed.expect(rt, "memory");
+}
+
+/// Registers a family.
+pub fn registers<F: Family>(rt: &impl Abort, gc: &mut GarbageCollector, family: &F)
+    requires { F.collected ≡ true }
+{
+    assert!(rt; GarbageCollector::distinct(family));
+    assert_eq!(rt; gc.register(family), Ok(()));
 }
 
 /// Collects a family: the visits, the mark calls and the removed entries are these.
@@ -24,9 +32,41 @@ pub fn collects<F: Family>(
 )
     requires { F.collected ≡ true }
 {
+    collects_by(rt, GarbageCollector::new(alloc), family, answer);
+}
+
+/// Collects a family by a collector: the visits, the mark calls and the removed entries are these.
+pub fn collects_by<F: Family>(
+    rt: &impl Abort,
+    gc: GarbageCollector,
+    family: &mut F,
+    answer: (usize, u64, usize),
+)
+    requires { F.collected ≡ true }
+{
+    assert!(rt; GarbageCollector::distinct(family));
+    assert_eq!(rt; told(gc.collect(family)), Some(answer));
+}
+
+/// Collects a family with a list of roots: the visits, the mark calls and the removed entries are
+/// these.
+pub fn collects_keeping<F: Family>(
+    rt: &impl Abort,
+    alloc: Global,
+    family: &mut F,
+    roots: &[Name],
+    answer: (usize, u64, usize),
+)
+    requires { F.collected ≡ true }
+{
     assert!(rt; GarbageCollector::distinct(family));
     let gc = GarbageCollector::new(alloc);
-    assert_eq!(rt; told(gc.collect(family)), Some(answer));
+    assert_eq!(rt; told(gc.collect_keeping(family, roots)), Some(answer));
+}
+
+/// The storage has this many entries.
+pub fn has_len<T: Internable>(rt: &impl Abort, storage: &InternStorage<T>, len: usize) {
+    assert_eq!(rt; storage.len(), len);
 }
 
 /// Interns a value that isn't stored: it gets this birth.

@@ -1,0 +1,80 @@
+//! Families of storages.
+use crate::nodes::Nodes;
+use crate::outers::a_value_over_a_slice;
+use crate::steps::{collects, own, release, release_slice};
+use crate::texts::two_texts_and_a_slice;
+use intern_fixtures::{GcString, Node, NodeSlice};
+use ra_ap_intern::{
+    Family, GarbageCollector, InternSliceStorage, InternStorage, NoStorages, Pair,
+};
+use std::alloc::Global;
+use std::process::Abort;
+
+/// Whether the storages of a family have distinct numbers is this.
+fn are_distinct<F: Family>(rt: &impl Abort, family: &F, answer: bool) {
+    assert_eq!(rt; GarbageCollector::distinct(family), answer);
+}
+
+/// Two storages with these numbers.
+fn two_storages(
+    alloc: Global,
+    first: u64,
+    second: u64,
+) -> Pair<Pair<NoStorages, Nodes>, InternSliceStorage<NodeSlice>> {
+    let family = GarbageCollector::add_storage(NoStorages, InternStorage::new(alloc, first));
+    GarbageCollector::add_slice_storage(family, InternSliceStorage::new(alloc, second))
+}
+
+#[test]
+fn two_storages_are_told_apart_by_their_numbers(rt: HostRuntime) {
+    let alloc = rt.alloc();
+    are_distinct(&rt, &two_storages(alloc, 7, 7), false);
+    are_distinct(&rt, &two_storages(alloc, 7, 8), true);
+}
+
+#[test]
+fn a_third_storage_may_have_the_number_of_the_first(rt: HostRuntime) {
+    let alloc = rt.alloc();
+    let third: InternStorage<GcString> = InternStorage::new(alloc, 7);
+    let family = GarbageCollector::add_storage(two_storages(alloc, 7, 8), third);
+    are_distinct(&rt, &family, false);
+}
+
+#[test]
+fn no_storages_are_distinct(rt: HostRuntime) {
+    are_distinct(&rt, &NoStorages, true);
+}
+
+#[test]
+fn no_storages_are_collected(rt: HostRuntime) {
+    collects(&rt, rt.alloc(), &mut NoStorages, (0, 0, 0));
+}
+
+#[test]
+fn empty_storages_are_collected(rt: HostRuntime) {
+    let alloc = rt.alloc();
+    let mut storage: InternStorage<Node> = InternStorage::new(alloc, 1);
+    collects(&rt, alloc, &mut storage, (0, 0, 0));
+    collects(&rt, alloc, &mut two_storages(alloc, 1, 2), (0, 0, 0));
+}
+
+#[test]
+fn a_second_collection_removes_nothing(rt: HostRuntime) {
+    let alloc = rt.alloc();
+    let (mut family, text, slice) = two_texts_and_a_slice(&rt, alloc);
+    collects(&rt, alloc, &mut family, (2, 0, 1));
+    collects(&rt, alloc, &mut family, (2, 0, 0));
+    release(&rt, &mut family.first.second, text);
+    release_slice(&rt, &mut family.second, slice);
+    collects(&rt, alloc, &mut family, (0, 0, 2));
+    collects(&rt, alloc, &mut family, (0, 0, 0));
+}
+
+#[test]
+fn a_second_collection_keeps_what_is_declared(rt: HostRuntime) {
+    let alloc = rt.alloc();
+    let (mut family, outer, _) = a_value_over_a_slice(&rt, alloc);
+    let _ = own(&rt, &mut family.second, outer);
+    collects(&rt, alloc, &mut family, (2, 1, 0));
+    collects(&rt, alloc, &mut family, (2, 1, 0));
+}

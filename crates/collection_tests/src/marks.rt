@@ -1,0 +1,131 @@
+//! Marks outside collections.
+ghost use Rattle.std.specs.Prelude.{◌≡◌, true};
+
+use crate::nodes::{intern_node, intern_owned};
+use crate::outers::{Outers, a_value_over_a_slice};
+use crate::steps::{collects_by, has_len, own, registers};
+use crate::texts::intern_text;
+use intern_fixtures::StringSlice;
+use ra_ap_intern::{
+    GarbageCollector, GcInternedVisit, InternStorage, Internable, InternedRef, InternedSliceRef,
+};
+use std::alloc::Global;
+use std::ops::ControlFlow;
+use std::process::Abort;
+
+/// What a mark call answers that marks.
+const MARKED: ControlFlow<()> = ControlFlow::Continue(());
+
+/// What a mark call answers that marks nothing.
+const NOT_MARKED: ControlFlow<()> = ControlFlow::Break(());
+
+/// Marks a value, which is answered thus.
+fn marks<T: Internable>(
+    rt: &impl Abort,
+    gc: &mut GarbageCollector,
+    reference: InternedRef<T>,
+    answer: ControlFlow<()>,
+)
+    requires { T.Internable.USE_GC ≡ true }
+{
+    assert_eq!(rt; gc.mark_interned_alive(reference), answer);
+}
+
+/// Marks a slice, which is answered thus.
+fn marks_slice(
+    rt: &impl Abort,
+    gc: &mut GarbageCollector,
+    slice: InternedSliceRef<StringSlice>,
+    answer: ControlFlow<()>,
+) {
+    assert_eq!(rt; gc.mark_interned_slice_alive(slice), answer);
+}
+
+/// There were this many visits, and this many mark calls.
+fn has_tallies(rt: &impl Abort, gc: &GarbageCollector, tallies: (usize, u64)) {
+    assert_eq!(rt; (gc.visits(), gc.mark_calls()), tallies);
+}
+
+/// A collector that has registered a value over a slice of which only the value is owned, with
+/// references to both.
+fn a_registered_value_over_a_slice(
+    rt: &impl Abort,
+    alloc: Global,
+) -> (
+    GarbageCollector,
+    Outers,
+    InternedRef<crate::kinds::Outer>,
+    InternedSliceRef<StringSlice>,
+) {
+    let (mut family, outer, inner) = a_value_over_a_slice(rt, alloc);
+    let _ = own(rt, &mut family.second, outer);
+    let mut gc = GarbageCollector::new(alloc);
+    registers(rt, &mut gc, &family);
+    (gc, family, outer, inner)
+}
+
+#[test]
+fn a_mark_call_marks_what_is_registered_and_not_counted(rt: HostRuntime) {
+    let alloc = rt.alloc();
+    let (mut gc, _, outer, inner) = a_registered_value_over_a_slice(&rt, alloc);
+    let mut outside = InternStorage::new(alloc, 9);
+    let text = intern_text(&rt, alloc, &mut outside, "abc", 0);
+
+    marks_slice(&rt, &mut gc, inner, MARKED);
+    marks_slice(&rt, &mut gc, inner, NOT_MARKED);
+    marks(&rt, &mut gc, outer, NOT_MARKED);
+    marks(&rt, &mut gc, text, NOT_MARKED);
+    has_tallies(&rt, &gc, (0, 4));
+    assert!(rt; gc.is_marked(inner.name()));
+    assert!(rt; !gc.is_marked(outer.name()));
+    assert!(rt; !gc.is_marked(text.name()));
+}
+
+#[test]
+fn a_registration_forgets_all_marks(rt: HostRuntime) {
+    let alloc = rt.alloc();
+    let (mut gc, family, outer, inner) = a_registered_value_over_a_slice(&rt, alloc);
+    marks_slice(&rt, &mut gc, inner, MARKED);
+    marks(&rt, &mut gc, outer, NOT_MARKED);
+    registers(&rt, &mut gc, &family);
+    assert!(rt; !gc.is_marked(inner.name()));
+    assert!(rt; !gc.is_marked(outer.name()));
+    has_tallies(&rt, &gc, (0, 0));
+    marks_slice(&rt, &mut gc, inner, MARKED);
+}
+
+#[test]
+fn nothing_is_marked_before_a_registration(rt: HostRuntime) {
+    let alloc = rt.alloc();
+    let (_, _, inner) = a_value_over_a_slice(&rt, alloc);
+    let mut gc = GarbageCollector::new(alloc);
+    marks_slice(&rt, &mut gc, inner, NOT_MARKED);
+    has_tallies(&rt, &gc, (0, 1));
+    assert!(rt; !gc.is_marked(inner.name()));
+}
+
+#[test]
+fn a_visit_marks_each_declared_child_in_turn(rt: HostRuntime) {
+    let alloc = rt.alloc();
+    let mut storage = InternStorage::new(alloc, 1);
+    let child = intern_node(&rt, alloc, &mut storage, (0, &[]), 0);
+    let node = intern_owned(&rt, alloc, &mut storage, &[child, child], 1);
+    let mut gc = GarbageCollector::new(alloc);
+    registers(&rt, &mut gc, &storage);
+    let value = node.get(&storage).expect(&rt, "stored");
+    value.visit_with(&mut gc);
+    has_tallies(&rt, &gc, (0, 2));
+    assert!(rt; gc.is_marked(child.name()));
+}
+
+#[test]
+fn a_collection_forgets_the_marks_before_it(rt: HostRuntime) {
+    let alloc = rt.alloc();
+    let mut storage = InternStorage::new(alloc, 1);
+    let node = intern_node(&rt, alloc, &mut storage, (0, &[]), 0);
+    let mut gc = GarbageCollector::new(alloc);
+    registers(&rt, &mut gc, &storage);
+    marks(&rt, &mut gc, node, MARKED);
+    collects_by(&rt, gc, &mut storage, (0, 0, 1));
+    has_len(&rt, &storage, 0);
+}
