@@ -1,6 +1,6 @@
 //! References that are stale, or of a storage outside.
 use crate::kinds::{Link, LinkSlice};
-use crate::nodes::{given_up, intern_node, intern_owned};
+use crate::nodes::{given_up, intern_leaf, intern_owned};
 use crate::steps::{
     collects, intern, intern_slice, own, own_slice, registers, release, release_slice,
 };
@@ -16,7 +16,7 @@ use std::process::Abort;
 fn a_child_in_a_storage_outside_is_passed_over(rt: HostRuntime) {
     let alloc = rt.alloc();
     let mut outside = InternStorage::new(alloc, 1);
-    let child = intern_node(&rt, alloc, &mut outside, (0, &[]), 0);
+    let child = intern_leaf(&rt, alloc, &mut outside, 0, 0);
     let mut storage = InternStorage::new(alloc, 2);
     let _ = intern_owned(&rt, alloc, &mut storage, &[child], 0);
     assert!(rt; child.get(&storage).is_none());
@@ -44,11 +44,11 @@ fn a_value_that_declares_itself_is_collected(rt: HostRuntime) {
 fn a_collected_child_stays_collected(rt: HostRuntime) {
     let alloc = rt.alloc();
     let mut storage = InternStorage::new(alloc, 1);
-    let leaf = intern_node(&rt, alloc, &mut storage, (5, &[]), 0);
+    let leaf = intern_leaf(&rt, alloc, &mut storage, 5, 0);
     collects(&rt, alloc, &mut storage, (0, 0, 1));
     let _ = intern_owned(&rt, alloc, &mut storage, &[leaf], 1);
     collects(&rt, alloc, &mut storage, (1, 1, 0));
-    let _ = intern_node(&rt, alloc, &mut storage, (5, &[]), 2);
+    let _ = intern_leaf(&rt, alloc, &mut storage, 5, 2);
     collects(&rt, alloc, &mut storage, (1, 1, 1));
 }
 
@@ -60,7 +60,7 @@ fn a_declared_birth_counts_once_it_is_given(rt: HostRuntime) {
     let _ = intern_owned(&rt, alloc, &mut storage, &[fifth], 0);
     collects(&rt, alloc, &mut storage, (1, 1, 0));
     for birth in 1..6 {
-        let _ = intern_node(&rt, alloc, &mut storage, (birth, &[]), birth);
+        let _ = intern_leaf(&rt, alloc, &mut storage, birth, birth);
     }
     collects(&rt, alloc, &mut storage, (2, 1, 4));
 }

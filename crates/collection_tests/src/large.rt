@@ -1,6 +1,6 @@
 //! Storages with many entries.
 use crate::kinds::Alike;
-use crate::nodes::{Nodes, intern_node};
+use crate::nodes::{Nodes, intern_leaf, intern_node};
 use crate::steps::{collects, intern, intern_slice, own, own_slice, push, release};
 use intern_fixtures::{Node, NodeSlice};
 use ra_ap_intern::{
@@ -40,7 +40,7 @@ fn intern_chain(
     storage: &mut Nodes,
     nodes: u64,
 ) -> InternedRef<Node> {
-    let mut last = intern_node(rt, alloc, storage, (0, &[]), 0);
+    let mut last = intern_leaf(rt, alloc, storage, 0, 0);
     for birth in 1..nodes {
         last = intern_node(rt, alloc, storage, (0, &[last]), birth);
     }
@@ -80,7 +80,7 @@ fn intern_fan(
     storage: &mut Nodes,
     nodes: u64,
 ) -> Vec<InternedRef<Node>> {
-    let leaf = intern_node(rt, alloc, storage, (0, &[]), 0);
+    let leaf = intern_leaf(rt, alloc, storage, 0, 0);
     let mut fan = Vec::new(alloc);
     for tag in 1..=nodes {
         let node = intern_node(rt, alloc, storage, (tag, &[leaf]), tag);

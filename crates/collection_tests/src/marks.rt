@@ -1,7 +1,7 @@
 //! Marks outside collections.
 ghost use Rattle.std.specs.Prelude.{◌≡◌, true};
 
-use crate::nodes::{intern_node, intern_owned};
+use crate::nodes::{intern_leaf, intern_owned};
 use crate::outers::{Outers, a_value_over_a_slice};
 use crate::steps::{collects_by, has_len, own, registers};
 use crate::texts::intern_text;
@@ -108,7 +108,7 @@ fn nothing_is_marked_before_a_registration(rt: HostRuntime) {
 fn a_visit_marks_each_declared_child_in_turn(rt: HostRuntime) {
     let alloc = rt.alloc();
     let mut storage = InternStorage::new(alloc, 1);
-    let child = intern_node(&rt, alloc, &mut storage, (0, &[]), 0);
+    let child = intern_leaf(&rt, alloc, &mut storage, 0, 0);
     let node = intern_owned(&rt, alloc, &mut storage, &[child, child], 1);
     let mut gc = GarbageCollector::new(alloc);
     registers(&rt, &mut gc, &storage);
@@ -122,7 +122,7 @@ fn a_visit_marks_each_declared_child_in_turn(rt: HostRuntime) {
 fn a_collection_forgets_the_marks_before_it(rt: HostRuntime) {
     let alloc = rt.alloc();
     let mut storage = InternStorage::new(alloc, 1);
-    let node = intern_node(&rt, alloc, &mut storage, (0, &[]), 0);
+    let node = intern_leaf(&rt, alloc, &mut storage, 0, 0);
     let mut gc = GarbageCollector::new(alloc);
     registers(&rt, &mut gc, &storage);
     marks(&rt, &mut gc, node, MARKED);

@@ -20,6 +20,17 @@ pub fn intern_node(
     intern(rt, storage, node, birth)
 }
 
+/// Interns the node of a tag without children, which isn't stored: it gets this birth.
+pub fn intern_leaf(
+    rt: &impl Abort,
+    alloc: Global,
+    storage: &mut Nodes,
+    tag: u64,
+    birth: u64,
+) -> InternedRef<Node> {
+    intern_node(rt, alloc, storage, (tag, &[]), birth)
+}
+
 /// Interns an owned node of tag 0 over these children, which isn't stored: it gets this birth.
 pub fn intern_owned(
     rt: &impl Abort,
@@ -36,7 +47,7 @@ pub fn intern_owned(
 pub fn given_up(rt: &impl Abort, alloc: Global, number: u64, birth: u64) -> InternedRef<Node> {
     let mut storage = InternStorage::new(alloc, number);
     for tag in 0..birth {
-        let _ = intern_node(rt, alloc, &mut storage, (tag, &[]), tag);
+        let _ = intern_leaf(rt, alloc, &mut storage, tag, tag);
     }
-    intern_node(rt, alloc, &mut storage, (birth, &[]), birth)
+    intern_leaf(rt, alloc, &mut storage, birth, birth)
 }

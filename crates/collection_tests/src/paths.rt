@@ -1,6 +1,6 @@
 //! What paths of declared children keep.
 use crate::kinds::{Link, LinkSlice};
-use crate::nodes::{Nodes, intern_node, intern_owned};
+use crate::nodes::{Nodes, intern_leaf, intern_node, intern_owned};
 use crate::steps::{collects, intern, intern_slice, own, release};
 use intern_fixtures::Node;
 use ra_ap_intern::{
@@ -13,7 +13,7 @@ use std::process::Abort;
 fn what_two_paths_reach_is_visited_once(rt: HostRuntime) {
     let alloc = rt.alloc();
     let mut storage = InternStorage::new(alloc, 1);
-    let leaf = intern_node(&rt, alloc, &mut storage, (0, &[]), 0);
+    let leaf = intern_leaf(&rt, alloc, &mut storage, 0, 0);
     let left = intern_node(&rt, alloc, &mut storage, (1, &[leaf]), 1);
     let right = intern_node(&rt, alloc, &mut storage, (2, &[leaf]), 2);
     let top = intern_owned(&rt, alloc, &mut storage, &[left, right], 3);
@@ -26,7 +26,7 @@ fn what_two_paths_reach_is_visited_once(rt: HostRuntime) {
 fn a_child_that_is_declared_twice_is_visited_once(rt: HostRuntime) {
     let alloc = rt.alloc();
     let mut storage = InternStorage::new(alloc, 1);
-    let child = intern_node(&rt, alloc, &mut storage, (0, &[]), 0);
+    let child = intern_leaf(&rt, alloc, &mut storage, 0, 0);
     let _ = intern_owned(&rt, alloc, &mut storage, &[child, child], 1);
     collects(&rt, alloc, &mut storage, (2, 2, 0));
 }
@@ -75,8 +75,8 @@ fn a_path_goes_through_storages(rt: HostRuntime) {
 fn two_to_the_thirty_paths_are_followed_at_once(rt: HostRuntime) {
     let alloc = rt.alloc();
     let mut storage = InternStorage::new(alloc, 1);
-    let left = intern_node(&rt, alloc, &mut storage, (0, &[]), 0);
-    let right = intern_node(&rt, alloc, &mut storage, (1, &[]), 1);
+    let left = intern_leaf(&rt, alloc, &mut storage, 0, 0);
+    let right = intern_leaf(&rt, alloc, &mut storage, 1, 1);
     let mut below = [left, right];
     for layer in 1..31 {
         below = intern_layer(&rt, alloc, &mut storage, below, layer);
