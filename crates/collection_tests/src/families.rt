@@ -5,7 +5,8 @@ use crate::steps::{collects, own, release, release_slice};
 use crate::texts::two_texts_and_a_slice;
 use intern_fixtures::{GcString, Node, NodeSlice};
 use ra_ap_intern::{
-    Family, GarbageCollector, InternSliceStorage, InternStorage, NoStorages, Pair,
+    Collected, Family, GarbageCollector, InternSliceStorage, InternStorage, NoStorages, Numbered,
+    Pair,
 };
 use std::alloc::Global;
 use std::process::Abort;
@@ -43,6 +44,33 @@ fn a_third_storage_may_have_the_number_of_the_first(rt: HostRuntime) {
 #[test]
 fn no_storages_are_distinct(rt: HostRuntime) {
     are_distinct(&rt, &NoStorages, true);
+}
+
+#[test]
+fn a_family_has_the_numbers_of_its_storages(rt: HostRuntime) {
+    let family = two_storages(rt.alloc(), 7, 8);
+    for (number, answer) in [(7, true), (8, true), (9, false)] {
+        has_number(&rt, &family, number, answer);
+    }
+}
+
+/// Whether a storage of a family has this number is this.
+fn has_number<N: Numbered>(rt: &impl Abort, family: &N, number: u64, answer: bool) {
+    assert_eq!(rt; family.has_number(number), answer);
+}
+
+#[test]
+fn a_collection_tells_what_it_did(rt: HostRuntime) {
+    let alloc = rt.alloc();
+    let (mut family, _, _) = two_texts_and_a_slice(&rt, alloc);
+    assert!(rt; GarbageCollector::distinct(&family));
+    let told = GarbageCollector::new(alloc).collect(&mut family);
+    let expected = Collected {
+        visits: 2,
+        mark_calls: 0,
+        removed: 1,
+    };
+    assert_eq!(rt; told, Ok(expected));
 }
 
 #[test]

@@ -65,6 +65,21 @@ fn a_declared_birth_counts_once_it_is_given(rt: HostRuntime) {
     collects(&rt, alloc, &mut storage, (2, 1, 4));
 }
 
+#[test]
+fn a_declared_birth_is_found_wherever_its_entry_is(rt: HostRuntime) {
+    let alloc = rt.alloc();
+    let second = given_up(&rt, alloc, 7, 1);
+    let mut storage = InternStorage::new(alloc, 7);
+    let _ = intern_leaf(&rt, alloc, &mut storage, 0, 0);
+    collects(&rt, alloc, &mut storage, (0, 0, 1));
+    let leaf = intern_leaf(&rt, alloc, &mut storage, 1, 1);
+    assert!(rt; leaf == second);
+    let _ = intern_owned(&rt, alloc, &mut storage, &[second], 2);
+    let _ = intern_leaf(&rt, alloc, &mut storage, 3, 3);
+    collects(&rt, alloc, &mut storage, (2, 1, 1));
+    assert!(rt; second.get(&storage).is_some());
+}
+
 /// A storage of values, and one of slices of such values.
 type Links = Pair<Pair<NoStorages, InternStorage<Link>>, InternSliceStorage<LinkSlice>>;
 

@@ -1,13 +1,15 @@
 //! Marks outside collections.
 ghost use Rattle.std.specs.Prelude.{◌≡◌, true};
 
+use crate::kinds::Outer;
 use crate::nodes::{intern_leaf, intern_owned};
 use crate::outers::{Outers, a_value_over_a_slice};
 use crate::steps::{collects_by, has_len, own, registers};
 use crate::texts::intern_text;
-use intern_fixtures::StringSlice;
+use intern_fixtures::{NodeSlice, StringSlice};
 use ra_ap_intern::{
-    GarbageCollector, GcInternedVisit, InternStorage, Internable, InternedRef, InternedSliceRef,
+    GarbageCollector, GcInternedSliceVisit, GcInternedVisit, InternStorage, Internable,
+    InternedRef, InternedSliceRef,
 };
 use std::alloc::Global;
 use std::ops::ControlFlow;
@@ -54,7 +56,7 @@ fn a_registered_value_over_a_slice(
 ) -> (
     GarbageCollector,
     Outers,
-    InternedRef<crate::kinds::Outer>,
+    InternedRef<Outer>,
     InternedSliceRef<StringSlice>,
 ) {
     let (mut family, outer, inner) = a_value_over_a_slice(rt, alloc);
@@ -114,6 +116,20 @@ fn a_visit_marks_each_declared_child_in_turn(rt: HostRuntime) {
     registers(&rt, &mut gc, &storage);
     let value = node.get(&storage).expect(&rt, "stored");
     value.visit_with(&mut gc);
+    has_tallies(&rt, &gc, (0, 2));
+    assert!(rt; gc.is_marked(child.name()));
+}
+
+#[test]
+fn a_visit_of_a_slice_marks_each_item_in_turn(rt: HostRuntime) {
+    let alloc = rt.alloc();
+    let mut storage = InternStorage::new(alloc, 1);
+    let child = intern_leaf(&rt, alloc, &mut storage, 0, 0);
+    let mut gc = GarbageCollector::new(alloc);
+    registers(&rt, &mut gc, &storage);
+    NodeSlice::visit_header(&5, &mut gc);
+    has_tallies(&rt, &gc, (0, 0));
+    NodeSlice::visit_slice(&[child, child], &mut gc);
     has_tallies(&rt, &gc, (0, 2));
     assert!(rt; gc.is_marked(child.name()));
 }
