@@ -20,7 +20,10 @@ fn a_child_in_a_storage_outside_is_passed_over(rt: HostRuntime) {
     let mut storage = InternStorage::new(alloc, 2);
     let _ = intern_owned(&rt, alloc, &mut storage, &[child], 0);
     assert!(rt; child.get(&storage).is_none());
-    assert_eq!(rt; refusal(child.to_owned(&mut storage)), Some(Refusal::Foreign));
+    assert_eq!(rt;
+        refusal(child.to_owned(&mut storage)),
+        Some(Refusal::Foreign)
+    );
 
     let mut gc = GarbageCollector::new(alloc);
     registers(&rt, &mut gc, &storage);

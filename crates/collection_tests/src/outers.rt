@@ -4,8 +4,8 @@ use crate::steps::intern;
 use crate::texts::intern_numbers;
 use intern_fixtures::StringSlice;
 use ra_ap_intern::{
-    GarbageCollector, InternSliceStorage, InternStorage, InternedRef, InternedSliceRef,
-    NoStorages, Pair,
+    GarbageCollector, InternSliceStorage, InternStorage, InternedRef, InternedSliceRef, NoStorages,
+    Pair,
 };
 use std::alloc::Global;
 use std::process::Abort;

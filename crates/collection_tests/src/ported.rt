@@ -39,12 +39,7 @@ fn gc_visit(rt: HostRuntime) {
 }
 
 /// Reads these numbers behind this text by the slice that a value is over.
-fn reads_over(
-    rt: &impl Abort,
-    family: &Outers,
-    outer: &Interned<Outer>,
-    pair: (&str, &[u32]),
-) {
+fn reads_over(rt: &impl Abort, family: &Outers, outer: &Interned<Outer>, pair: (&str, &[u32])) {
     let read = outer.get(&family.second).expect(rt, "stored");
     reads_numbers(rt, &family.first.second, read.0, pair);
 }

@@ -3,8 +3,8 @@ ghost use Rattle.std.specs.Prelude.{◌≡◌, true};
 
 use intern_fixtures::{allowed, told};
 use ra_ap_intern::{
-    Family, GarbageCollector, InternSliceStorage, InternStorage, Internable, Interned,
-    InternedRef, InternedSlice, InternedSliceRef, Name, SliceInternable,
+    Family, GarbageCollector, InternSliceStorage, InternStorage, Internable, Interned, InternedRef,
+    InternedSlice, InternedSliceRef, Name, SliceInternable,
 };
 use std::alloc::Global;
 use std::process::Abort;

@@ -8,4 +8,4 @@ use Rattle.collection_tests.proofs.kinds.LinkSliceGcInternedSliceVisit.visit_sli
 abbrev pub invariant-loop-link : goal.invariant-loop-link
 invariant-loop-link l =
     marks (state l.gc) (map ref_name (drop l.link-index l.slice))
-  ≡ marks (state l.fn.gc) (map ref_name l.slice)
+    ≡ marks (state l.fn.gc) (map ref_name l.slice)

@@ -8,4 +8,4 @@ use Rattle.collection_tests.proofs.visited.VisitedGcInternedVisit.visit_with.Giv
 abbrev pub invariant-loop-child : goal.invariant-loop-child
 invariant-loop-child l =
     marks (state l.gc) (map ref_name (drop l.child-index l.child-items))
-  ≡ marks (state l.fn.gc) (map ref_name l.child-items)
+    ≡ marks (state l.fn.gc) (map ref_name l.child-items)

@@ -8,4 +8,4 @@ use Rattle.collection_tests.proofs.visited.VisitedSliceGcInternedSliceVisit.visi
 abbrev pub invariant-loop-child : goal.invariant-loop-child
 invariant-loop-child l =
     marks (state l.gc) (map slice_ref_name (drop l.child-index l.slice))
-  ≡ marks (state l.fn.gc) (map slice_ref_name l.slice)
+    ≡ marks (state l.fn.gc) (map slice_ref_name l.slice)

@@ -8,4 +8,4 @@ use Rattle.intern_fixtures.proofs.nodes.NodeGcInternedVisit.visit_with.Given as 
 abbrev pub invariant-loop-child : goal.invariant-loop-child
 invariant-loop-child l =
     marks (state l.gc) (map ref_name (drop l.child-index l.child-items))
-  ≡ marks (state l.fn.gc) (map ref_name l.child-items)
+    ≡ marks (state l.fn.gc) (map ref_name l.child-items)

@@ -8,4 +8,4 @@ use Rattle.intern_fixtures.proofs.slices.NodeSliceGcInternedSliceVisit.visit_sli
 abbrev pub invariant-loop-child : goal.invariant-loop-child
 invariant-loop-child l =
     marks (state l.gc) (map ref_name (drop l.child-index l.slice))
-  ≡ marks (state l.fn.gc) (map ref_name l.slice)
+    ≡ marks (state l.fn.gc) (map ref_name l.slice)
