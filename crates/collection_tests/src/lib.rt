@@ -23,6 +23,8 @@ mod pool;
 #[cfg(test)]
 mod ported;
 #[cfg(test)]
+mod readme;
+#[cfg(test)]
 mod roots;
 #[cfg(test)]
 mod steps;
