@@ -1,4 +1,6 @@
 //! Families of storages.
+ghost use Rattle.std.specs.Prelude.{◌≡◌, true};
+
 use crate::nodes::Nodes;
 use crate::outers::a_value_over_a_slice;
 use crate::steps::{collects, own, release, release_slice};
@@ -12,8 +14,8 @@ use std::alloc::Global;
 use std::process::Abort;
 
 /// Whether the storages of a family have distinct numbers is this.
-fn are_distinct<F: Family>(rt: &impl Abort, family: &F, answer: bool) {
-    assert_eq!(rt; GarbageCollector::distinct(family), answer);
+fn are_distinct<F: Family + Drop>(rt: &impl Abort, family: F, answer: bool) {
+    assert_eq!(rt; GarbageCollector::distinct(&family), answer);
 }
 
 /// Two storages with these numbers.
@@ -29,8 +31,8 @@ fn two_storages(
 #[test]
 fn two_storages_are_told_apart_by_their_numbers(rt: HostRuntime) {
     let alloc = rt.alloc();
-    are_distinct(&rt, &two_storages(alloc, 7, 7), false);
-    are_distinct(&rt, &two_storages(alloc, 7, 8), true);
+    are_distinct(&rt, two_storages(alloc, 7, 7), false);
+    are_distinct(&rt, two_storages(alloc, 7, 8), true);
 }
 
 #[test]
@@ -38,38 +40,45 @@ fn a_third_storage_may_have_the_number_of_the_first(rt: HostRuntime) {
     let alloc = rt.alloc();
     let third: InternStorage<GcString> = InternStorage::new(alloc, 7);
     let family = GarbageCollector::add_storage(two_storages(alloc, 7, 8), third);
-    are_distinct(&rt, &family, false);
+    are_distinct(&rt, family, false);
 }
 
 #[test]
 fn no_storages_are_distinct(rt: HostRuntime) {
-    are_distinct(&rt, &NoStorages, true);
+    are_distinct(&rt, NoStorages, true);
 }
 
 #[test]
 fn a_family_has_the_numbers_of_its_storages(rt: HostRuntime) {
-    let family = two_storages(rt.alloc(), 7, 8);
-    for (number, answer) in [(7, true), (8, true), (9, false)] {
-        has_number(&rt, &family, number, answer);
-    }
+    has_numbers(&rt, two_storages(rt.alloc(), 7, 8), [7, 8], 9);
 }
 
-/// Whether a storage of a family has this number is this.
-fn has_number<N: Numbered>(rt: &impl Abort, family: &N, number: u64, answer: bool) {
-    assert_eq!(rt; family.has_number(number), answer);
+/// The storages of a family have each of these numbers, and none has the other.
+fn has_numbers<N: Numbered + Drop>(rt: &impl Abort, family: N, numbers: [u64; 2], other: u64) {
+    for number in numbers {
+        assert!(rt; family.has_number(number));
+    }
+    assert!(rt; !family.has_number(other));
 }
 
 #[test]
 fn a_collection_tells_what_it_did(rt: HostRuntime) {
     let alloc = rt.alloc();
-    let (mut family, _, _) = two_texts_and_a_slice(&rt, alloc);
-    assert!(rt; GarbageCollector::distinct(&family));
-    let told = GarbageCollector::new(alloc).collect(&mut family);
+    let (family, _, _) = two_texts_and_a_slice(&rt, alloc);
     let expected = Collected {
         visits: 2,
         mark_calls: 0,
         removed: 1,
     };
+    tells(&rt, alloc, family, expected);
+}
+
+/// The collection of a family tells this.
+fn tells<F: Family + Drop>(rt: &impl Abort, alloc: Global, mut family: F, expected: Collected)
+    requires { F.collected ≡ true }
+{
+    assert!(rt; GarbageCollector::distinct(&family));
+    let told = GarbageCollector::new(alloc).collect(&mut family);
     assert_eq!(rt; told, Ok(expected));
 }
 

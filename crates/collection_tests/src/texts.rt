@@ -68,8 +68,8 @@ pub fn reads_numbers(
     (text, numbers): (&str, &[u32]),
 ) {
     let read = slice.get(storage).expect(rt, "stored");
-    assert_eq!(rt; read.header.header.as_str(), text);
-    assert_eq!(rt; read.header.length, numbers.len());
+    let header = (read.header.header.as_str(), read.header.length);
+    assert_eq!(rt; header, (text, numbers.len()));
     assert_eq!(rt; read.slice, numbers);
 }
 
