@@ -74,13 +74,13 @@ fewer_left p es =
     omega arith
 
 -- what is told to be removed: what was registered, less what is left
-pub removed_are : (all rest : List Entry) (set : Name → Bool) (entries left : ℕ) → rest ≡ filter (λ e. set e.name) all
-    → entries < 2 ^ 64 → entries ≡ length all → left ≡ min (length rest) (2 ^ 64 - 1)
-    → (left ≤ entries) × ((entries - left) + length rest ≡ length all)
-removed_are all rest set entries left kept small whole is =
+pub removed_are : (all rest : List Entry) (set : Name → Bool) (entries left removed : ℕ) → rest ≡ filter (λ e. set e.name) all
+    → entries < 2 ^ 64 → entries ≡ length all → left ≡ min (length rest) (2 ^ 64 - 1) → removed ≡ entries - left
+    → removed + length rest ≡ length all
+removed_are all rest set entries left removed kept small whole is told =
     let fewer : length rest ≤ length all = subst (λ n. n ≤ length all) (sym (ap length kept)) (fewer_left (λ e. set e.name) all) in
     let same : left ≡ length rest = is ∙ min-eq_left (omega arith) in
-    (omega arith, omega arith)
+    omega arith
 
 -- what a collection tells at the end of its trace
 pub is_collection : (family : List Entry) (listed visited : List Name) (c : Collector) (told : Collected)

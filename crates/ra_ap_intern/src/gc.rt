@@ -121,7 +121,8 @@ impl GarbageCollector {
     {
         let mut registry = Registry::with_room(self.alloc, family.len())?;
         family.learn(&mut registry)?;
-        self.tracer = Tracer::of(self.alloc, registry)?;
+        let tracer = Tracer::of(self.alloc, registry)?;
+        self.tracer = tracer;
         Ok(())
     }
 
@@ -213,7 +214,7 @@ impl GarbageCollector {
         Ok(Collected {
             visits: self.visits(),
             mark_calls: self.mark_calls(),
-            removed: entries - family.len(),
+            removed: entries.saturating_sub(family.len()),
         })
     }
 

@@ -9,6 +9,6 @@ learn-requires-clause-new g c = λ x there. ap (λ (r : Names). r.flags x) c.in_
 pub returns-clause-ok : goal.returns-clause-ok
 returns-clause-ok g c =
     let learnt = names c.learn.new.registry in
-    c.in_ok-self-inside.ensures
+    c.in_ok-tracer.ensures
     ∙ begins_anew (g.F.Family.entries c.args.family.now) (names c.in_ok-registry.registry) learnt learnt.name_at learnt.storage
     c.in_ok-registry.ensures c.in_ok-learn.ensures
