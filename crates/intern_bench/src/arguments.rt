@@ -4,8 +4,8 @@ use anyhow::{Result, bail, ensure};
 
 /// How the program is called.
 pub(crate) const USAGE: &str =
-    "usage: intern_bench NAME GROUP N, where GROUP is sym, val, churn or slice \
-     and N is a number of entries";
+    "usage: intern_bench NAME GROUP N, where GROUP is sym, val, churn, slice, chain, fan, dag or \
+     churned and N is a number of entries";
 
 /// What is stored, and what happens to it.
 #[derive(Clone, Copy)]
@@ -18,6 +18,14 @@ pub(crate) enum Group {
     Churn,
     /// Collected slices of four items.
     Slices,
+    /// Collected nodes, each of which refers to the one before it.
+    Chain,
+    /// Such nodes, all of which refer to one.
+    Fan,
+    /// Such nodes in layers, each of which refers to two of the layer below.
+    Dag,
+    /// A chain, half of which was collected and is stored again.
+    Churned,
 }
 
 impl Group {
@@ -27,6 +35,10 @@ impl Group {
             "val" => Ok(Group::Values),
             "churn" => Ok(Group::Churn),
             "slice" => Ok(Group::Slices),
+            "chain" => Ok(Group::Chain),
+            "fan" => Ok(Group::Fan),
+            "dag" => Ok(Group::Dag),
+            "churned" => Ok(Group::Churned),
             _ => bail!("no group {name:?}"),
         }
     }

@@ -33,7 +33,7 @@ pub(crate) fn measure_all<S: Storage>(
     Measurement::of_memory("h4", entries, peak).print(rt, job)?;
     let now = rt.now()?.saturating_sub(before);
     Measurement::of_memory("h5", entries, now).print(rt, job)?;
-    check_entries(&churn.storage, entries)
+    check_entries(churn.storage.entries(), entries)
 }
 
 /// A storage, and what its loops take. All of it is made before they are timed.

@@ -91,8 +91,7 @@ pub(crate) fn make_room<S: Storage>(
 }
 
 /// Refuses a storage in which a loop left a wrong number of entries.
-pub(crate) fn check_entries(storage: &impl Storage, wanted: usize) -> Result<()> {
-    let entries = storage.entries();
+pub(crate) fn check_entries(entries: usize, wanted: usize) -> Result<()> {
     ensure!(
         entries == wanted,
         "a loop left {entries} entries in the place of {wanted}"

@@ -3,10 +3,13 @@
 
 mod arguments;
 mod churn;
+mod collections;
 mod loops;
 mod memory;
+mod nodes;
 mod numbers;
 mod report;
+mod shapes;
 mod slices;
 mod storage;
 mod symbols;
@@ -17,6 +20,7 @@ use anyhow::Result;
 use arguments::{Group, Job, USAGE};
 use memory::Memory;
 use ra_ap_intern::{InternSliceStorage, InternStorage, SymbolTable};
+use shapes::Shape;
 use slices::Row;
 use std::alloc::Global;
 use std::env;
@@ -34,6 +38,10 @@ fn measure_group(rt: &(impl Clock + Memory + Print), alloc: Global, job: &Job<'_
         Group::Values => workload::measure_all::<InternStorage<Number>>(rt, alloc, job, &COUNTED),
         Group::Churn => churn::measure_all::<InternStorage<Number>>(rt, alloc, job),
         Group::Slices => workload::measure_all::<InternSliceStorage<Row>>(rt, alloc, job, &SLICES),
+        Group::Chain => collections::measure_all(rt, alloc, job, Shape::chain(job.entries)),
+        Group::Fan => collections::measure_all(rt, alloc, job, Shape::fan(job.entries)),
+        Group::Dag => collections::measure_all(rt, alloc, job, Shape::dag(job.entries)),
+        Group::Churned => collections::measure_churned(rt, alloc, job, Shape::chain(job.entries)),
     }
 }
 

@@ -8,8 +8,11 @@ pub(crate) trait Memory {
     /// The memory now.
     fn now(&self) -> Result<u64>;
 
-    /// The most at a time so far.
+    /// The most at a time so far, since the start or since it was forgotten.
     fn peak(&self) -> Result<u64>;
+
+    /// Forgets the most at a time so far.
+    fn forget_peak(&self) -> Result<()>;
 }
 
 impl<R: Files + Alloc> Memory for R {
@@ -19,6 +22,12 @@ impl<R: Files + Alloc> Memory for R {
 
     fn peak(&self) -> Result<u64> {
         read_status(self, "VmHWM:")
+    }
+
+    // 5 is the kernel's number for that.
+    fn forget_peak(&self) -> Result<()> {
+        fs::write(self, "/proc/self/clear_refs", "5")?;
+        Ok(())
     }
 }
 

@@ -138,7 +138,7 @@ impl<S: Storage> Workload<S> {
             Step::Fresh => rt.peak()?.saturating_sub(before),
             _ => 0,
         };
-        check_entries(&self.storage, self.entries_after(step))?;
+        check_entries(self.storage.entries(), self.entries_after(step))?;
         Ok(Measurement {
             memory,
             ..Measurement::of_time(metric, self.inputs.len(), time, check)
