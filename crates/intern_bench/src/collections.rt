@@ -8,7 +8,6 @@ use crate::shapes::Shape;
 use anyhow::Result;
 use ra_ap_intern::{GarbageCollector, InternStorage, Interned, InternedRef, Refusal};
 use std::alloc::Global;
-use std::mem;
 use std::rt::Clock;
 use std::time::Instant;
 
@@ -117,12 +116,12 @@ impl Nodes {
     // Stores the nodes, collects the later half of them, and stores these again.
     fn churn(&mut self) -> Result<()> {
         self.build()?;
-        let half = self.shape.nodes / 2;
-        self.listed.truncate(half);
+        let kept = self.shape.nodes - self.shape.nodes / 2;
+        self.listed.truncate(kept);
         let last = self.listed.last().ok_or(Refusal::Gone)?;
         self.roots
             .push(InternedRef::to_owned(*last, &mut self.storage)?)?;
-        self.collect(half)?;
+        self.collect(kept)?;
         self.disown()?;
         self.build()
     }
