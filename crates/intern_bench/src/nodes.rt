@@ -11,8 +11,7 @@ use ra_ap_intern::{
 #[derive(Clone, Copy, PartialEq, Eq, Hash)]
 pub(crate) struct Node {
     id: u64,
-    a: Option<InternedRef<Node>>,
-    b: Option<InternedRef<Node>>,
+    children: [Option<InternedRef<Node>>; 2],
 }
 
 impl Node {
@@ -20,8 +19,7 @@ impl Node {
     pub(crate) fn alone(id: u64) -> Node {
         Node {
             id,
-            a: None,
-            b: None,
+            children: [None, None],
         }
     }
 }
@@ -33,19 +31,19 @@ impl Internable for Node {
 }
 
 impl GcInternedVisit for Node {
-    ghost use Rattle.std.specs.Prelude.{◌++◌};
-    ghost use Rattle.std.specs.Option.{option_map, option_to_list};
+    ghost use Rattle.std.specs.Prelude.{filter_map};
+    ghost use Rattle.std.specs.Option.{option_map};
     ghost use Rattle.intern_bench.specs.declared.nodes.Node.{out-Node};
     ghost use Rattle.ra_ap_intern.specs.Handle.{ref_name};
 
-    ghost children = { λ node. option_to_list (option_map ref_name (out-Node node).a)
-        ++ option_to_list (option_map ref_name (out-Node node).b) };
+    ghost children = { λ node. filter_map (option_map ref_name) (out-Node node).children };
 
     fn visit_with(&self, gc: &mut GarbageCollector) {
-        if let Some(a) = self.a {
+        let [a, b] = self.children;
+        if let Some(a) = a {
             let _ = gc.mark_interned_alive(a);
         }
-        if let Some(b) = self.b {
+        if let Some(b) = b {
             let _ = gc.mark_interned_alive(b);
         }
     }
@@ -72,8 +70,7 @@ pub(crate) fn store_nodes(
         let (a, b) = shape.children(place);
         let node = Node {
             id: place as u64,
-            a: listed_at(listed, a),
-            b: listed_at(listed, b),
+            children: [listed_at(listed, a), listed_at(listed, b)],
         };
         listed.push(store_node(storage, node)?)?;
     }
@@ -81,7 +78,7 @@ pub(crate) fn store_nodes(
 }
 
 // The reference at a place of a list.
-fn listed_at(listed: &[InternedRef<Node>], place: Option<usize>) -> Option<InternedRef<Node>> {
+fn listed_at<T>(listed: &[InternedRef<T>], place: Option<usize>) -> Option<InternedRef<T>> {
     listed.get(place?).copied()
 }
 
