@@ -5,6 +5,7 @@
 //! first that nothing has changed and that what was offered came back.
 #![tactic(auto)]
 
+mod collections;
 mod fault;
 mod scene;
 mod slices;
@@ -12,6 +13,7 @@ mod storage;
 mod symbols;
 mod values;
 
+use crate::collections::{Collection, check_collection, check_registration};
 use crate::fault::Fault;
 use crate::scene::check;
 use crate::slices::Row;
@@ -30,7 +32,10 @@ fn check_all(rt: &(impl Print + Eprint), alloc: Global) -> Result<(), Fault> {
     check(rt, alloc, InternSliceStorage::<Row>::new(alloc, 4))?;
     check(rt, alloc, Symbols::new(alloc, Call::Intern))?;
     check(rt, alloc, Symbols::new(alloc, Call::Integer))?;
-    check(rt, alloc, Symbols::new(alloc, Call::Generated))
+    check(rt, alloc, Symbols::new(alloc, Call::Generated))?;
+    check_registration(rt, alloc)?;
+    check_collection(rt, alloc, Collection::Plain)?;
+    check_collection(rt, alloc, Collection::Keeping)
 }
 
 fn main(rt: HostRuntime) -> ExitCode {

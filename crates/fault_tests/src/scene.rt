@@ -27,8 +27,8 @@ pub(crate) fn check<S: Storage>(
     let mut scene = Scene {
         storage,
         first: 0,
-        inputs: room(alloc)?,
-        references: room(alloc)?,
+        inputs: room(alloc, INPUTS)?,
+        references: room(alloc, INPUTS)?,
     };
     scene.fill(rt, alloc)?;
     if !scene.storage.keeps() {
@@ -110,10 +110,10 @@ impl<S: Storage> Scene<S> {
     }
 }
 
-// Room for one of each input.
-fn room<T>(alloc: Global) -> Result<Vec<T>, AllocError> {
-    match Vec::with_capacity(alloc, INPUTS) {
+/// Room for so many elements, at the second try where the first is refused.
+pub(crate) fn room<T>(alloc: Global, length: usize) -> Result<Vec<T>, AllocError> {
+    match Vec::with_capacity(alloc, length) {
         Ok(room) => Ok(room),
-        Err(_) => Vec::with_capacity(alloc, INPUTS),
+        Err(_) => Vec::with_capacity(alloc, length),
     }
 }

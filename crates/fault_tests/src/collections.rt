@@ -1,0 +1,221 @@
+//! Calls of the collector.
+mod grove;
+mod node;
+
+use crate::fault::{Fault, ensure};
+use grove::{Grove, Left, owns_branch, owns_node};
+use ra_ap_intern::{Collected, GarbageCollector};
+use std::alloc::Global;
+use std::ops::ControlFlow;
+
+/// How many nodes, and how many branches, the large family has.
+const LARGE: usize = 256;
+
+/// A call that collects.
+#[derive(Clone, Copy)]
+pub(crate) enum Collection {
+    /// `GarbageCollector::collect`.
+    Plain,
+    /// `GarbageCollector::collect_keeping`.
+    Keeping,
+}
+
+impl Collection {
+    fn name(self) -> &'static str {
+        match self {
+            Collection::Plain => "GarbageCollector::collect",
+            Collection::Keeping => "GarbageCollector::collect_keeping",
+        }
+    }
+
+    // What it leaves.
+    fn left(self) -> Left {
+        match self {
+            Collection::Plain => Left::Reached,
+            Collection::Keeping => Left::Listed,
+        }
+    }
+
+    // Its answer where there are two nodes and a branch.
+    fn small(self) -> Collected {
+        match self {
+            Collection::Plain => told(2, 0, 1),
+            Collection::Keeping => told(3, 0, 0),
+        }
+    }
+
+    // Its answer for the large family.
+    fn large(self) -> Collected {
+        match self {
+            Collection::Plain => told(224, 64, 288),
+            Collection::Keeping => told(288, 96, 224),
+        }
+    }
+
+    // Makes the call, with a new collector.
+    fn collect(self, alloc: Global, grove: &mut Grove) -> Result<Collected, Fault> {
+        let storages = &mut grove.storages;
+        if !GarbageCollector::distinct(storages) {
+            return Err(Fault::Wrong("two storages of a family have one number"));
+        }
+        let gc = GarbageCollector::new(alloc);
+        let collected = match self {
+            Collection::Plain => gc.collect(storages),
+            Collection::Keeping => gc.collect_keeping(storages, grove.listed.as_slice()),
+        };
+        collected.map_err(|_| Fault::NoMemory)
+    }
+
+    // Makes the call. Where it is refused, the family is as it was, and the call is made once more.
+    fn check_on(
+        self,
+        rt: &impl Eprint,
+        alloc: Global,
+        grove: &mut Grove,
+        wanted: Collected,
+    ) -> Result<(), Fault> {
+        grove.check(alloc, Left::All)?;
+        let collected = match self.collect(alloc, grove) {
+            Err(Fault::NoMemory) => {
+                rt.eprintln(self.name())?;
+                grove.check(alloc, Left::All)?;
+                self.collect(alloc, grove)?
+            }
+            collected => collected?,
+        };
+        ensure(collected == wanted, "a collection tells something else")?;
+        grove.check(alloc, self.left())?;
+        grove.store_again(alloc, self.left())
+    }
+}
+
+fn told(visits: usize, mark_calls: u64, removed: usize) -> Collected {
+    Collected {
+        visits,
+        mark_calls,
+        removed,
+    }
+}
+
+/// Checks a call that collects: on a family of three entries, and on a large one.
+pub(crate) fn check_collection(
+    rt: &(impl Print + Eprint),
+    alloc: Global,
+    call: Collection,
+) -> Result<(), Fault> {
+    let mut small = Grove::make(alloc, 2, 1)?;
+    call.check_on(rt, alloc, &mut small, call.small())?;
+    let mut large = Grove::make(alloc, LARGE, LARGE)?;
+    call.check_on(rt, alloc, &mut large, call.large())?;
+    println!(rt; "{}: {}", call.name(), call.large().visits)?;
+    Ok(())
+}
+
+/// Checks `register`, and the calls of a collector that take no memory.
+pub(crate) fn check_registration(rt: &(impl Print + Eprint), alloc: Global) -> Result<(), Fault> {
+    let small = Grove::make(alloc, 2, 1)?;
+    Registration::check_on(rt, alloc, &small)?;
+    let large = Grove::make(alloc, LARGE, LARGE)?;
+    Registration::check_on(rt, alloc, &large)?;
+    println!(rt; "GarbageCollector::register: {}", large.len())?;
+    Ok(())
+}
+
+/// A collector of a family, and what it has to answer.
+#[derive(Drop)]
+struct Registration<'a> {
+    gc: GarbageCollector,
+    grove: &'a Grove,
+    is_registered: bool,
+    // Whether each entry had a mark call.
+    is_marked: bool,
+}
+
+impl Registration<'_> {
+    // Registers the family twice. The mark calls after the first are forgotten at the second.
+    fn check_on(rt: &impl Eprint, alloc: Global, grove: &Grove) -> Result<(), Fault> {
+        let mut registration = Registration {
+            gc: GarbageCollector::new(alloc),
+            grove,
+            is_registered: false,
+            is_marked: false,
+        };
+        registration.mark_all()?;
+        registration.register(rt, alloc)?;
+        registration.mark_all()?;
+        registration.register(rt, alloc)?;
+        registration.mark_all()
+    }
+
+    // Registers the family. Where that is refused, all is as it was, and it is tried once more.
+    fn register(&mut self, rt: &impl Eprint, alloc: Global) -> Result<(), Fault> {
+        let storages = &self.grove.storages;
+        if !GarbageCollector::distinct(storages) {
+            return Err(Fault::Wrong("two storages of a family have one number"));
+        }
+        if self.gc.register(storages).is_err() {
+            rt.eprintln("GarbageCollector::register")?;
+            self.is_as_it_was(alloc)?;
+            self.gc.register(storages)?;
+        }
+        self.is_registered = true;
+        self.is_marked = false;
+        self.is_as_it_was(alloc)
+    }
+
+    fn is_as_it_was(&self, alloc: Global) -> Result<(), Fault> {
+        self.grove.check(alloc, Left::All)?;
+        self.check_marks()
+    }
+
+    // Fails unless exactly the entries without owners are marked that had a mark call.
+    fn check_marks(&self) -> Result<(), Fault> {
+        let marks = self.is_registered && self.is_marked;
+        for (reference, number) in self.grove.nodes.iter().zip(0..) {
+            ensure(
+                self.gc.is_marked(reference.name()) == (marks && !owns_node(number)),
+                "the mark of a node is wrong",
+            )?;
+        }
+        for (reference, number) in self.grove.branches.iter().zip(0..) {
+            ensure(
+                self.gc.is_marked(reference.name()) == (marks && !owns_branch(number)),
+                "the mark of a slice is wrong",
+            )?;
+        }
+        let calls = if self.is_marked { self.grove.len() } else { 0 };
+        ensure(
+            self.gc.visits() == 0 && self.gc.mark_calls() == calls as u64,
+            "a tally of a collector is wrong",
+        )
+    }
+
+    // Makes a mark call for each entry.
+    fn mark_all(&mut self) -> Result<(), Fault> {
+        let marks = self.is_registered;
+        for (reference, number) in self.grove.nodes.iter().zip(0..) {
+            let answer = self.gc.mark_interned_alive(*reference);
+            ensure(
+                answer == flow(marks && !owns_node(number)),
+                "a mark call for a node answers something else",
+            )?;
+        }
+        for (reference, number) in self.grove.branches.iter().zip(0..) {
+            let answer = self.gc.mark_interned_slice_alive(*reference);
+            ensure(
+                answer == flow(marks && !owns_branch(number)),
+                "a mark call for a slice answers something else",
+            )?;
+        }
+        self.is_marked = true;
+        self.check_marks()
+    }
+}
+
+fn flow(marks: bool) -> ControlFlow<()> {
+    if marks {
+        ControlFlow::Continue(())
+    } else {
+        ControlFlow::Break(())
+    }
+}
