@@ -7,8 +7,11 @@ use ra_ap_intern::{
 
 /// A node, collected.
 #[derive(Drop, PartialEq, Eq, Hash)]
-pub(crate) struct Node {
-    child: Option<InternedRef<Node>>,
+pub(crate) enum Node {
+    /// One without a child.
+    First,
+    /// One with this child.
+    Parent(InternedRef<Node>),
 }
 
 impl Internable for Node {
@@ -18,15 +21,14 @@ impl Internable for Node {
 }
 
 impl GcInternedVisit for Node {
-    ghost use Rattle.std.specs.Option.{option_map, option_to_list};
-    ghost use Rattle.ra_ap_intern.specs.Handle.{ref_name};
+    ghost use Rattle.deep_chain.specs.Children.{child_names};
     ghost use Rattle.deep_chain.specs.declared.node.Node.{out-Node};
 
-    ghost children = { λ node. option_to_list (option_map ref_name (out-Node node).child) };
+    ghost children = { λ node. child_names (out-Node node) };
 
     fn visit_with(&self, gc: &mut GarbageCollector) {
-        if let Some(child) = self.child {
-            let _ = gc.mark_interned_alive(child);
+        if let Node::Parent(child) = self {
+            let _ = gc.mark_interned_alive(*child);
         }
     }
 }
@@ -38,9 +40,13 @@ pub(crate) fn store_chain(
 ) -> Result<Option<InternedRef<Node>>, Refusal> {
     let mut last = None;
     for _ in 0..length {
-        let stored = Interned::new_gc(nodes, Node { child: last });
-        let (node, _) = stored.map_err(|refused| refused.why)?;
-        last = Some(node);
+        let node = match last {
+            None => Node::First,
+            Some(child) => Node::Parent(child),
+        };
+        let stored = Interned::new_gc(nodes, node);
+        let (reference, _) = stored.map_err(|refused| refused.why)?;
+        last = Some(reference);
     }
     Ok(last)
 }

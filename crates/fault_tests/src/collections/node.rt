@@ -7,12 +7,20 @@ use ra_ap_intern::{
 };
 use std::alloc::{AllocError, Global};
 
-/// A text with its number, and the node that it declares.
+/// A text with its number.
 #[derive(Drop, PartialEq, Eq, Hash)]
-pub(crate) struct Node {
+pub(crate) struct Label {
     number: usize,
     text: Text,
-    child: Option<InternedRef<Node>>,
+}
+
+/// A label, and the node that it declares.
+#[derive(Drop, PartialEq, Eq, Hash)]
+pub(crate) enum Node {
+    /// One that declares nothing.
+    Leaf(Label),
+    /// One that declares this node.
+    Parent(Label, InternedRef<Node>),
 }
 
 /// A node before a few numbers. It declares what the node does.
@@ -25,10 +33,11 @@ impl Node {
         number: usize,
         child: Option<InternedRef<Node>>,
     ) -> Result<Node, AllocError> {
-        Ok(Node {
-            number,
-            text: Text::new(alloc, text_of(number))?,
-            child,
+        let text = Text::new(alloc, text_of(number))?;
+        let label = Label { number, text };
+        Ok(match child {
+            None => Node::Leaf(label),
+            Some(child) => Node::Parent(label, child),
         })
     }
 }
@@ -60,15 +69,14 @@ impl Internable for Node {
 }
 
 impl GcInternedVisit for Node {
-    ghost use Rattle.std.specs.Option.{option_map, option_to_list};
-    ghost use Rattle.ra_ap_intern.specs.Handle.{ref_name};
+    ghost use Rattle.fault_tests.specs.Children.{child_names};
     ghost use Rattle.fault_tests.specs.declared.collections.node.Node.{out-Node};
 
-    ghost children = { λ node. option_to_list (option_map ref_name (out-Node node).child) };
+    ghost children = { λ node. child_names (out-Node node) };
 
     fn visit_with(&self, gc: &mut GarbageCollector) {
-        if let Some(child) = self.child {
-            let _ = gc.mark_interned_alive(child);
+        if let Node::Parent(_, child) = self {
+            let _ = gc.mark_interned_alive(*child);
         }
     }
 }
@@ -85,8 +93,10 @@ impl SliceInternable for Branch {
 
 impl GcInternedSliceVisit for Branch {
     ghost use Rattle.std.specs.Prelude.{[]};
+    ghost use Rattle.fault_tests.specs.Children.{child_names};
+    ghost use Rattle.fault_tests.specs.declared.collections.node.Node.{out-Node};
 
-    ghost header_children = { Node.children };
+    ghost header_children = { λ node. child_names (out-Node node) };
 
     ghost slice_children = { λ _. [] };
 
