@@ -74,18 +74,18 @@ impl Collection {
         grove: &mut Grove,
         wanted: Collected,
     ) -> Result<(), Fault> {
-        grove.check(alloc, Left::All)?;
+        grove.check(Left::All)?;
         let collected = match self.collect(alloc, grove) {
             Err(Fault::NoMemory) => {
                 rt.eprintln(self.name())?;
-                grove.check(alloc, Left::All)?;
+                grove.check(Left::All)?;
                 self.collect(alloc, grove)?
             }
             collected => collected?,
         };
         ensure(collected == wanted, "a collection tells something else")?;
-        grove.check(alloc, self.left())?;
-        grove.store_again(alloc, self.left())
+        grove.check(self.left())?;
+        grove.store_again(self.left())
     }
 }
 
@@ -141,30 +141,30 @@ impl Registration<'_> {
             is_marked: false,
         };
         registration.mark_all()?;
-        registration.register(rt, alloc)?;
+        registration.register(rt)?;
         registration.mark_all()?;
-        registration.register(rt, alloc)?;
+        registration.register(rt)?;
         registration.mark_all()
     }
 
     // Registers the family. Where that is refused, all is as it was, and it is tried once more.
-    fn register(&mut self, rt: &impl Eprint, alloc: Global) -> Result<(), Fault> {
+    fn register(&mut self, rt: &impl Eprint) -> Result<(), Fault> {
         let storages = &self.grove.storages;
         if !GarbageCollector::distinct(storages) {
             return Err(Fault::Wrong("two storages of a family have one number"));
         }
         if self.gc.register(storages).is_err() {
             rt.eprintln("GarbageCollector::register")?;
-            self.is_as_it_was(alloc)?;
+            self.is_as_it_was()?;
             self.gc.register(storages)?;
         }
         self.is_registered = true;
         self.is_marked = false;
-        self.is_as_it_was(alloc)
+        self.is_as_it_was()
     }
 
-    fn is_as_it_was(&self, alloc: Global) -> Result<(), Fault> {
-        self.grove.check(alloc, Left::All)?;
+    fn is_as_it_was(&self) -> Result<(), Fault> {
+        self.grove.check(Left::All)?;
         self.check_marks()
     }
 

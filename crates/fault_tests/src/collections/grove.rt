@@ -1,12 +1,12 @@
 //! A family of two storages, and what it has to answer.
 use super::node::{Branch, Node, items_of};
-use crate::fault::{Fault, ensure, refused};
+use crate::fault::{Fault, ensure};
 use crate::scene::room;
 use ra_ap_intern::{
     GarbageCollector, HeaderSlice, InternSliceStorage, InternStorage, Interned, InternedRef,
     InternedSlice, InternedSliceRef, Name, NoStorages, Pair, Refused,
 };
-use std::alloc::{AllocError, Global};
+use std::alloc::Global;
 
 /// A storage of nodes, and one of branches.
 pub(crate) type Storages = Pair<Pair<NoStorages, InternStorage<Node>>, InternSliceStorage<Branch>>;
@@ -103,10 +103,10 @@ impl Grove {
             listed: room(alloc, nodes)?,
         };
         for number in 0..nodes {
-            grove.add_node(alloc, number)?;
+            grove.add_node(number)?;
         }
         for number in 0..branches {
-            grove.add_branch(alloc, number)?;
+            grove.add_branch(number)?;
         }
         Ok(grove)
     }
@@ -116,8 +116,8 @@ impl Grove {
         self.nodes.len().saturating_add(self.branches.len())
     }
 
-    fn add_node(&mut self, alloc: Global, number: usize) -> Result<(), Fault> {
-        let (reference, _) = self.store_node(alloc, number)?;
+    fn add_node(&mut self, number: usize) -> Result<(), Fault> {
+        let (reference, _) = self.store_node(number)?;
         if owns_node(number) {
             drop(reference.to_owned(&mut self.storages.first.second)?);
         }
@@ -128,8 +128,8 @@ impl Grove {
         Ok(())
     }
 
-    fn add_branch(&mut self, alloc: Global, number: usize) -> Result<(), Fault> {
-        let (reference, _) = self.store_branch(alloc, number)?;
+    fn add_branch(&mut self, number: usize) -> Result<(), Fault> {
+        let (reference, _) = self.store_branch(number)?;
         if owns_branch(number) {
             drop(reference.to_owned(&mut self.storages.second)?);
         }
@@ -141,32 +141,28 @@ impl Grove {
     }
 
     // The value of a node.
-    fn node(&self, alloc: Global, number: usize) -> Result<Node, AllocError> {
+    fn node(&self, number: usize) -> Node {
         let child = if number % 4 == 3 {
             self.nodes.get(number - 1).copied()
         } else {
             None
         };
-        make_node(alloc, number, child)
+        Node::new(number, child)
     }
 
     // The header of a branch.
-    fn header(&self, alloc: Global, number: usize) -> Result<Node, AllocError> {
+    fn header(&self, number: usize) -> Node {
         let child = if number % 4 == 3 {
             self.nodes.get(number).copied()
         } else {
             None
         };
-        make_node(alloc, number, child)
+        Node::new(number, child)
     }
 
     // Interns a node, at the second try where the first is refused, and tells whether it was stored.
-    fn store_node(
-        &mut self,
-        alloc: Global,
-        number: usize,
-    ) -> Result<(InternedRef<Node>, bool), Fault> {
-        let node = self.node(alloc, number)?;
+    fn store_node(&mut self, number: usize) -> Result<(InternedRef<Node>, bool), Fault> {
+        let node = self.node(number);
         let nodes = &mut self.storages.first.second;
         let (reference, back) = match Interned::new_gc(nodes, node) {
             Ok(stored) => stored,
@@ -176,12 +172,8 @@ impl Grove {
     }
 
     // The same for a branch.
-    fn store_branch(
-        &mut self,
-        alloc: Global,
-        number: usize,
-    ) -> Result<(InternedSliceRef<Branch>, bool), Fault> {
-        let header = self.header(alloc, number)?;
+    fn store_branch(&mut self, number: usize) -> Result<(InternedSliceRef<Branch>, bool), Fault> {
+        let header = self.header(number);
         let items = items_of(number);
         let branches = &mut self.storages.second;
         let (reference, back) = match InternedSlice::from_header_and_slice(
@@ -196,14 +188,14 @@ impl Grove {
     }
 
     /// Fails unless the family has exactly the entries that are left, as they were stored.
-    pub(crate) fn check(&self, alloc: Global, left: Left) -> Result<(), Fault> {
+    pub(crate) fn check(&self, left: Left) -> Result<(), Fault> {
         self.check_lengths(left)?;
         for (reference, number) in self.nodes.iter().zip(0..) {
-            let is_right = self.shows_node(alloc, *reference, number, left.has_node(number))?;
+            let is_right = self.shows_node(*reference, number, left.has_node(number))?;
             ensure(is_right, "a node of a family is wrong")?;
         }
         for (reference, number) in self.branches.iter().zip(0..) {
-            let is_right = self.shows_branch(alloc, *reference, number, left.has_branch(number))?;
+            let is_right = self.shows_branch(*reference, number, left.has_branch(number))?;
             ensure(is_right, "a slice of a family is wrong")?;
         }
         Ok(())
@@ -222,12 +214,11 @@ impl Grove {
     // Whether a node is found, read and counted as it was stored, or not at all where it is gone.
     fn shows_node(
         &self,
-        alloc: Global,
         reference: InternedRef<Node>,
         number: usize,
         is_left: bool,
     ) -> Result<bool, Fault> {
-        let node = self.node(alloc, number)?;
+        let node = self.node(number);
         let nodes = &self.storages.first.second;
         let count = u64::from(owns_node(number));
         Ok(
@@ -241,12 +232,11 @@ impl Grove {
     // The same for a branch.
     fn shows_branch(
         &self,
-        alloc: Global,
         reference: InternedSliceRef<Branch>,
         number: usize,
         is_left: bool,
     ) -> Result<bool, Fault> {
-        let header = self.header(alloc, number)?;
+        let header = self.header(number);
         let items = items_of(number);
         let branches = &self.storages.second;
         let count = u64::from(owns_branch(number));
@@ -260,11 +250,11 @@ impl Grove {
 
     /// Interns all that was stored once more. What is left keeps its birth, and the rest gets the
     /// births that follow.
-    pub(crate) fn store_again(&mut self, alloc: Global, left: Left) -> Result<(), Fault> {
+    pub(crate) fn store_again(&mut self, left: Left) -> Result<(), Fault> {
         let mut next = self.nodes.len();
         for number in 0..self.nodes.len() {
             let is_left = left.has_node(number);
-            let (reference, was_stored) = self.store_node(alloc, number)?;
+            let (reference, was_stored) = self.store_node(number)?;
             let birth = birth_of(number, &mut next, is_left);
             ensure(
                 was_stored == is_left && reference.as_raw() == birth,
@@ -274,7 +264,7 @@ impl Grove {
         let mut next = self.branches.len();
         for number in 0..self.branches.len() {
             let is_left = left.has_branch(number);
-            let (reference, was_stored) = self.store_branch(alloc, number)?;
+            let (reference, was_stored) = self.store_branch(number)?;
             let birth = birth_of(number, &mut next, is_left);
             ensure(
                 was_stored == is_left && reference.name().birth == birth,
@@ -282,18 +272,6 @@ impl Grove {
             )?;
         }
         Ok(())
-    }
-}
-
-// At the second try where the first is refused.
-fn make_node(
-    alloc: Global,
-    number: usize,
-    child: Option<InternedRef<Node>>,
-) -> Result<Node, AllocError> {
-    match Node::make(alloc, number, child) {
-        Ok(node) => Ok(node),
-        Err(_) => Node::make(alloc, number, child),
     }
 }
 

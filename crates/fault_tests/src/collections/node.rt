@@ -3,51 +3,28 @@ ghost use Rattle.std.specs.Prelude.{true};
 
 use ra_ap_intern::{
     GarbageCollector, GcInternedSliceVisit, GcInternedVisit, Internable, InternedRef,
-    SliceInternable, Text,
+    SliceInternable,
 };
-use std::alloc::{AllocError, Global};
 
-/// A text with its number.
-#[derive(Drop, PartialEq, Eq, Hash)]
-pub(crate) struct Label {
-    number: usize,
-    text: Text,
-}
-
-/// A label, and the node that it declares.
+/// A number, and the node that it declares.
 #[derive(Drop, PartialEq, Eq, Hash)]
 pub(crate) enum Node {
     /// One that declares nothing.
-    Leaf(Label),
+    Leaf(usize),
     /// One that declares this node.
-    Parent(Label, InternedRef<Node>),
+    Parent(usize, InternedRef<Node>),
 }
 
 /// A node before a few numbers. It declares what the node does.
 pub(crate) struct Branch;
 
 impl Node {
-    /// The node of a number.
-    pub(crate) fn make(
-        alloc: Global,
-        number: usize,
-        child: Option<InternedRef<Node>>,
-    ) -> Result<Node, AllocError> {
-        let text = Text::new(alloc, text_of(number))?;
-        let label = Label { number, text };
-        Ok(match child {
-            None => Node::Leaf(label),
-            Some(child) => Node::Parent(label, child),
-        })
-    }
-}
-
-// Two of 32 are longer than lies in an entry.
-fn text_of(number: usize) -> &'static str {
-    match number % 32 {
-        0 => "abc",
-        4 | 5 => "a text of more than 24 bytes",
-        _ => "def",
+    /// The node of a number, with this child.
+    pub(crate) fn new(number: usize, child: Option<InternedRef<Node>>) -> Node {
+        match child {
+            None => Node::Leaf(number),
+            Some(child) => Node::Parent(number, child),
+        }
     }
 }
 
