@@ -1,6 +1,6 @@
 //! A hash table of places.
-ghost use Rattle.std.specs.Prelude.{◌≡◌, ℕ, ◌+◌, ◌<◌, ◌≤◌, ◌^◌};
-ghost use Rattle.std.specs.Prelude.{length, Some, true, IfSome, IfOk, OnOk, IsOk};
+ghost use Rattle.std.specs.Prelude.{◌≡◌, ◌↔◌, ℕ, ◌+◌, ◌<◌, ◌≤◌, ◌^◌};
+ghost use Rattle.std.specs.Prelude.{length, Some, true, IfSome, IfOk, OnOk, IsOk, IsTrue};
 ghost use Rattle.intern_buckets.specs.Probing.{home, bucket, is_empty};
 
 use std::alloc::{AllocError, Global};
@@ -98,6 +98,13 @@ impl Buckets {
         ensures { result.now ≡ probe_sequence self.now hash }
     {
         &self.buckets.as_slice()[self.home(hash)..]
+    }
+
+    /// Whether there is room for one more bucket.
+    pub fn has_room(&self) -> bool
+        ensures { IsTrue result ↔ HasRoom self.now }
+    {
+        self.buckets.len() < self.buckets.capacity()
     }
 
     /// Makes room for one more bucket. Where there is no memory, the table leads where it did.

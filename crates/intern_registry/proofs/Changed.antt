@@ -1,15 +1,15 @@
 -- What a registry's calls change.
 use Rattle.std.proofs.Common.{◌≡◌, ◌⊎◌, inl, inr, ℕ, ◌+◌, ◌-◌, ◌<◌, ◌≤◌, ◌^◌, Bool, true, false, not, cond, List, [], ◌∷◌, ◌++◌, length, get_or, set, replicate, Option, Some, None, option_and_then, refl, sym, ap, subst, ◌∙◌, zero-add, length-append, arith}
+use Rattle.std.proofs.lemmas.Bool.{false≢true}
 use Rattle.std.proofs.lemmas.List.{length-replicate}
 use Rattle.std.proofs.lemmas.Option.{same_Some}
 use Rattle.std.specs.Option.{option_map}
 use Rattle.intern_store.specs.declared.names.Name.{Name}
-use Rattle.intern_buckets.specs.Leading.{leads}
 use Rattle.intern_buckets.specs.declared.buckets.Buckets.{Buckets}
 use Rattle.intern_registry.specs.Registry.{Registered, Register, names, same_name, flags_in, name_in, count_in, marks_in, no_names, added, unmarked, with_mark, marked_flags, is_unmarked}
 use Rattle.intern_registry.specs.Parts.{storage_at, Follow, extended, last_number}
 use Rattle.intern_registry.specs.Slotted.{slot_count, flags_at, marked, registered, registered_from, registered_in}
-use Rattle.intern_registry.specs.Tied.{hash_of, IsTied}
+use Rattle.intern_registry.specs.Tied.{IsTied}
 use Rattle.intern_registry.specs.declared.flags.Flags.{Flags}
 use Rattle.intern_registry.specs.declared.part.Part.{Part}
 use Rattle.intern_registry.specs.declared.slots.Slots.{Slots}
@@ -29,13 +29,13 @@ kept_slots parts s next births flags = λ i. registered_from parts 0 (births i) 
 pub nothing_slots : (parts : List Part) (s : Slots) → slot_count s ≡ 0 → registered_in parts s ≡ []
 nothing_slots parts s none = registered_nothing parts 0 s.births.items s.flags.items none
 
-pub nothing_tied : (parts : List Part) (s : Slots) (t : Buckets) → parts ≡ [] → slot_count s ≡ 0 → IsTied parts s t 0
+pub nothing_tied : (parts : List Part) (s : Slots) (t : Buckets) → parts ≡ [] → slot_count s ≡ 0 → IsTied parts s t false 0
 nothing_tied parts s t no_part none =
     let is = nothing_slots parts s none in
     record {
       follow = subst (λ parts. Follow 0 parts (slot_count s)) (sym no_part) (sym none);
       apart = λ i j x one two. let nothing = ap (λ slots. name_in slots i) is in absurd (cc);
-      led = λ i x at. let nothing = ap (λ slots. name_in slots i) is in absurd (cc);
+      led = λ filled. absurd (false≢true filled);
       told = omega arith;
       sized = ap count_in (sym is);
     }
@@ -54,7 +54,7 @@ mark_names rows i q storage apart there fresh = λ j. record {
   storage = storage;
 }
 
-module _ (parts : List Part) (s : Slots) (t : Buckets) (size : ℕ) (tied : IsTied parts s t size) (r : Register) (view : registered_in parts s ≡ r.slots) where
+module _ (parts : List Part) (s : Slots) (t : Buckets) (b : Bool) (size : ℕ) (tied : IsTied parts s t b size) (r : Register) (view : registered_in parts s ≡ r.slots) where
   -- the parts with an empty one behind
   abbrev begun : ℕ → List Part
   begun number = parts ++ record { number = number; start = slot_count s; end = slot_count s } ∷ []
@@ -69,13 +69,13 @@ module _ (parts : List Part) (s : Slots) (t : Buckets) (size : ℕ) (tied : IsTi
   pub begun_is : (more : List Part) (slot number : ℕ) → slot ≡ slot_count s → more ≡ parts ++ record { number = number; start = slot; end = slot } ∷ [] → more ≡ begun number
   begun_is more slot number at is = is ∙ ap (λ slot. parts ++ record { number = number; start = slot; end = slot } ∷ []) at
 
-  pub begun_tied : (more : List Part) (number : ℕ) → more ≡ begun number → IsTied more s t size
+  pub begun_tied : (more : List Part) (number : ℕ) → more ≡ begun number → IsTied more s t b size
   begun_tied more number is =
       let same = begun_slots number in
-      subst (λ more. IsTied more s t size) (sym is) (record {
+      subst (λ more. IsTied more s t b size) (sym is) (record {
         follow = begun_follow parts 0 (slot_count s) number tied.follow;
         apart = λ i j x one two. tied.apart i j x (ap (λ rows. name_in rows i) (sym same) ∙ one) (ap (λ rows. name_in rows j) (sym same) ∙ two);
-        led = λ i x at. tied.led i x (ap (λ rows. name_in rows i) (sym same) ∙ at);
+        led = λ filled i x at. tied.led filled i x (ap (λ rows. name_in rows i) (sym same) ∙ at);
         told = tied.told;
         sized = tied.sized ∙ ap count_in (sym same);
       })
@@ -89,7 +89,7 @@ module _ (parts : List Part) (s : Slots) (t : Buckets) (size : ℕ) (tied : IsTi
   pub unmarked_there : (i : ℕ) → is_unmarked (option_and_then (flags_in r.slots) (name_in r.slots i)) ≡ true → (f : Flags) × (flags_at s i ≡ Some f) × (f.is_marked ≡ false)
   unmarked_there i fresh =
       go (flags_at s i) refl
-      (ap is_unmarked (flags_read parts s t size tied i ∙ ap (λ rows. option_and_then (flags_in rows) (name_in rows i)) view) ∙ fresh)
+      (ap is_unmarked (flags_read parts s t b size tied i ∙ ap (λ rows. option_and_then (flags_in rows) (name_in rows i)) view) ∙ fresh)
     where
       not_true : (t : Bool) → not t ≡ true → t ≡ false
       not_true true is = absurd (cc)
@@ -121,11 +121,11 @@ module _ (parts : List Part) (s : Slots) (t : Buckets) (size : ℕ) (tied : IsTi
     marked_name : (j : ℕ) → name_in (registered_in parts next) j ≡ name_in (registered_in parts s) j
     marked_name j = ap (λ rows. name_in rows j) marked_slots ∙ set_name (registered_in parts s) i q (record f { is_marked = true }) there.there j
 
-    pub marked_tied : IsTied parts next t size
+    pub marked_tied : IsTied parts next t b size
     marked_tied = record {
       follow = subst (λ (items : List ℕ). Follow 0 parts (length items)) (sym births) tied.follow;
       apart = λ j k x one two. tied.apart j k x (sym (marked_name j) ∙ one) (sym (marked_name k) ∙ two);
-      led = λ j x at. tied.led j x (sym (marked_name j) ∙ at);
+      led = λ filled j x at. tied.led filled j x (sym (marked_name j) ∙ at);
       told = subst (λ (items : List ℕ). length items < 2 ^ 48) (sym births) tied.told;
       sized = tied.sized ∙ sym (ap count_in marked_slots ∙ set_count (registered_in parts s) i q (record f { is_marked = true }) there.there);
     }
@@ -203,8 +203,8 @@ module _ (parts : List Part) (s : Slots) (t : Buckets) (size : ℕ) (tied : IsTi
     never : (i : ℕ) (y : Name) → y ≡ x → name_in (registered_in parts s) i ≡ Some y → ⊥
     never i y is at = nowhere_flags (registered_in parts s) x new i (at ∙ ap Some is)
 
-    pub added_tied : (table : Buckets) → ((h p : ℕ) → leads t h p ≡ true → leads table h p ≡ true) → leads table (hash_of x) slot ≡ true → IsTied more next table (size + 1)
-    added_tied table still entered = record {
+    pub added_tied : IsTied more next t false (size + 1)
+    added_tied = record {
       follow =
           subst (λ n. Follow 0 more n) (sym added_length)
           (subst (λ more. Follow 0 more (slot + 1)) (sym put.longer) (extended_follow parts 0 (slot_count s) (slot + 1) x.storage tied.follow put.last (let behind = put.behind in omega arith)));
@@ -219,11 +219,7 @@ module _ (parts : List Part) (s : Slots) (t : Buckets) (size : ℕ) (tied : IsTi
               | inr b ↦ a.0 ∙ sym b.0
             ]
           ];
-      led = λ i y at.
-          elim (added_name i y at) [
-            | inl old ↦ still (hash_of y) i (tied.led i y old)
-            | inr is ↦ ap (λ (y : Name). leads table (hash_of y) i) is.1 ∙ ap (leads table (hash_of x)) is.0 ∙ entered
-          ];
+      led = λ filled. absurd (false≢true filled);
       told = let all = added_length in let small = put.small in omega arith;
       sized = ap (λ n. n + 1) tied.sized ∙ sym (ap count_in added_slots ∙ put_count (registered_in parts s) gap entry);
     }

@@ -1,5 +1,5 @@
 -- The names in the slots of a registry.
-use Rattle.std.proofs.Common.{◌≡◌, ℕ, ◌+◌, ◌<◌, ◌^◌, ◌==◌, true, List, length, get_or, Option, Some, None, option_and_then, is_some, [], ◌∷◌, zero, suc, refl, sym, ap, ◌∙◌, zero-add, arith}
+use Rattle.std.proofs.Common.{◌≡◌, ℕ, ◌+◌, ◌<◌, ◌^◌, ◌==◌, Bool, true, List, length, get_or, Option, Some, None, option_and_then, is_some, [], ◌∷◌, zero, suc, refl, sym, ap, ◌∙◌, zero-add, arith}
 use Rattle.std.proofs.lemmas.Bool.{eqb-true}
 use Rattle.std.proofs.lemmas.Option.{same_Some}
 use Rattle.std.specs.Option.{option_map}
@@ -60,6 +60,9 @@ module _ (parts : List Part) (s : Slots) where
   pub slots_length : length (registered_in parts s) ≡ slot_count s
   slots_length = registered_length parts 0 s.births.items s.flags.items s.paired
 
+  pub name_below : (i : ℕ) (x : Name) → name_in (registered_in parts s) i ≡ Some x → i < slot_count s
+  name_below i x at = let below = name_within (registered_in parts s) i x at in let all = slots_length in omega arith
+
   -- what is in a slot with flags
   pub record IsThere (i : ℕ) (f : Flags) : Type 0 where
     pub name : Name
@@ -89,7 +92,12 @@ module _ (parts : List Part) (s : Slots) where
         below = omega arith;
       }
 
-  module _ (t : Buckets) (size : ℕ) (tied : IsTied parts s t size) where
+  -- a name that is in no slot has no flags
+  pub none_scanned : (slots : List (Option Registered)) → registered_in parts s ≡ slots → (x : Name)
+      → ((i : ℕ) → name_in (registered_in parts s) i ≡ Some x → ⊥) → flags_in slots x ≡ None
+  none_scanned slots view x none = ap (λ slots. flags_in slots x) (sym view) ∙ flags_nowhere (registered_in parts s) x none
+
+  module _ (t : Buckets) (b : Bool) (size : ℕ) (tied : IsTied parts s t b size) where
     -- the flags in a slot are those of its name
     pub flags_read : (i : ℕ) → flags_at s i ≡ option_and_then (flags_in (registered_in parts s)) (name_in (registered_in parts s) i)
     flags_read i = go (flags_at s i) refl
@@ -103,17 +111,17 @@ module _ (parts : List Part) (s : Slots) where
             sym (ap (option_and_then (flags_in (registered_in parts s))) (ap (option_map (λ (r : Registered). r.name)) w.there)
             ∙ flags_there (registered_in parts s) i (record { name = w.name; flags = f }) tied.apart w.there)
 
-    -- a name that the table doesn't lead to has no flags
-    pub none_found : (slots : List (Option Registered)) → registered_in parts s ≡ slots → (x : Name)
+    -- a name that a filled table doesn't lead to has no flags
+    pub none_found : b ≡ true → (slots : List (Option Registered)) → registered_in parts s ≡ slots → (x : Name)
         → ((i : ℕ) → i + 1 < 2 ^ 48 → leads t (hash_of x) i ≡ true → name_in (registered_in parts s) i ≡ Some x → ⊥) → flags_in slots x ≡ None
-    none_found slots view x none =
+    none_found filled slots view x none =
         ap (λ slots. flags_in slots x) (sym view)
         ∙ flags_nowhere (registered_in parts s) x
         (λ i at.
         let below = name_within (registered_in parts s) i x at in
         let all = slots_length in
         let told = tied.told in
-        none i (omega arith) (tied.led i x at) at)
+        none i (omega arith) (tied.led filled i x at) at)
 
     -- each slot's name is registered
     pub is_registry : (r : Register) → registered_in parts s ≡ r.slots → IsRegistry (names r)

@@ -1,6 +1,8 @@
 //! How the slot of a name is found.
-ghost use Rattle.std.specs.Prelude.{◌≡◌, ◌≢◌, ℕ, ◌+◌, ◌<◌, ◌≤◌, ◌^◌, true, Some, IfSome, IfNone};
+ghost use Rattle.std.specs.Prelude.{◌≡◌, ◌≢◌, ℕ, ◌+◌, ◌<◌, ◌≤◌, ◌^◌, true, Some, IfSome, IfNone, IsTrue};
 ghost use Rattle.std.specs.Option.{option_map};
+ghost use Rattle.intern_store.specs.declared.names.Name.{Name as EntryName};
+ghost use Rattle.intern_buckets.specs.Filling.{HasRoom};
 ghost use Rattle.intern_buckets.specs.Leading.{leads};
 ghost use Rattle.intern_registry.specs.Registry.{name_in};
 ghost use Rattle.intern_registry.specs.Parts.{Follow};
@@ -67,6 +69,41 @@ pub(crate) fn search_for(
         → name_in (registered_in parts.now slots.now) i ≢ Some name) }
 {
     search(table, hash_of(name), &OfName { parts, slots, name })
+}
+
+/// The slot of a name, by a look at all slots.
+pub(crate) fn scan_for(parts: &[Part], slots: &Slots, name: Name) -> Option<usize>
+    ensures found { IfSome result (λ i. name_in (registered_in parts.now slots.now) i ≡ Some name) }
+    ensures none { IfNone result ((i : ℕ)
+        → name_in (registered_in parts.now slots.now) i ≢ Some name) }
+{
+    let test = OfName { parts, slots, name };
+    for slot in 0..slots.len() {
+        if test.passes(slot) {
+            return Some(slot);
+        }
+    }
+    None
+}
+
+/// Makes a table lead to each name's slot, and says whether there was room for that. It takes no
+/// memory.
+pub(crate) fn fill(parts: &[Part], slots: &Slots, table: &mut Buckets) -> bool
+    requires { slot_count slots.now < 2 ^ 48 }
+    ensures room { HasRoom table.new → IsTrue result }
+    ensures led { IsTrue result → (i : ℕ) (x : EntryName) →
+        name_in (registered_in parts.now slots.now) i ≡ Some x →
+        leads table.new (hash_of x) i ≡ true }
+{
+    for slot in 0..slots.len() {
+        if let Some(key) = key_at(parts, slots, slot) {
+            if !table.has_room() {
+                return false;
+            }
+            table.enter(hash_of(key.name), slot);
+        }
+    }
+    true
 }
 
 /// The slot of an entry, where it is that of its place.

@@ -6,12 +6,12 @@ ghost use Rattle.intern_store.specs.declared.names.Name.{Name as EntryName};
 ghost use Rattle.intern_registry.specs.Registry.{names, IsRegistry, no_names, added};
 ghost use Rattle.intern_registry.specs.Registry.{with_mark, is_unmarked};
 
-use crate::find::{hash_of, hinted, key_at, search_for, vacant_slot};
+use crate::find::{fill, hinted, key_at, scan_for, search_for, vacant_slot};
 use crate::flags::Flags;
 use crate::part::{Part, extend};
 use crate::slots::Slots;
 use intern_buckets::{Buckets, PLACES};
-use intern_store::EntryKey;
+use intern_store::{EntryKey, Name};
 use std::alloc::{AllocError, Global};
 use std::marker::Model;
 
@@ -19,13 +19,16 @@ use std::marker::Model;
 ///
 /// Where entries are added in the order of their places, each is in the slot of its place, counted
 /// from the first slot of its storage. A name is looked up there first, and then in a hash table: it
-/// takes expected constant time, beside a walk over the storages. Only `with_room`, `begin` and
-/// `add` take memory: 11 bytes a slot and 9 an entry.
+/// takes expected constant time, beside a walk over the storages. The table is filled when `locate`
+/// first looks for a name that isn't in the slot of its place, in time linear in the slots. Only
+/// `with_room`, `begin` and `add` take memory: 11 bytes a slot and 9 an entry.
 #[derive(Drop)]
 pub struct Registry {
     parts: Vec<Part>,
     slots: Slots,
     table: Buckets,
+    // whether the table leads to the entries; until then it isn't asked
+    is_filled: bool,
     size: usize,
 }
 
@@ -44,7 +47,7 @@ impl Model for Registry {
       storage = last_number None a.parts.items;
     } };
 
-    ghost invariant = { λ a. IsTied a.parts.items a.slots a.table a.size };
+    ghost invariant = { λ a. IsTied a.parts.items a.slots a.table a.is_filled a.size };
 }
 
 impl Registry {
@@ -56,6 +59,7 @@ impl Registry {
             parts: Vec::new(alloc),
             slots: Slots::new(alloc),
             table: Buckets::new(alloc),
+            is_filled: false,
             size: 0,
         }
     }
@@ -68,6 +72,7 @@ impl Registry {
             parts: Vec::new(alloc),
             slots: Slots::with_room(alloc, entries)?,
             table: Buckets::with_room(alloc, entries)?,
+            is_filled: false,
             size: 0,
         })
     }
@@ -104,7 +109,6 @@ impl Registry {
         if slot >= PLACES - 1 {
             return Err(AllocError);
         }
-        self.table.reserve()?;
         self.slots.reserve(slot + 1)?;
         let flags = Flags {
             is_counted,
@@ -112,7 +116,7 @@ impl Registry {
         };
         self.slots.put(slot, key.name.birth, flags);
         extend(&mut self.parts, slot + 1);
-        self.table.enter(hash_of(key.name), slot);
+        self.is_filled = false;
         self.size += 1;
         Ok(())
     }
@@ -133,15 +137,63 @@ impl Registry {
         self.slots.len()
     }
 
-    /// The slot of a name.
+    // Fills the table. Where it has no room for all entries, which takes hashes that are nearly all
+    // alike, or more entries than it was made for, it stays out of use, and searches look at all
+    // slots: no memory is taken here.
+    fn fill(&mut self)
+        ensures { self.new ≡ self.old }
+    {
+        self.is_filled = fill(self.parts.as_slice(), &self.slots, &mut self.table);
+    }
+
+    // The slot of a name, wherever it is.
+    #[cold]
+    fn search(&self, name: Name) -> Option<usize>
+        ensures found { IfSome result (λ i. (names self.now).name_at i ≡ Some name) }
+        ensures none { IfNone result ((names self.now).flags name ≡ None) }
+    {
+        if self.is_filled {
+            search_for(self.parts.as_slice(), &self.slots, &self.table, name)
+        } else {
+            scan_for(self.parts.as_slice(), &self.slots, name)
+        }
+    }
+
+    /// The slot of a name. Where the table isn't filled, and the name isn't in the slot of its place,
+    /// it takes a look at all slots.
     pub fn find(&self, key: EntryKey) -> Option<usize>
         ensures found { IfSome result (λ i. (names self.now).name_at i ≡ Some key.name) }
         ensures none { IfNone result ((names self.now).flags key.name ≡ None) }
     {
         match hinted(self.parts.as_slice(), &self.slots, key) {
             Some(slot) => Some(slot),
-            None => search_for(self.parts.as_slice(), &self.slots, &self.table, key.name),
+            None => self.search(key.name),
         }
+    }
+
+    /// The slot of a name. Where that isn't the slot of its place, the table is filled first.
+    pub fn locate(&mut self, key: EntryKey) -> Option<usize>
+        ensures found { IfSome result (λ i. (names self.old).name_at i ≡ Some key.name) }
+        ensures none { IfNone result ((names self.old).flags key.name ≡ None) }
+        ensures same { self.new ≡ self.old }
+    {
+        match hinted(self.parts.as_slice(), &self.slots, key) {
+            Some(slot) => Some(slot),
+            None => self.fill_and_search(key.name),
+        }
+    }
+
+    // The slot of a name, wherever it is, once the table is filled.
+    #[cold]
+    fn fill_and_search(&mut self, name: Name) -> Option<usize>
+        ensures found { IfSome result (λ i. (names self.old).name_at i ≡ Some name) }
+        ensures none { IfNone result ((names self.old).flags name ≡ None) }
+        ensures same { self.new ≡ self.old }
+    {
+        if !self.is_filled {
+            self.fill();
+        }
+        self.search(name)
     }
 
     /// What is known of the name in a slot.

@@ -57,13 +57,14 @@ impl Worklist {
     }
 
     // The slot of a name, and its flags.
-    fn known(&self, key: EntryKey) -> Option<(usize, Flags)>
+    fn known(&mut self, key: EntryKey) -> Option<(usize, Flags)>
         ensures slot { IfSome result (λ k.
-            (names self.now.registry).name_at k.0 ≡ Some key.name) }
+            (names self.new.registry).name_at k.0 ≡ Some key.name) }
         ensures flags { option_map (λ k. k.1) result
-            ≡ (names self.now.registry).flags key.name }
+            ≡ (names self.new.registry).flags key.name }
+        ensures state { (calls : ℕ) → waiting self.new calls ≡ waiting self.old calls }
     {
-        let slot = self.registry.find(key)?;
+        let slot = self.registry.locate(key)?;
         Some((slot, self.registry.flags(slot)?))
     }
 
@@ -78,8 +79,11 @@ impl Worklist {
     pub(crate) fn is_marked(&self, key: EntryKey) -> bool
         ensures { (calls : ℕ) → result ≡ (waiting self.now calls).marked key.name }
     {
-        match self.known(key) {
-            Some((_, flags)) => flags.is_marked,
+        match self.registry.find(key) {
+            Some(slot) => match self.registry.flags(slot) {
+                Some(flags) => flags.is_marked,
+                None => false,
+            },
             None => false,
         }
     }

@@ -1,5 +1,5 @@
 use Rattle.std.proofs.Common.{drop, sym, ◌∙◌}
-use Rattle.intern_buckets.proofs.Searching.{passed_all, passed_step, clear_step, clear_here, none_left, nothing_met, nothing_left}
+use Rattle.intern_buckets.proofs.Searching.{passed_all, passed_step, clear_step, none_left, nothing_met, nothing_left}
 use Rattle.intern_buckets.proofs.probe.search.Goals as goal
 
 pub loop-bucket-init : goal.loop-bucket-init

@@ -5,5 +5,5 @@ use Rattle.intern_registry.proofs.registry.Registry.flags.Goals as goal
 
 pub returns : goal.returns
 returns c =
-    c.flags.ensures ∙ flags_read c.self.inside.parts.items c.self.inside.slots c.self.inside.table c.self.inside.size c.self.invariant c.args.slot
+    c.flags.ensures ∙ flags_read c.self.inside.parts.items c.self.inside.slots c.self.inside.table c.self.inside.is_filled c.self.inside.size c.self.invariant c.args.slot
     ∙ ap (λ (r : Register). option_and_then (flags_in r.slots) (name_in r.slots c.args.slot)) c.self.view_is

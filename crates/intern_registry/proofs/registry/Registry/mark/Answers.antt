@@ -7,22 +7,22 @@ pub mark-requires : goal.mark-requires
 mark-requires c =
     let a = c.self.inside in
     let view = ap (λ (r : Register). r.slots) c.self.view_is in
-    ap is_some (unmarked_there a.parts.items a.slots a.table a.size c.self.invariant c.args.self.now view c.args.slot c.requires).1
+    ap is_some (unmarked_there a.parts.items a.slots a.table a.is_filled a.size c.self.invariant c.args.self.now view c.args.slot c.requires).1
 
 pub invariant_of-self : goal.invariant_of-self
 invariant_of-self c =
     let a = c.self.inside in
     let view = ap (λ (r : Register). r.slots) c.self.view_is in
-    marked_tied a.parts.items a.slots a.table a.size c.self.invariant c.args.self.now view c.args.slot c.requires c.mark.new.self c.mark.ensures.births c.mark.ensures.flags
+    marked_tied a.parts.items a.slots a.table a.is_filled a.size c.self.invariant c.args.self.now view c.args.slot c.requires c.mark.new.self c.mark.ensures.births c.mark.ensures.flags
 
 pub returns-clause-marked : goal.returns-clause-marked
 returns-clause-marked c =
     let a = c.self.inside in
     let view = ap (λ (r : Register). r.slots) c.self.view_is in
-    marked_named a.parts.items a.slots a.table a.size c.self.invariant c.args.self.now view c.args.slot c.requires c.mark.new.self c.mark.ensures.births c.mark.ensures.flags _ (ap (λ (r : Register). r.storage) c.self.view_is)
+    marked_named a.parts.items a.slots a.table a.is_filled a.size c.self.invariant c.args.self.now view c.args.slot c.requires c.mark.new.self c.mark.ensures.births c.mark.ensures.flags _ (ap (λ (r : Register). r.storage) c.self.view_is)
 
 pub returns-clause-fewer : goal.returns-clause-fewer
 returns-clause-fewer c =
     let a = c.self.inside in
     let view = ap (λ (r : Register). r.slots) c.self.view_is in
-    fewer_marks a.parts.items a.slots a.table a.size c.self.invariant c.args.self.now view c.args.slot c.requires
+    fewer_marks a.parts.items a.slots a.table a.is_filled a.size c.self.invariant c.args.self.now view c.args.slot c.requires
