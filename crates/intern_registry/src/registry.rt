@@ -137,10 +137,12 @@ impl Registry {
         self.slots.len()
     }
 
-    // Fills the table. Where it has no room for all entries, which takes hashes that are nearly all
-    // alike, or more entries than it was made for, it stays out of use, and searches look at all
-    // slots: no memory is taken here.
-    fn fill(&mut self)
+    /// Fills the table, in time linear in the slots, so that `find` asks it too.
+    ///
+    /// Where it has no room for all entries, which takes hashes that are nearly all alike, or more
+    /// entries than it was made for, it stays out of use, and searches look at all slots: no memory
+    /// is taken here.
+    pub fn fill(&mut self)
         ensures { self.new ≡ self.old }
     {
         self.is_filled = fill(self.parts.as_slice(), &self.slots, &mut self.table);

@@ -62,6 +62,14 @@ impl Tracer {
         })
     }
 
+    /// Makes `is_marked` take constant time for names without places too, in time linear in the
+    /// slots. A mark call for such a name does so itself. It takes no memory.
+    pub fn fill(&mut self)
+        ensures { state self.new ≡ state self.old }
+    {
+        self.worklist.fill();
+    }
+
     /// How many names are registered.
     pub fn len(&self) -> usize
         ensures { result ≡ (state self.now).size }

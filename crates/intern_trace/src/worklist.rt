@@ -68,6 +68,13 @@ impl Worklist {
         Some((slot, self.registry.flags(slot)?))
     }
 
+    /// Makes look-ups of names without places take constant time.
+    pub(crate) fn fill(&mut self)
+        ensures { (calls : ℕ) → waiting self.new calls ≡ waiting self.old calls }
+    {
+        self.registry.fill();
+    }
+
     /// How many names are registered.
     pub(crate) fn len(&self) -> usize
         ensures { (calls : ℕ) → result ≡ (waiting self.now calls).size }

@@ -119,10 +119,8 @@ impl GarbageCollector {
             ≡ fresh (counted_in (F.entries family.now)) (length (F.entries family.now))) }
         ensures err { OnErr result (self.new ≡ self.old) }
     {
-        let mut registry = Registry::with_room(self.alloc, family.len())?;
-        family.learn(&mut registry)?;
-        let tracer = Tracer::of(self.alloc, registry)?;
-        self.tracer = tracer;
+        self.learn(family)?;
+        self.tracer.fill();
         Ok(())
     }
 
@@ -206,7 +204,7 @@ impl GarbageCollector {
             × (family.new ≡ F.kept family.old (has names))) }
         ensures err { OnErr result (family.new ≡ family.old) }
     {
-        self.register(family)?;
+        self.learn(family)?;
         self.root(roots);
         self.follow(family);
         let entries = self.tracer.len();
@@ -216,6 +214,20 @@ impl GarbageCollector {
             mark_calls: self.mark_calls(),
             removed: entries.saturating_sub(family.len()),
         })
+    }
+
+    // Registers a family. A name that is looked up without its place isn't found at once yet.
+    fn learn<F: Family>(&mut self, family: &F) -> Result<(), AllocError>
+        requires distinct { are_distinct (F.numbers family.now) ≡ true }
+        ensures ok { OnOk result (state self.new
+            ≡ fresh (counted_in (F.entries family.now)) (length (F.entries family.now))) }
+        ensures err { OnErr result (self.new ≡ self.old) }
+    {
+        let mut registry = Registry::with_room(self.alloc, family.len())?;
+        family.learn(&mut registry)?;
+        let tracer = Tracer::of(self.alloc, registry)?;
+        self.tracer = tracer;
+        Ok(())
     }
 
     // Marks the counted entries, and those whose names are listed.

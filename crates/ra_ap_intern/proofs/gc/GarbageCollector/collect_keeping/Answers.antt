@@ -14,9 +14,9 @@ returns-clause-ok g c =
     let last = state c.follow.new.self in
     let set = last.marked in
     let size = c.len-entries.ensures ∙ ap (λ (s : Collector). s.size) (ap state c.self-2.view_is) ∙ c.follow.ensures.size
-    ∙ roots_size all listed (state c.register.new.self) (state c.root.new.self) c.in_ok-register.ensures.ok c.root.ensures in
+    ∙ roots_size all listed (state c.learn.new.self) (state c.root.new.self) c.in_ok-learn.ensures.ok c.root.ensures in
     let t = c.follow.ensures.trace listed
-    (roots_begin all listed (state c.register.new.self) (state c.root.new.self) c.in_ok-register.ensures.ok c.root.ensures) in
+    (roots_begin all listed (state c.learn.new.self) (state c.root.new.self) c.in_ok-learn.ensures.ok c.root.ensures) in
     let visited = all_visited (starts_with listed all) all t.0 last t.1 c.follow.ensures.done in
     let rest = ap g.F.Family.entries c.sweep.ensures ∙ g.met.F.Family.kept_entries old set in
     let removed = removed_are all (g.F.Family.entries c.sweep.new.self) set c.len-entries.result c.len.result c.saturating_sub.result

@@ -1,7 +1,7 @@
 use Rattle.std.proofs.Common.{◌∙◌, ap}
 use Rattle.intern_registry.specs.Registry.{Names, names}
 use Rattle.ra_ap_intern.proofs.Following.{begins_anew}
-use Rattle.ra_ap_intern.proofs.gc.GarbageCollector.register.Goals as goal
+use Rattle.ra_ap_intern.proofs.gc.GarbageCollector.learn.Goals as goal
 
 pub learn-requires-clause-new : goal.learn-requires-clause-new
 learn-requires-clause-new g c = λ x there. ap (λ (r : Names). r.flags x) c.in_ok-registry.ensures
