@@ -1,0 +1,141 @@
+-- What holds at each world of a run, and at each later one.
+use Rattle.std.proofs.Common.{◌≡◌, inl, inr, ℕ, ◌<◌, Bool, true, false, cond, ◌==◌, List, [], ◌∷◌, Option, Some, None, refl, sym, ap, ◌∙◌, arith}
+use Rattle.std.specs.List.{All, AllPairs}
+use Rattle.std.specs.Option.{option_map}
+use Rattle.std.specs.Str.{bytes_eq}
+use Rattle.std.proofs.lemmas.List.Elements.{All-nil, All-cons}
+use Rattle.std.proofs.lemmas.List.Kept.{AllPairs-cons}
+use Rattle.ra_ap_intern.specs.Kept.{Kept}
+use Rattle.ra_ap_intern.specs.Name.{Name}
+use Rattle.ra_ap_intern.specs.State.{State, IsState, entry_at, reads}
+use Rattle.ra_ap_intern.specs.Symbols.{IsTable}
+use Rattle.intern_world.specs.Along.{TellsValues, TellsTexts, TellsApart, KeepsReading, KeepsNames, HoldsAlong, IsCollection, Collects}
+use Rattle.intern_world.specs.Run.{Turn, IsWorld, IsRun, worlds}
+use Rattle.intern_world.specs.Step.{Step}
+use Rattle.intern_world.specs.declared.call.Call.{Call}
+use Rattle.intern_world.specs.declared.call.Call.TheVariants as call
+use Rattle.intern_world.specs.declared.reply.Reply.TheVariants.{Collected as Gathered}
+use Rattle.intern_world.specs.World.{Kinds, WorldState}
+use Rattle.intern_world.proofs.Along.{Laters, laters, step_later}
+use Rattle.intern_world.proofs.Later.{Later, value_at}
+
+module _ {V : Type 0} where
+  -- the birth of what is read was given
+  is_given : (eq : V → V → Bool) (s : State V) → IsState eq s → (n : Name) (v : V)
+      → reads s n ≡ Some v → n.birth < s.next
+  is_given eq s ok n v is = go (n.storage == s.number) (entry_at s n.birth) refl is
+    where
+      go : (t : Bool) (o : Option (Kept V)) → entry_at s n.birth ≡ o
+          → cond t (option_map (λ k. k.value) o) None ≡ Some v → n.birth < s.next
+      go true (Some k) at h = ok.below n.birth (rw at refl)
+      go true None at h = absurd (cc)
+      go false o at h = absurd (cc)
+
+  no_value : (t : State V) (n : Name) → value_at t n.birth ≡ None → reads t n ≡ None
+  no_value t n h = ap (λ o. cond (n.storage == t.number) o None) h ∙ go (n.storage == t.number)
+    where
+      go : (b : Bool) → ◌≡◌ {A = Option V} (cond b None None) None
+      go true = refl
+      go false = refl
+
+  same_value : (s t : State V) (n : Name) → t.number ≡ s.number
+      → value_at t n.birth ≡ value_at s n.birth → reads t n ≡ reads s n
+  same_value s t n number same =
+      ap (λ k. cond (n.storage == k) (value_at t n.birth) None) number
+      ∙ ap (λ o. cond (n.storage == s.number) o None) same
+
+  pub later_keeps : (eq : V → V → Bool) (s t : State V) → IsState eq s → Later s t
+      → KeepsReading s t
+  later_keeps eq s t ok later = record {
+    given = is_given eq s ok;
+    value = λ n v h. elim (later.values n.birth (is_given eq s ok n v h)) [
+      | inl same ↦ inl (same_value s t n later.number same ∙ h)
+      | inr none ↦ inr (no_value t n none)
+    ];
+    nothing = λ n given h. elim (later.values n.birth given) [
+      | inl same ↦ same_value s t n later.number same ∙ h
+      | inr none ↦ no_value t n none
+    ];
+    births = later.births;
+  }
+
+module _ {C G H I : Type 0} (kinds : Kinds C G H I) where
+  keeps_names : (w x : WorldState C G H I) → IsWorld kinds w → Laters w x → KeepsNames w x
+  keeps_names w x ok l = record {
+    counted = later_keeps kinds.counted_eq w.counted x.counted ok.counted l.counted;
+    values = later_keeps kinds.value_eq w.values x.values ok.values l.values;
+    slices = later_keeps kinds.slice_eq w.slices x.slices ok.slices l.slices;
+    table = later_keeps bytes_eq w.table x.table ok.table l.table;
+  }
+
+module _ {C G S H I : Type 0} (kinds : Kinds C G H I) where
+  all_worlds : (P : WorldState C G H I → Type 0) → ((x : WorldState C G H I) → IsWorld kinds x → P x)
+      → (ts : List (Turn C G S H I)) (w end : WorldState C G H I) → IsRun kinds w ts end
+      → All P (worlds w ts)
+  all_worlds P holds [] w end run = All-cons P w [] (holds w run.1) (All-nil P)
+  all_worlds P holds (t ∷ ts) w end run =
+      All-cons P w (worlds t.after ts) (holds w run.1) (all_worlds P holds ts t.after end run.3)
+
+  -- from one world on
+  later_worlds : (w : WorldState C G H I) → IsWorld kinds w → (ts : List (Turn C G S H I))
+      (x end : WorldState C G H I) → Laters w x → IsRun kinds x ts end
+      → All (KeepsNames w) (worlds x ts)
+  later_worlds w ok [] x end l run =
+      All-cons (KeepsNames w) x [] (keeps_names kinds w x ok l) (All-nil (KeepsNames w))
+  later_worlds w ok (t ∷ ts) x end l run =
+      All-cons (KeepsNames w) x (worlds t.after ts) (keeps_names kinds w x ok l)
+      (later_worlds w ok ts t.after end
+      (laters w x t.after l (rw run.0 (step_later kinds t.before t.call t.reply t.after run.2)))
+      run.3)
+
+  all_keep : (ts : List (Turn C G S H I)) (w end : WorldState C G H I) → IsRun kinds w ts end
+      → AllPairs KeepsNames (worlds w ts)
+  all_keep [] w end run =
+      AllPairs-cons KeepsNames w [] (All-nil (KeepsNames w)) (λ i j d lt below. absurd (omega arith))
+  all_keep (t ∷ ts) w end run = AllPairs-cons KeepsNames w (worlds t.after ts)
+      (later_worlds w run.1 ts t.after end
+      (rw run.0 (step_later kinds t.before t.call t.reply t.after run.2)) run.3)
+      (all_keep ts t.after end run.3)
+
+  -- a collection that succeeds, by its step
+  collects_by : (t : Turn C G S H I) → Step kinds t.before t.call t.reply t.after
+      → Collects kinds t
+  collects_by t step told is reply = go t.call is step
+    where
+      go : (c : Call C G S H I) → c ≡ call.Collect → Step kinds t.before c t.reply t.after
+          → IsCollection kinds t.before told t.after
+      go call.Collect same (inl a) =
+          let says : Gathered told ≡ _ = sym reply ∙ a.says.reply_is in
+          record {
+            names = a.names;
+            reached = a.reached;
+            visits = let e = says in cc;
+            mark_calls = let e = says in cc;
+            left = a.says.after_is;
+          }
+      go call.Collect same (inr l) = let e = sym reply ∙ l.reply_is in absurd (cc)
+      go _ same step = absurd (cc)
+
+  all_collect : (ts : List (Turn C G S H I)) (w end : WorldState C G H I) → IsRun kinds w ts end
+      → All (Collects kinds) ts
+  all_collect [] w end run = All-nil (Collects kinds)
+  all_collect (t ∷ ts) w end run = All-cons (Collects kinds) t ts (collects_by t run.2)
+      (all_collect ts t.after end run.3)
+
+  pub holds_along :
+      ((s : State C) → IsState kinds.counted_eq s → TellsValues kinds.counted_eq s)
+      → ((s : State G) → IsState kinds.value_eq s → TellsValues kinds.value_eq s)
+      → ((s : State _) → IsState kinds.slice_eq s → TellsValues kinds.slice_eq s)
+      → ((s : State (List ℕ)) → IsState bytes_eq s → IsTable s → TellsTexts s)
+      → (ts : List (Turn C G S H I)) (w end : WorldState C G H I) → IsRun kinds w ts end
+      → HoldsAlong kinds w ts
+  holds_along counted values slices texts ts w end run = record {
+    tells = all_worlds (TellsApart kinds) (λ x ok. record {
+      counted = counted x.counted ok.counted;
+      values = values x.values ok.values;
+      slices = slices x.slices ok.slices;
+      symbols = texts x.table ok.table ok.texts;
+    }) ts w end run;
+    keeps = all_keep ts w end run;
+    collects = all_collect ts w end run;
+  }

@@ -1,0 +1,82 @@
+-- What holds along a run.
+use Rattle.std.specs.Prelude.{◌≡◌, ◌↔◌, ◌⊎◌, ℕ, ◌<◌, ◌≤◌, Bool, true, List, length, Some, None}
+use Rattle.std.specs.List.{All, AllPairs}
+use Rattle.ra_ap_intern.specs.Name.{Name}
+use Rattle.ra_ap_intern.specs.Reach.{IsReachedSet, starts, calls_of}
+use Rattle.ra_ap_intern.specs.State.{State, reads}
+use Rattle.ra_ap_intern.specs.Symbols.{Named, text_of}
+use Rattle.intern_world.specs.Run.{Turn, worlds, Runs}
+use Rattle.intern_world.specs.World.{Kinds, WorldState, entries, swept}
+use Rattle.intern_world.specs.declared.call.Call.{Call}
+use Rattle.intern_world.specs.declared.call.Call.TheVariants as call
+use Rattle.intern_world.specs.declared.reply.Reply.{Reply}
+use Rattle.intern_world.specs.declared.reply.Reply.TheVariants.{Collected as Gathered}
+use Rattle.ra_ap_intern.specs.declared.gc.Collected.{Collected}
+
+module _ {V : Type 0} where
+  -- names that read something in a storage are equal exactly if the values are
+  abbrev pub TellsValues : (V → V → Bool) → State V → Type 0
+  TellsValues eq s = (n m : Name) (v u : V) → reads s n ≡ Some v → reads s m ≡ Some u
+      → (n ≡ m) ↔ (eq v u ≡ true)
+
+  -- what a name reads it reads later or reads nothing; and a name whose birth was given, and that
+  -- reads nothing, reads nothing later
+  pub record KeepsReading (s later : State V) : Type 0 where
+    pub given : (n : Name) (v : V) → reads s n ≡ Some v → n.birth < s.next
+    pub value : (n : Name) (v : V) → reads s n ≡ Some v
+        → (reads later n ≡ Some v) ⊎ (reads later n ≡ None)
+    pub nothing : (n : Name) → n.birth < s.next → reads s n ≡ None → reads later n ≡ None
+    pub births : s.next ≤ later.next
+
+-- symbols that can be read are equal exactly if their texts are
+abbrev pub TellsTexts : State (List ℕ) → Type 0
+TellsTexts s = (a b : Named) (t u : List ℕ) → text_of s a ≡ Some t → text_of s b ≡ Some u
+    → (a ≡ b) ↔ (t ≡ u)
+
+module _ {C G H I : Type 0} where
+  -- handles of one kind tell values, and symbols texts
+  pub record TellsApart (kinds : Kinds C G H I) (w : WorldState C G H I) : Type 0 where
+    pub counted : TellsValues kinds.counted_eq w.counted
+    pub values : TellsValues kinds.value_eq w.values
+    pub slices : TellsValues kinds.slice_eq w.slices
+    pub symbols : TellsTexts w.table
+
+  -- each name of each storage keeps what it reads
+  pub record KeepsNames (w later : WorldState C G H I) : Type 0 where
+    pub counted : KeepsReading w.counted later.counted
+    pub values : KeepsReading w.values later.values
+    pub slices : KeepsReading w.slices later.slices
+    pub table : KeepsReading w.table later.table
+
+module _ {C G H I : Type 0} where
+  -- a collection leaves what paths reach from counted entries, and visits each of these once
+  pub record IsCollection (kinds : Kinds C G H I) (w : WorldState C G H I) (told : Collected)
+      (after : WorldState C G H I) : Type 0
+    where
+      pub names : List Name
+      pub reached : IsReachedSet (starts (entries kinds w)) (entries kinds w) names
+      pub visits : told.visits ≡ length names
+      pub mark_calls : told.mark_calls ≡ calls_of (entries kinds w) names
+      pub left : after ≡ swept w names
+
+module _ {C G S H I : Type 0} where
+  -- where a turn is a collection that succeeds
+  abbrev pub Collects : Kinds C G H I → Turn C G S H I → Type 0
+  Collects kinds t = (told : Collected) → t.call ≡ call.Collect → t.reply ≡ Gathered told
+      → IsCollection kinds t.before told t.after
+
+  -- at each world, and at each world and each later one
+  pub record HoldsAlong (kinds : Kinds C G H I) (w : WorldState C G H I)
+      (ts : List (Turn C G S H I)) : Type 0
+    where
+      pub tells : All (TellsApart kinds) (worlds w ts)
+      pub keeps : AllPairs KeepsNames (worlds w ts)
+      pub collects : All (Collects kinds) ts
+
+  -- these replies to these calls are those of a run, along which this holds
+  pub record RunsAlong (kinds : Kinds C G H I) (w : WorldState C G H I)
+      (calls : List (Call C G S H I)) (replies : List (Reply C G H)) (end : WorldState C G H I)
+      : Type 0
+    where
+      pub run : Runs kinds w calls replies end
+      pub holds : HoldsAlong kinds w run.turns

@@ -1,0 +1,97 @@
+//! The list of slots.
+ghost use Rattle.std.specs.Prelude.{◌≡◌, ◌+◌, ◌<◌, ◌≤◌, [], ◌∷◌, ◌++◌, length, OnOk, if◌then◌else◌, slice_get, slice_set};
+ghost use Rattle.std.specs.Option.{option_map, unwrap_or};
+ghost use Rattle.intern_world.specs.Held.{seen, held_at, owner, is_owner};
+ghost use Rattle.intern_world.specs.Held.Held.{nothing};
+
+use crate::reply::{Back, Reply};
+use crate::slot::Slot;
+use std::alloc::{AllocError, Global};
+use std::marker::Model;
+use std::mem;
+
+// The slots, with the room for more.
+#[derive(Drop)]
+pub struct Slots<C, G, S> {
+    slots: Vec<Slot<C, G, S>>,
+}
+
+impl<C, G, S> Model for Slots<C, G, S> {
+    ghost use Rattle.std.specs.Prelude.{◌-◌, map, vec_len, vec_capacity};
+    ghost use Rattle.intern_world.specs.Held.{SlotList, seen};
+
+    ghost Value = { SlotList };
+
+    ghost view = { λ s. record {
+      held = map seen s.slots.items;
+      room = vec_capacity s.slots - vec_len s.slots;
+    } };
+}
+
+impl<C, G, S> Slots<C, G, S> {
+    pub fn new(alloc: Global) -> Self
+        ensures { result.held ≡ [] }
+    {
+        Slots {
+            slots: Vec::new(alloc),
+        }
+    }
+
+    // Asks for the room of so many slots more.
+    pub fn reserve(&mut self, more: usize) -> Result<(), AllocError>
+        ensures held { self.new.held ≡ self.old.held }
+        ensures room { OnOk result (more ≤ self.new.room) }
+    {
+        self.slots.reserve(more)
+    }
+
+    pub fn get(&self, n: usize) -> Option<&Slot<C, G, S>>
+        ensures slot { option_map (λ s. seen s.now) result ≡ slice_get self.now.held n }
+        ensures held { unwrap_or (option_map (λ s. seen s.now) result) nothing
+            ≡ held_at self.now.held n }
+    {
+        self.slots.get(n)
+    }
+
+    // Puts a handle into a new slot.
+    pub fn place<H>(&mut self, slot: Slot<C, G, S>, back: Back<C, G, H>) -> Reply<C, G, H>
+        requires { 0 < self.old.room }
+        ensures reply { result ≡ Reply.Made (length self.old.held) back }
+        ensures held { self.new.held ≡ self.old.held ++ seen slot ∷ [] }
+        ensures room { self.old.room ≡ self.new.room + 1 }
+    {
+        let n = self.slots.len();
+        self.slots.push_reserved(slot);
+        Reply::Made(n, back)
+    }
+
+    // Takes what a release gives up out of its slot. Where there is no such thing, an empty slot.
+    #[tactic(auto, using(crate::proofs::Lists::map_set))]
+    pub fn take_owner(&mut self, n: usize) -> Slot<C, G, S>
+        ensures slot { seen result ≡ owner (held_at self.old.held n) }
+        ensures held { self.new.held ≡ (if is_owner (seen result)
+            then slice_set self.old.held n nothing else self.old.held) }
+        ensures room { self.new.room ≡ self.old.room }
+    {
+        if n >= self.slots.len() {
+            return Slot::Empty;
+        }
+        match &self.slots[n] {
+            Slot::Counted(_) | Slot::Value(_) | Slot::Slice(_) | Slot::Symbol(_) => {
+                mem::replace(&mut self.slots[n], Slot::Empty)
+            }
+            _ => Slot::Empty,
+        }
+    }
+
+    // Puts it back.
+    #[tactic(auto, using(crate::proofs::Lists::map_set))]
+    pub fn put_back(&mut self, n: usize, slot: Slot<C, G, S>)
+        ensures held { self.new.held ≡ slice_set self.old.held n (seen slot) }
+        ensures room { self.new.room ≡ self.old.room }
+    {
+        if n < self.slots.len() {
+            self.slots[n] = slot;
+        }
+    }
+}
