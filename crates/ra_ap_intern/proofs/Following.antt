@@ -13,7 +13,7 @@ use Rattle.intern_trace.specs.Seen.{is_counted_in}
 use Rattle.intern_trace.specs.Trace.{Traces, IsTrace, counted_in}
 use Rattle.intern_trace.proofs.Steps.{root_places, each-size}
 use Rattle.intern_trace.proofs.Traces.{trace_begins, visit_keeps, reached_at_end, counted_begin}
-use Rattle.ra_ap_intern.specs.Families.{learnt, with_family, IsCollection}
+use Rattle.ra_ap_intern.specs.Families.{with_family, IsCollection}
 use Rattle.ra_ap_intern.specs.declared.gc.Collected.{Collected}
 
 counted_learnt : (o : Option Entry)

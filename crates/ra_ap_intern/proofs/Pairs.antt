@@ -1,12 +1,12 @@
 -- Two families as one.
-use Rattle.std.proofs.Common.{◌≡◌, ℕ, ◌+◌, Bool, true, false, not, ◌&&◌, ◌||◌, nat_eq, List, [], ◌∷◌, ◌++◌, length, length-append, Option, Some, None, is_some, refl, sym, ◌∙◌, ap, subst, ◌⊎◌, inl, inr, arith}
+use Rattle.std.proofs.Common.{◌≡◌, ℕ, ◌+◌, Bool, true, false, not, ◌&&◌, ◌||◌, nat_eq, List, [], ◌∷◌, ◌++◌, length, length-append, Option, Some, None, is_some, refl, sym, ◌∙◌, ap, arith}
 use Rattle.std.proofs.lemmas.Bool.{and_parts, not-true, eqb-true}
 use Rattle.std.specs.Option.{option_map, option_or}
 use Rattle.intern_registry.specs.Registry.{Names, unmarked}
 use Rattle.intern_registry.specs.declared.flags.Flags.{Flags}
 use Rattle.intern_store.specs.declared.names.Name.{Name}
 use Rattle.intern_trace.specs.Reach.{Entry, entry_of, is_entry, is_counted, children_of, children_in}
-use Rattle.ra_ap_intern.specs.Families.{has_number, meet, are_distinct, learnt, with_family}
+use Rattle.ra_ap_intern.specs.Families.{has_number, meet, are_distinct, with_family}
 use Rattle.ra_ap_intern.specs.PairLaws.{entry_either, has_either}
 
 and_true : (b : Bool) → b ≡ ((true && b) && not false)

@@ -1,6 +1,6 @@
 use Rattle.std.proofs.Common.{◌+◌, length, List, sym, ◌∙◌, ap}
 use Rattle.std.specs.List.{filter}
-use Rattle.intern_trace.specs.Collector.{Collector, has}
+use Rattle.intern_trace.specs.Collector.{Collector}
 use Rattle.intern_trace.specs.Reach.{Entry, starts_with}
 use Rattle.intern_trace.specs.Traced.{state}
 use Rattle.ra_ap_intern.proofs.Following.{roots_begin, roots_size, all_visited, removed_are, is_collection}

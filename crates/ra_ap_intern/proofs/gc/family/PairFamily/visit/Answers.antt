@@ -1,6 +1,6 @@
 use Rattle.std.proofs.Common.{sym, ◌∙◌, ap, is_some}
 use Rattle.intern_trace.specs.Collector.{marks}
-use Rattle.intern_trace.specs.Reach.{entry_of, children_in, children_of}
+use Rattle.intern_trace.specs.Reach.{children_in, children_of}
 use Rattle.intern_trace.specs.Traced.{state}
 use Rattle.ra_ap_intern.proofs.Pairs.{in_first, in_second, no_children}
 use Rattle.ra_ap_intern.proofs.gc.family.PairFamily.visit.Goals as goal
