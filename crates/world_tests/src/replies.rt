@@ -6,7 +6,9 @@ use std::alloc::Global;
 use std::process::Abort;
 
 type Calls = Vec<Call<Word, GcString, StringSlice>>;
+
 type Replies = Vec<Reply<Word, GcString, String>>;
+
 type Texts = World<Word, GcString, StringSlice>;
 
 /// A new world.
@@ -61,7 +63,11 @@ fn handles_of_one_value(rt: HostRuntime) {
     push(&rt, &mut calls, Call::Same(0, 2));
     push(&rt, &mut calls, Call::Release(0));
     push(&rt, &mut calls, Call::Release(2));
-    push(&rt, &mut calls, Call::ReadsCounted(1, word(&rt, alloc, "x")));
+    push(
+        &rt,
+        &mut calls,
+        Call::ReadsCounted(1, word(&rt, alloc, "x")),
+    );
     push(&rt, &mut calls, Call::Release(0));
     let replies = runs(&rt, &mut world, calls);
     assert_eq!(rt; replies.len(), 8);
