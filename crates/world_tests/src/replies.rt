@@ -200,6 +200,7 @@ fn a_collection_keeps_what_slots_name(rt: HostRuntime) {
     let mut reads = Vec::new(alloc);
     push(&rt, &mut reads, Call::ReadsValue(0, value(&rt, alloc, "a")));
     let replies = runs(&rt, &mut world, reads);
+    assert_eq!(rt; replies.len(), 1);
     assert!(rt; matches!(&replies[0], Reply::Read(None)));
     assert!(rt; matches!(&world.collect_keeping(&[7]), Reply::WrongSlot));
     collected(&rt, &world.collect_keeping(&[]), (0, 0, 1));
