@@ -216,7 +216,7 @@ impl GarbageCollector {
         })
     }
 
-    // Registers a family. A name that is looked up without its place isn't found at once yet.
+    // Registers a family, without filling the registry's table, which a collection seldom asks.
     fn learn<F: Family>(&mut self, family: &F) -> Result<(), AllocError>
         requires distinct { are_distinct (F.numbers family.now) ≡ true }
         ensures ok { OnOk result (state self.new

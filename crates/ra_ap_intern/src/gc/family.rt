@@ -55,7 +55,8 @@ pub trait Family: Numbered {
     fn is_distinct(&self) -> bool
         ensures { result ≡ are_distinct (Self.numbers self.now) };
 
-    /// Registers the entries of all storages. Where there is no memory for that, `AllocError`.
+    /// Registers the entries of all storages. Where there is no memory for that, `AllocError`, and
+    /// the registry may have some of them.
     fn learn(&self, registry: &mut Registry) -> Result<(), AllocError>
         requires distinct { are_distinct (Self.numbers self.now) ≡ true }
         requires new { (x : EntryName) → has_number (Self.numbers self.now) x.storage ≡ true →

@@ -30,7 +30,7 @@ impl Marks for Marked<'_> {
 }
 
 /// Registers the entries of the storage of a number, none of which is registered. Where there is no
-/// memory for that, `AllocError`.
+/// memory for that, `AllocError`, and the registry may have some of them.
 pub(super) fn learn_counts<T, N: Counted>(
     number: u64,
     counts: Counts<'_, T, N>,
