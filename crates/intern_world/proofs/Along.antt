@@ -11,17 +11,17 @@ use Rattle.ra_ap_intern.specs.Sliced.{Sliced}
 use Rattle.ra_ap_intern.specs.State.{State, name_in, interned, counted_up, released}
 use Rattle.ra_ap_intern.specs.Symbols.{Named, symbol_at, symbol_in}
 use Rattle.ra_ap_intern.specs.Symbols.Named.{preset, entry}
-use Rattle.intern_world.specs.Answer.{Answer, unless, up, down, given_up, at_text, answer, refers, clones, owns, releases, decrements, tells_birth, reads_counted, reads_value, reads_slice, reads_text, tells_count, tells_uint, stores_text}
-use Rattle.intern_world.specs.Held.{Home, Held, held_at}
-use Rattle.intern_world.specs.Held.Home.{counted, values, slices}
-use Rattle.intern_world.specs.Held.Held.{nothing, owned, reference, symbol}
-use Rattle.intern_world.specs.Run.{numbers_of}
-use Rattle.intern_world.specs.Step.{Step}
-use Rattle.intern_world.specs.World.{Kinds, WorldState, swept}
-use Rattle.intern_world.specs.declared.call.Call.{Call}
-use Rattle.intern_world.specs.declared.call.Call.TheVariants as call
-use Rattle.intern_world.specs.declared.reply.Back.{Back}
-use Rattle.intern_world.specs.declared.reply.Reply.{Reply}
+use Rattle.intern_calls.specs.Answer.{Answer, unless, up, down, given_up, at_text, answer, refers, clones, owns, releases, decrements, tells_birth, reads_counted, reads_value, reads_slice, reads_text, tells_count, tells_uint, stores_text}
+use Rattle.intern_calls.specs.Held.{Home, Held, held_at}
+use Rattle.intern_calls.specs.Held.Home.{counted, values, slices}
+use Rattle.intern_calls.specs.Held.Held.{nothing, owned, reference, symbol}
+use Rattle.intern_calls.specs.World.{numbers_of}
+use Rattle.intern_calls.specs.Step.{Step}
+use Rattle.intern_calls.specs.World.{Kinds, WorldState, swept}
+use Rattle.intern_calls.specs.declared.call.Call.{Call}
+use Rattle.intern_calls.specs.declared.call.Call.TheVariants as call
+use Rattle.intern_calls.specs.declared.reply.Back.{Back}
+use Rattle.intern_calls.specs.declared.reply.Reply.{Reply}
 use Rattle.intern_world.proofs.Later.{Later, later_itself, later_later, counted_up_later, counted_down_later, kept_later, interned_later, released_later}
 
 interned_counted_later : {V : Type 0} (eq : V → V → Bool) (s : State V) (v : V)

@@ -1,6 +1,5 @@
 pub mod Along
 pub mod Later
-pub mod Lists
 pub mod Runs
 pub mod Steps
 pub mod Worlds

@@ -2,10 +2,10 @@
 use Rattle.std.proofs.Common.{◌≡◌, List, [], ◌∷◌, ◌++◌, refl, sym, ap, ◌∙◌}
 use Rattle.std.proofs.lemmas.List.{map-append}
 use Rattle.intern_world.specs.Run.{Turn, IsWorld, IsRun, Runs}
-use Rattle.intern_world.specs.Step.{Step}
-use Rattle.intern_world.specs.World.{Kinds, WorldState}
-use Rattle.intern_world.specs.declared.call.Call.{Call}
-use Rattle.intern_world.specs.declared.reply.Reply.{Reply}
+use Rattle.intern_calls.specs.Step.{Step}
+use Rattle.intern_calls.specs.World.{Kinds, WorldState}
+use Rattle.intern_calls.specs.declared.call.Call.{Call}
+use Rattle.intern_calls.specs.declared.reply.Reply.{Reply}
 
 module _ {C G S H I : Type 0} (kinds : Kinds C G H I) (w : WorldState C G H I) where
   run_more : (ts : List (Turn C G S H I)) (start mid : WorldState C G H I) (c : Call C G S H I)

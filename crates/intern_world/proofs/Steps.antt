@@ -1,13 +1,13 @@
 -- Steps from what the calls say.
 use Rattle.std.proofs.Common.{◌≡◌, ◌⊎◌, inl, inr, [], Some}
 use Rattle.ra_ap_intern.specs.Reach.{starts}
-use Rattle.intern_world.specs.Answer.{answer}
-use Rattle.intern_world.specs.Step.{Says, Lacks, Reaches, Step, Gathers, wants_memory}
-use Rattle.intern_world.specs.World.{Kinds, WorldState, entries}
-use Rattle.intern_world.specs.declared.call.Call.{Call}
-use Rattle.intern_world.specs.declared.call.Call.TheVariants as call
-use Rattle.intern_world.specs.declared.reply.Back.TheVariants as back
-use Rattle.intern_world.specs.declared.reply.Reply.{Reply}
+use Rattle.intern_calls.specs.Answer.{answer}
+use Rattle.intern_calls.specs.Step.{Says, Lacks, Reaches, Step, Gathers, wants_memory}
+use Rattle.intern_calls.specs.World.{Kinds, WorldState, entries}
+use Rattle.intern_calls.specs.declared.call.Call.{Call}
+use Rattle.intern_calls.specs.declared.call.Call.TheVariants as call
+use Rattle.intern_calls.specs.declared.reply.Back.TheVariants as back
+use Rattle.intern_calls.specs.declared.reply.Reply.{Reply}
 
 module _ {C G S H I : Type 0} (kinds : Kinds C G H I) (w : WorldState C G H I)
     (c : Call C G S H I) (r : Reply C G H) (after : WorldState C G H I) where

@@ -6,11 +6,11 @@ use Rattle.ra_ap_intern.specs.Reach.{IsReachedSet, starts, calls_of}
 use Rattle.ra_ap_intern.specs.State.{State, reads}
 use Rattle.ra_ap_intern.specs.Symbols.{Named, text_of}
 use Rattle.intern_world.specs.Run.{Turn, worlds, Runs}
-use Rattle.intern_world.specs.World.{Kinds, WorldState, entries, swept}
-use Rattle.intern_world.specs.declared.call.Call.{Call}
-use Rattle.intern_world.specs.declared.call.Call.TheVariants as call
-use Rattle.intern_world.specs.declared.reply.Reply.{Reply}
-use Rattle.intern_world.specs.declared.reply.Reply.TheVariants.{Collected as Gathered}
+use Rattle.intern_calls.specs.World.{Kinds, WorldState, entries, swept}
+use Rattle.intern_calls.specs.declared.call.Call.{Call}
+use Rattle.intern_calls.specs.declared.call.Call.TheVariants as call
+use Rattle.intern_calls.specs.declared.reply.Reply.{Reply}
+use Rattle.intern_calls.specs.declared.reply.Reply.TheVariants.{Collected as Gathered}
 use Rattle.ra_ap_intern.specs.declared.gc.Collected.{Collected}
 
 module _ {V : Type 0} where

@@ -2,12 +2,12 @@
 use Rattle.std.specs.Prelude.{◌≡◌, ℕ, Bool, true, List, [], ◌∷◌, map}
 use Rattle.std.specs.Str.{bytes_eq}
 use Rattle.ra_ap_intern.specs.Families.{are_distinct}
-use Rattle.ra_ap_intern.specs.State.{IsState}
+use Rattle.ra_ap_intern.specs.State.{IsState, new_state}
 use Rattle.ra_ap_intern.specs.Symbols.{IsTable}
-use Rattle.intern_world.specs.Step.{Step}
-use Rattle.intern_world.specs.World.{Kinds, WorldState}
-use Rattle.intern_world.specs.declared.call.Call.{Call}
-use Rattle.intern_world.specs.declared.reply.Reply.{Reply}
+use Rattle.intern_calls.specs.Step.{Step}
+use Rattle.intern_calls.specs.World.{Kinds, WorldState, numbers_of}
+use Rattle.intern_calls.specs.declared.call.Call.{Call}
+use Rattle.intern_calls.specs.declared.reply.Reply.{Reply}
 use Rattle.intern_world.specs.declared.world.Numbers.{Numbers}
 
 -- whether four numbers are apart
@@ -22,9 +22,15 @@ pub record Turn (C G S H I : Type 0) : Type 0 where
   pub after : WorldState C G H I
 
 module _ {C G H I : Type 0} where
-  -- the numbers of the storages and of the table
-  abbrev pub numbers_of : WorldState C G H I → List ℕ
-  numbers_of w = w.counted.number ∷ w.values.number ∷ w.slices.number ∷ w.table.number ∷ []
+  -- new storages and a new table, with these numbers and limits, and no slot
+  abbrev pub new_world : Numbers → ℕ → ℕ → WorldState C G H I
+  new_world n top numbers = record {
+    counted = new_state n.counted top numbers;
+    values = new_state n.values top numbers;
+    slices = new_state n.slices top numbers;
+    table = new_state n.table top numbers;
+    slots = [];
+  }
 
   -- each storage holds values that differ, and each number is another
   pub record IsWorld (kinds : Kinds C G H I) (w : WorldState C G H I) : Type 0 where

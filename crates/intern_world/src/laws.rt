@@ -2,7 +2,7 @@
 ghost use Rattle.std.specs.Prelude.{List};
 ghost use Rattle.intern_world.specs.Along.{HoldsAlong};
 ghost use Rattle.intern_world.specs.Run.{Turn, IsRun};
-ghost use Rattle.intern_world.specs.World.{WorldState, kinds_of};
+ghost use Rattle.intern_calls.specs.World.{WorldState, kinds_of};
 
 use ra_ap_intern::{GcInternedSliceVisit, GcInternedVisit, Internable, laws};
 

@@ -2,17 +2,14 @@
 ghost use Rattle.std.specs.Prelude.{◌≡◌, ◌<◌, ◌≤◌, true, false, [], IfOk, IfErr, OnErr, slice_get};
 ghost use Rattle.std.specs.Option.{option_map};
 ghost use Rattle.ra_ap_intern.specs.Families.{are_distinct};
-ghost use Rattle.intern_world.specs.Held.{seen};
+ghost use Rattle.intern_calls.specs.Held.{seen};
 ghost use Rattle.intern_world.specs.Along.{RunsAlong};
-ghost use Rattle.intern_world.specs.Run.{are_apart};
-ghost use Rattle.intern_world.specs.Step.{Keeps, roots_in};
-ghost use Rattle.intern_world.specs.World.{kinds_of, new_world};
+ghost use Rattle.intern_world.specs.Run.{are_apart, new_world};
+ghost use Rattle.intern_calls.specs.Step.{Keeps, roots_in};
+ghost use Rattle.intern_calls.specs.World.{kinds_of};
 
-use crate::call::Call;
-use crate::parts::Parts;
-use crate::reply::{Back, Reply};
-use crate::slot::Slot;
-use crate::slots::Slots;
+use crate::turns::run_over;
+use intern_calls::{Back, Call, Parts, Reply, Slot, Slots};
 use ra_ap_intern::{
     GcInternedSliceVisit, GcInternedVisit, InternSliceStorage, InternStorage, Internable, Limits,
     Name, Pair, Refusal, SliceInternable, SymbolTable,
@@ -43,9 +40,9 @@ pub struct World<C: Internable, G: Internable, S: SliceInternable> {
 impl<C: Internable, G: Internable, S: SliceInternable> Model for World<C, G, S> {
     ghost use Rattle.std.specs.Prelude.{◌≡◌, true, false};
     ghost use Rattle.ra_ap_intern.specs.Families.{are_distinct};
-    ghost use Rattle.intern_world.specs.Parts.{world_of};
-    ghost use Rattle.intern_world.specs.Run.{numbers_of};
-    ghost use Rattle.intern_world.specs.World.{WorldState, world_code};
+    ghost use Rattle.intern_calls.specs.Parts.{world_of};
+    ghost use Rattle.intern_calls.specs.World.{numbers_of};
+    ghost use Rattle.intern_calls.specs.World.{WorldState, world_code};
 
     ghost Value = { WorldState C G S.Header S.SliceType };
 
@@ -189,7 +186,7 @@ where
     };
     match world.parts.slots.reserve(n) {
         Ok(()) => {
-            world.parts.run_over(&mut replies, calls);
+            run_over(&mut world.parts, &mut replies, calls);
             Ok(replies)
         }
         Err(_) => Err(calls),

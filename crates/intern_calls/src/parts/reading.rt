@@ -1,12 +1,12 @@
 //! The calls that read.
 ghost use Rattle.std.specs.Prelude.{◌≡◌, ◌+◌, ◌<◌, ◌≤◌, true, false};
-ghost use Rattle.intern_world.specs.Answer.{tells, truth, tells_birth, reads_counted, reads_value, reads_slice, reads_text, tells_count, len_of, tells_uint};
-ghost use Rattle.intern_world.specs.Held.{held_at, same, same_named};
+ghost use Rattle.intern_calls.specs.Answer.{tells, truth, tells_birth, reads_counted, reads_value, reads_slice, reads_text, tells_count, len_of, tells_uint};
+ghost use Rattle.intern_calls.specs.Held.{held_at, same, same_named};
 ghost use Rattle.ra_ap_intern.specs.Handle.{name_of, ref_name};
 ghost use Rattle.ra_ap_intern.specs.Registry.{same_name};
 ghost use Rattle.ra_ap_intern.specs.Symbols.{symbol_name};
-ghost use Rattle.intern_world.specs.Parts.{world_of};
-ghost use Rattle.intern_world.specs.Step.{Says};
+ghost use Rattle.intern_calls.specs.Parts.{world_of};
+ghost use Rattle.intern_calls.specs.Step.{Says};
 ghost use Rattle.ra_ap_intern.specs.Sliced.{sliced_eq};
 ghost use Rattle.ra_ap_intern.specs.Slices.{slice_of, slice_name, slice_ref_name};
 

@@ -1,14 +1,13 @@
 -- A world as contracts see it.
-use Rattle.std.specs.Prelude.{ℕ, Bool, List, [], ◌++◌, refl}
+use Rattle.std.specs.Prelude.{ℕ, Bool, List, [], ◌∷◌, ◌++◌, refl}
 use Rattle.std.specs.Coded.{Coded, code_by, coded×, coded_list, coded_ℕ}
 use Rattle.ra_ap_intern.specs.Families.{entries_of, kept_named, sliced_children}
 use Rattle.ra_ap_intern.specs.Name.{Name}
 use Rattle.ra_ap_intern.specs.Reach.{Entry}
 use Rattle.ra_ap_intern.specs.Collector.{has}
 use Rattle.ra_ap_intern.specs.Sliced.{Sliced, sliced_eq, sliced_code}
-use Rattle.ra_ap_intern.specs.State.{State, new_state, state_code}
-use Rattle.intern_world.specs.declared.world.Numbers.{Numbers}
-use Rattle.intern_world.specs.Held.{Held, held_code}
+use Rattle.ra_ap_intern.specs.State.{State, state_code}
+use Rattle.intern_calls.specs.Held.{Held, held_code}
 
 -- the equalities of the types, and what their values declare
 pub record Kinds (C G H I : Type 0) : Type 0 where
@@ -53,15 +52,9 @@ module _ {C G H I : Type 0} where
     slice_children = sliced_children header_children item_children;
   }
 
-  -- new storages and a new table, with these numbers and limits, and no slot
-  abbrev pub new_world : Numbers → ℕ → ℕ → WorldState C G H I
-  new_world n top numbers = record {
-    counted = new_state n.counted top numbers;
-    values = new_state n.values top numbers;
-    slices = new_state n.slices top numbers;
-    table = new_state n.table top numbers;
-    slots = [];
-  }
+  -- the numbers of the storages and of the table
+  abbrev pub numbers_of : WorldState C G H I → List ℕ
+  numbers_of w = w.counted.number ∷ w.values.number ∷ w.slices.number ∷ w.table.number ∷ []
 
   -- the entries that are collected
   abbrev pub entries : Kinds C G H I → WorldState C G H I → List Entry

@@ -1,7 +1,7 @@
 use Rattle.std.proofs.Common.{◌≡◌, ◌≤◌, length, take, vec_len, vec_capacity}
 use Rattle.std.specs.List.{filter_map}
-use Rattle.intern_world.specs.Step.{root_at}
-use Rattle.intern_world.proofs.parts.Parts.roots.Given as goal
+use Rattle.intern_calls.specs.Step.{root_at}
+use Rattle.intern_calls.proofs.parts.Parts.roots.Given as goal
 
 abbrev pub invariant-loop-n : goal.invariant-loop-n
 invariant-loop-n g l =

@@ -2,14 +2,14 @@
 ghost use Rattle.std.specs.Prelude.{◌≡◌, ◌+◌, ◌<◌, ◌≤◌, ◌⊎◌, true, false, decimal, IfOk};
 ghost use Rattle.ra_ap_intern.specs.Outcome.{Owes};
 ghost use Rattle.ra_ap_intern.specs.Presets.{generated_text};
-ghost use Rattle.intern_world.specs.Held.{seen};
+ghost use Rattle.intern_calls.specs.Held.{seen};
 ghost use Rattle.ra_ap_intern.specs.Sliced.{sliced_eq};
 ghost use Rattle.ra_ap_intern.specs.State.{is_new, due_interning, full, any_count};
 ghost use Rattle.ra_ap_intern.specs.Slices.{due_slice, is_new_slice};
 ghost use Rattle.ra_ap_intern.specs.Symbols.{due_symbol, is_new_text, symbol_in};
-ghost use Rattle.intern_world.specs.Answer.{stores, stores_gc, stores_slice, stores_text, takes_over, raw_held, due_raw, counted_back, value_back, header_back};
-ghost use Rattle.intern_world.specs.Parts.{world_of};
-ghost use Rattle.intern_world.specs.Step.{Says, Lacks, where_new, text_wanted};
+ghost use Rattle.intern_calls.specs.Answer.{stores, stores_gc, stores_slice, stores_text, takes_over, raw_held, due_raw, counted_back, value_back, header_back};
+ghost use Rattle.intern_calls.specs.Parts.{world_of};
+ghost use Rattle.intern_calls.specs.Step.{Says, Lacks, where_new, text_wanted};
 
 use super::Parts;
 use crate::call::Kind;

@@ -1,9 +1,9 @@
 use Rattle.std.proofs.Common.{List, [], ◌∷◌, ◌++◌, sym, ◌∙◌, ap, arith}
 use Rattle.ra_ap_intern.specs.Name.{Name}
-use Rattle.intern_world.proofs.Lists.{more_some, more_none}
-use Rattle.intern_world.specs.Step.{root_at}
-use Rattle.intern_world.proofs.parts.Parts.roots.Goals as goal
-use Rattle.intern_world.proofs.parts.Parts.roots.Goals.{in-Some, in-None}
+use Rattle.intern_calls.proofs.Lists.{more_some, more_none}
+use Rattle.intern_calls.specs.Step.{root_at}
+use Rattle.intern_calls.proofs.parts.Parts.roots.Goals as goal
+use Rattle.intern_calls.proofs.parts.Parts.roots.Goals.{in-Some, in-None}
 
 pub loop-n-preserved : goal.loop-n-preserved
 loop-n-preserved g c = elim c.match-root.branch [

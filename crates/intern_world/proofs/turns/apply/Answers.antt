@@ -1,6 +1,6 @@
 use Rattle.std.proofs.Common.{refl}
 use Rattle.intern_world.proofs.Steps.{answered, either, gathered}
-use Rattle.intern_world.proofs.parts.Parts.apply.Goals as goal
+use Rattle.intern_world.proofs.turns.apply.Goals as goal
 
 pub returns-in-New-clause-step : goal.returns-in-New-clause-step
 returns-in-New-clause-step g c = either _ _ _ _ _ _ c.in-New.is refl c.new_counted.ensures.step

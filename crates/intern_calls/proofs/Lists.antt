@@ -5,9 +5,9 @@ use Rattle.std.proofs.Math.Seq.{take-suc}
 use Rattle.std.proofs.lemmas.List.Elements.{filter_map-append}
 use Rattle.std.proofs.Math.ListN.{set}
 use Rattle.std.proofs.lemmas.List.{map-set, append-nil}
-use Rattle.intern_world.specs.Held.{Held, seen, held_at, owner, is_owner}
-use Rattle.intern_world.specs.Held.Held.{nothing, owned, reference, symbol}
-use Rattle.intern_world.specs.declared.slot.Slot.{Slot}
+use Rattle.intern_calls.specs.Held.{Held, seen, held_at, owner, is_owner}
+use Rattle.intern_calls.specs.Held.Held.{nothing, owned, reference, symbol}
+use Rattle.intern_calls.specs.declared.slot.Slot.{Slot}
 
 pub map_set : {C G S : Type 0} (l : List (Slot C G S)) (n : ℕ) (x : Slot C G S)
     → map seen (set l n x) ≡ set (map seen l) n (seen x)

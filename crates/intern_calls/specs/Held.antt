@@ -8,8 +8,8 @@ use Rattle.ra_ap_intern.specs.Handle.{name_of, ref_name}
 use Rattle.ra_ap_intern.specs.Slices.{slice_name, slice_ref_name}
 use Rattle.ra_ap_intern.specs.Symbols.{Named, symbol_name}
 use Rattle.ra_ap_intern.specs.Symbols.Named.{preset, entry}
-use Rattle.intern_world.specs.declared.slot.Slot.{Slot}
-use Rattle.intern_world.specs.declared.slot.Slot.TheVariants as slot
+use Rattle.intern_calls.specs.declared.slot.Slot.{Slot}
+use Rattle.intern_calls.specs.declared.slot.Slot.TheVariants as slot
 
 -- the storage that a handle is for
 pub data Home : Type 0 where

@@ -14,20 +14,20 @@ use Rattle.ra_ap_intern.specs.State.{State, name_in, entry_at, reads, counts, co
 use Rattle.ra_ap_intern.specs.Symbols.{Named, symbol_name, symbol_in, due_symbol, due_of, at_entry, text_of, count_of}
 use Rattle.ra_ap_intern.specs.declared.gc.Collected.{Collected}
 use Rattle.ra_ap_intern.specs.declared.symbol.symbols.TheConstants as sym
-use Rattle.intern_world.specs.Held.{Home, Held, seen, held_at, same}
-use Rattle.intern_world.specs.Held.Home.{counted, values, slices}
-use Rattle.intern_world.specs.Held.Held.{nothing, owned, reference, symbol}
-use Rattle.intern_world.specs.World.{Kinds, WorldState, entries, swept}
-use Rattle.intern_world.specs.declared.call.Call.{Call}
-use Rattle.intern_world.specs.declared.call.Call.TheVariants as call
-use Rattle.intern_world.specs.declared.call.Kind.{Kind}
-use Rattle.intern_world.specs.declared.call.Kind.TheVariants as kind
-use Rattle.intern_world.specs.declared.call.Which.{Which}
-use Rattle.intern_world.specs.declared.call.Which.TheVariants as which
-use Rattle.intern_world.specs.declared.reply.Back.{Back}
-use Rattle.intern_world.specs.declared.reply.Back.TheVariants as back
-use Rattle.intern_world.specs.declared.reply.Reply.{Reply}
-use Rattle.intern_world.specs.declared.reply.Reply.TheVariants.{Made, Done, Number, Read, Truth, Count, Uint, Collected as Gathered, Refused, WrongSlot}
+use Rattle.intern_calls.specs.Held.{Home, Held, seen, held_at, same}
+use Rattle.intern_calls.specs.Held.Home.{counted, values, slices}
+use Rattle.intern_calls.specs.Held.Held.{nothing, owned, reference, symbol}
+use Rattle.intern_calls.specs.World.{Kinds, WorldState, entries, swept}
+use Rattle.intern_calls.specs.declared.call.Call.{Call}
+use Rattle.intern_calls.specs.declared.call.Call.TheVariants as call
+use Rattle.intern_calls.specs.declared.call.Kind.{Kind}
+use Rattle.intern_calls.specs.declared.call.Kind.TheVariants as kind
+use Rattle.intern_calls.specs.declared.call.Which.{Which}
+use Rattle.intern_calls.specs.declared.call.Which.TheVariants as which
+use Rattle.intern_calls.specs.declared.reply.Back.{Back}
+use Rattle.intern_calls.specs.declared.reply.Back.TheVariants as back
+use Rattle.intern_calls.specs.declared.reply.Reply.{Reply}
+use Rattle.intern_calls.specs.declared.reply.Reply.TheVariants.{Made, Done, Number, Read, Truth, Count, Uint, Collected as Gathered, Refused, WrongSlot}
 
 -- what a call answers, and the world after it
 pub record Answer (C G H I : Type 0) : Type 0 where

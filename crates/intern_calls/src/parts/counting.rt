@@ -1,9 +1,9 @@
 //! The calls that count handles.
 ghost use Rattle.std.specs.Prelude.{◌≡◌, ◌+◌, ◌<◌, ◌≤◌, true, false};
-ghost use Rattle.intern_world.specs.Answer.{refers, clones, owns, releases, decrements, done_or_refused};
-ghost use Rattle.intern_world.specs.Held.{held_at, is_symbol};
-ghost use Rattle.intern_world.specs.Parts.{world_of};
-ghost use Rattle.intern_world.specs.Step.{Says};
+ghost use Rattle.intern_calls.specs.Answer.{refers, clones, owns, releases, decrements, done_or_refused};
+ghost use Rattle.intern_calls.specs.Held.{held_at, is_symbol};
+ghost use Rattle.intern_calls.specs.Parts.{world_of};
+ghost use Rattle.intern_calls.specs.Step.{Says};
 
 use super::Parts;
 use super::making::{back_of_counted, back_of_value};

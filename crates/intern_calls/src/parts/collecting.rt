@@ -3,10 +3,10 @@ ghost use Rattle.std.specs.Prelude.{◌≡◌, ◌⊎◌, true, Some, IfOk, is_s
 ghost use Rattle.std.specs.List.{list_all, filter_map};
 ghost use Rattle.ra_ap_intern.specs.Families.{are_distinct};
 ghost use Rattle.ra_ap_intern.specs.Reach.{starts};
-ghost use Rattle.intern_world.specs.Parts.{world_of};
-ghost use Rattle.intern_world.specs.Run.{numbers_of};
-ghost use Rattle.intern_world.specs.Step.{Gathers, Keeps, Lacks, root_at};
-ghost use Rattle.intern_world.specs.World.{kinds_of, entries};
+ghost use Rattle.intern_calls.specs.Parts.{world_of};
+ghost use Rattle.intern_calls.specs.World.{numbers_of};
+ghost use Rattle.intern_calls.specs.Step.{Gathers, Keeps, Lacks, root_at};
+ghost use Rattle.intern_calls.specs.World.{kinds_of, entries};
 
 use super::Parts;
 use crate::reply::{Back, Reply};

@@ -9,17 +9,17 @@ use Rattle.ra_ap_intern.specs.Refusal.TheVariants.{OutOfMemory}
 use Rattle.ra_ap_intern.specs.Slices.{due_slice, is_new_slice}
 use Rattle.ra_ap_intern.specs.State.{is_new, due_interning, full, any_count}
 use Rattle.ra_ap_intern.specs.Symbols.{due_symbol, is_new_text}
-use Rattle.intern_world.specs.Answer.{Answer, answer, collects, tells}
-use Rattle.intern_world.specs.Held.{Held, held_at}
-use Rattle.intern_world.specs.Held.Home.{values, slices}
-use Rattle.intern_world.specs.Held.Held.{owned, reference}
-use Rattle.intern_world.specs.World.{Kinds, WorldState, entries}
-use Rattle.intern_world.specs.declared.call.Call.{Call}
-use Rattle.intern_world.specs.declared.call.Call.TheVariants as call
-use Rattle.intern_world.specs.declared.reply.Back.{Back}
-use Rattle.intern_world.specs.declared.reply.Back.TheVariants as back
-use Rattle.intern_world.specs.declared.reply.Reply.{Reply}
-use Rattle.intern_world.specs.declared.reply.Reply.TheVariants.{Refused, WrongSlot}
+use Rattle.intern_calls.specs.Answer.{Answer, answer, collects, tells}
+use Rattle.intern_calls.specs.Held.{Held, held_at}
+use Rattle.intern_calls.specs.Held.Home.{values, slices}
+use Rattle.intern_calls.specs.Held.Held.{owned, reference}
+use Rattle.intern_calls.specs.World.{Kinds, WorldState, entries}
+use Rattle.intern_calls.specs.declared.call.Call.{Call}
+use Rattle.intern_calls.specs.declared.call.Call.TheVariants as call
+use Rattle.intern_calls.specs.declared.reply.Back.{Back}
+use Rattle.intern_calls.specs.declared.reply.Back.TheVariants as back
+use Rattle.intern_calls.specs.declared.reply.Reply.{Reply}
+use Rattle.intern_calls.specs.declared.reply.Reply.TheVariants.{Refused, WrongSlot}
 
 module _ {C G H : Type 0} where
   -- what comes back of a call that wants memory: where nothing is due and it adds an entry

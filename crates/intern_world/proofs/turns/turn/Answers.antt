@@ -1,5 +1,5 @@
 use Rattle.intern_world.proofs.Along.{step_distinct}
-use Rattle.intern_world.proofs.parts.Parts.turn.Goals as goal
+use Rattle.intern_world.proofs.turns.turn.Goals as goal
 
 pub learn-requires : goal.learn-requires
 learn-requires g c =

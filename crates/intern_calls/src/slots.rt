@@ -1,8 +1,8 @@
 //! The list of slots.
 ghost use Rattle.std.specs.Prelude.{◌≡◌, ◌+◌, ◌<◌, ◌≤◌, [], ◌∷◌, ◌++◌, length, OnOk, if◌then◌else◌, slice_get, slice_set};
 ghost use Rattle.std.specs.Option.{option_map, unwrap_or};
-ghost use Rattle.intern_world.specs.Held.{seen, held_at, owner, is_owner};
-ghost use Rattle.intern_world.specs.Held.Held.{nothing};
+ghost use Rattle.intern_calls.specs.Held.{seen, held_at, owner, is_owner};
+ghost use Rattle.intern_calls.specs.Held.Held.{nothing};
 
 use crate::reply::{Back, Reply};
 use crate::slot::Slot;
@@ -18,7 +18,7 @@ pub struct Slots<C, G, S> {
 
 impl<C, G, S> Model for Slots<C, G, S> {
     ghost use Rattle.std.specs.Prelude.{◌-◌, map, vec_len, vec_capacity};
-    ghost use Rattle.intern_world.specs.Held.{SlotList, seen};
+    ghost use Rattle.intern_calls.specs.Held.{SlotList, seen};
 
     ghost Value = { SlotList };
 
