@@ -10,7 +10,7 @@ use Rattle.std.proofs.lemmas.Grind.{common_steps}
 use Rattle.ra_ap_intern.specs.Kept.{Kept}
 use Rattle.ra_ap_intern.specs.State.{State, entry_at, with_count, counted_up, counted_down, taken, kept, added, or_added, interned, birth_of, is_last, released}
 
-tied : (q k : ℕ) → eq_by_cmp nat_cmp q k ≡ nat_eq q k
+pub tied : (q k : ℕ) → eq_by_cmp nat_cmp q k ≡ nat_eq q k
 tied q k = grind (arith, common_steps)
 
 module _ {V : Type 0} where
@@ -43,10 +43,22 @@ module _ {V : Type 0} where
   }
 
   -- what is written at a birth
-  written : (s : State V) (c b : ℕ) (k : Kept V) → map.get (map.insert s.map c k) b
+  pub written : (s : State V) (c b : ℕ) (k : Kept V) → map.get (map.insert s.map c k) b
       ≡ cond (nat_eq b c) (Some k) (map.get s.map b)
   written s c b k =
       get-insert nat_cmp_total s.map c k b ∙ ap (λ t. cond t (Some k) (map.get s.map b)) (tied b c)
+
+  -- or with that birth taken out
+  pub removed : (s : State V) (c b : ℕ) → map.get (map.remove s.map c) b
+      ≡ cond (nat_eq b c) None (map.get s.map b)
+  removed s c b =
+      get-remove nat_cmp_total s.map c b ∙ ap (λ t. cond t None (map.get s.map b)) (tied b c)
+
+  -- or with the marked births alone
+  pub retained : (s : State V) (marked : ℕ → Bool) (b : ℕ)
+      → map.get (map.retain_keys s.map marked) b ≡ cond (marked b) (map.get s.map b) None
+  retained s marked b = get-retain_keys s.map marked b
+      (λ x e. ap marked (sym (nat_cmp-IsAntisymmetric b x e)))
 
   recounted_later : (f : ℕ → ℕ) (s : State V) (c : ℕ) → Later s (with_count f s c (entry_at s c))
   recounted_later f s c = go (entry_at s c) refl
@@ -78,7 +90,7 @@ module _ {V : Type 0} where
   taken_later s c = record {
     number = refl;
     births = omega arith;
-    values = λ b h. rw (get-remove nat_cmp_total s.map c b) (either b (eq_by_cmp nat_cmp b c));
+    values = λ b h. rw (removed s c b) (either b (nat_eq b c));
   }
     where
       either : (b : ℕ) (t : Bool)
@@ -91,14 +103,9 @@ module _ {V : Type 0} where
   kept_later s marked = record {
     number = refl;
     births = omega arith;
-    values = λ b h. rw (is b) (either b (marked b));
+    values = λ b h. rw (retained s marked b) (either b (marked b));
   }
     where
-      is : (b : ℕ) → map.get (map.retain_keys s.map marked) b
-          ≡ cond (marked b) (map.get s.map b) None
-      is b = get-retain_keys s.map marked b
-          (λ x e. ap marked (sym (nat_cmp-IsAntisymmetric b x e)))
-
       either : (b : ℕ) (t : Bool)
           → (option_map (λ (e : Kept V). e.value) (cond t (map.get s.map b) None) ≡ value_at s b)
           ⊎ (option_map (λ (e : Kept V). e.value) (cond t (map.get s.map b) None) ≡ None)

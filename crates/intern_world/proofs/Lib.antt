@@ -1,5 +1,8 @@
 pub mod Along
+pub mod Counts
 pub mod Later
+pub mod Ledger
 pub mod Runs
 pub mod Steps
+pub mod Swept
 pub mod Worlds

@@ -1,7 +1,10 @@
 -- A run goes on by a step.
 use Rattle.std.proofs.Common.{◌≡◌, List, [], ◌∷◌, ◌++◌, refl, sym, ap, ◌∙◌}
+use Rattle.std.specs.List.{All, AllPairs}
 use Rattle.std.proofs.lemmas.List.{map-append}
-use Rattle.intern_world.specs.Run.{Turn, IsWorld, IsRun, Runs}
+use Rattle.intern_world.specs.Along.{TellsApart, KeepsNames, Collects, RunsAlong}
+use Rattle.intern_world.specs.Ledger.{Balances}
+use Rattle.intern_world.specs.Run.{Turn, IsWorld, IsRun, Runs, worlds}
 use Rattle.intern_calls.specs.Step.{Step}
 use Rattle.intern_calls.specs.World.{Kinds, WorldState}
 use Rattle.intern_calls.specs.declared.call.Call.{Call}
@@ -42,3 +45,24 @@ module _ {C G S H I : Type 0} (kinds : Kinds C G H I) (w : WorldState C G H I) w
       → IsRun kinds start ts end → IsWorld kinds end
   last_world [] start end run = rw (sym run.0) run.1
   last_world (t ∷ ts) start end run = last_world ts t.after end run.3
+
+  -- a run, with what holds along each run
+  pub along : (cs : List (Call C G S H I)) (rs : List (Reply C G H)) (end : WorldState C G H I)
+      → ((x last : WorldState C G H I) (ts : List (Turn C G S H I)) → IsRun kinds x ts last
+      → All (TellsApart kinds) (worlds x ts))
+      → ((x last : WorldState C G H I) (ts : List (Turn C G S H I)) → IsRun kinds x ts last
+      → AllPairs KeepsNames (worlds x ts))
+      → ((x last : WorldState C G H I) (ts : List (Turn C G S H I)) → IsRun kinds x ts last
+      → (done rest : List (Turn C G S H I)) → ts ≡ done ++ rest → Balances x done)
+      → ((x last : WorldState C G H I) (ts : List (Turn C G S H I)) → IsRun kinds x ts last
+      → All (Collects kinds) ts)
+      → Runs kinds w cs rs end → RunsAlong kinds w cs rs end
+  along cs rs end tells keeps counts collects run = record {
+    run = run;
+    holds = record {
+      tells = tells w end run.turns run.run;
+      keeps = keeps w end run.turns run.run;
+      counts = counts w end run.turns run.run;
+      collects = collects w end run.turns run.run;
+    };
+  }

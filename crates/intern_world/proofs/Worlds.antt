@@ -1,21 +1,26 @@
 -- What holds at each world of a run, and at each later one.
-use Rattle.std.proofs.Common.{◌≡◌, inl, inr, ℕ, ◌<◌, Bool, true, false, cond, ◌==◌, List, [], ◌∷◌, Option, Some, None, refl, sym, ap, ◌∙◌, arith}
+use Rattle.std.proofs.Common.{◌≡◌, inl, inr, ℕ, ◌-◌, ◌<◌, ◌≤◌, Bool, true, false, cond, ◌==◌, List, [], ◌∷◌, length, Option, Some, None, refl, sym, ap, ◌∙◌, arith}
 use Rattle.std.specs.List.{All, AllPairs}
 use Rattle.std.specs.Option.{option_map}
 use Rattle.std.specs.Str.{bytes_eq}
 use Rattle.std.proofs.lemmas.List.Elements.{All-nil, All-cons}
 use Rattle.std.proofs.lemmas.List.Kept.{AllPairs-cons}
+use Rattle.std.proofs.lemmas.List.Sums.{length-filter, count_by-le-length}
+use Rattle.ra_ap_intern.specs.Collector.{has}
+use Rattle.ra_ap_intern.specs.Families.{IsCollection}
 use Rattle.ra_ap_intern.specs.Kept.{Kept}
 use Rattle.ra_ap_intern.specs.Name.{Name}
+use Rattle.ra_ap_intern.specs.Reach.{Entry, starts, kept_entries}
 use Rattle.ra_ap_intern.specs.State.{State, IsState, entry_at, reads}
 use Rattle.ra_ap_intern.specs.Symbols.{IsTable}
-use Rattle.intern_world.specs.Along.{TellsValues, TellsTexts, TellsApart, KeepsReading, KeepsNames, HoldsAlong, IsCollection, Collects}
+use Rattle.intern_world.specs.Along.{TellsValues, TellsTexts, TellsApart, KeepsReading, KeepsNames, Collects}
+use Rattle.intern_calls.specs.Answer.{told as tells_of}
 use Rattle.intern_world.specs.Run.{Turn, IsWorld, IsRun, worlds}
 use Rattle.intern_calls.specs.Step.{Step}
 use Rattle.intern_calls.specs.declared.call.Call.{Call}
 use Rattle.intern_calls.specs.declared.call.Call.TheVariants as call
 use Rattle.intern_calls.specs.declared.reply.Reply.TheVariants.{Collected as Gathered}
-use Rattle.intern_calls.specs.World.{Kinds, WorldState}
+use Rattle.intern_calls.specs.World.{Kinds, WorldState, entries, swept}
 use Rattle.intern_world.proofs.Along.{Laters, laters, step_later}
 use Rattle.intern_world.proofs.Later.{Later, value_at}
 
@@ -68,6 +73,14 @@ module _ {C G H I : Type 0} (kinds : Kinds C G H I) where
     table = later_keeps bytes_eq w.table x.table ok.table l.table;
   }
 
+-- no more are kept than there are
+fewer_kept : (family : List Entry) (names : List Name)
+    → length (kept_entries family names) ≤ length family
+fewer_kept family names =
+    let kept = length-filter (λ (e : Entry). has names e.name) family in
+    let fewer = count_by-le-length (λ (e : Entry). has names e.name) family in
+    omega arith
+
 module _ {C G S H I : Type 0} (kinds : Kinds C G H I) where
   all_worlds : (P : WorldState C G H I → Type 0) → ((x : WorldState C G H I) → IsWorld kinds x → P x)
       → (ts : List (Turn C G S H I)) (w end : WorldState C G H I) → IsRun kinds w ts end
@@ -88,7 +101,7 @@ module _ {C G S H I : Type 0} (kinds : Kinds C G H I) where
       (laters w x t.after l (rw run.0 (step_later kinds t.before t.call t.reply t.after run.2)))
       run.3)
 
-  all_keep : (ts : List (Turn C G S H I)) (w end : WorldState C G H I) → IsRun kinds w ts end
+  pub all_keep : (ts : List (Turn C G S H I)) (w end : WorldState C G H I) → IsRun kinds w ts end
       → AllPairs KeepsNames (worlds w ts)
   all_keep [] w end run =
       AllPairs-cons KeepsNames w [] (All-nil (KeepsNames w)) (λ i j d lt below. absurd (omega arith))
@@ -103,39 +116,43 @@ module _ {C G S H I : Type 0} (kinds : Kinds C G H I) where
   collects_by t step told is reply = go t.call is step
     where
       go : (c : Call C G S H I) → c ≡ call.Collect → Step kinds t.before c t.reply t.after
-          → IsCollection kinds t.before told t.after
+          → (names : List Name)
+          × IsCollection (starts (entries kinds t.before)) (entries kinds t.before) names told
+          × (t.after ≡ swept t.before names)
       go call.Collect same (inl a) =
-          let says : Gathered told ≡ _ = sym reply ∙ a.says.reply_is in
-          record {
-            names = a.names;
-            reached = a.reached;
-            visits = let e = says in cc;
-            mark_calls = let e = says in cc;
-            left = a.says.after_is;
-          }
+          let family = entries kinds t.before in
+          let says : Gathered told ≡ Gathered (tells_of family a.names) =
+          sym reply ∙ a.says.reply_is in
+          let removed : told.removed ≡ length family - length (kept_entries family a.names) = cc in
+          let fewer = fewer_kept family a.names in (
+            a.names,
+            record {
+              reached = a.reached;
+              visits = let e = says in cc;
+              mark_calls = let e = says in cc;
+              removed = omega arith;
+            },
+            a.says.after_is,
+          )
       go call.Collect same (inr l) = let e = sym reply ∙ l.reply_is in absurd (cc)
       go _ same step = absurd (cc)
 
-  all_collect : (ts : List (Turn C G S H I)) (w end : WorldState C G H I) → IsRun kinds w ts end
-      → All (Collects kinds) ts
+  pub all_collect : (ts : List (Turn C G S H I)) (w end : WorldState C G H I)
+      → IsRun kinds w ts end → All (Collects kinds) ts
   all_collect [] w end run = All-nil (Collects kinds)
   all_collect (t ∷ ts) w end run = All-cons (Collects kinds) t ts (collects_by t run.2)
       (all_collect ts t.after end run.3)
 
-  pub holds_along :
+  pub all_tell :
       ((s : State C) → IsState kinds.counted_eq s → TellsValues kinds.counted_eq s)
       → ((s : State G) → IsState kinds.value_eq s → TellsValues kinds.value_eq s)
       → ((s : State _) → IsState kinds.slice_eq s → TellsValues kinds.slice_eq s)
       → ((s : State (List ℕ)) → IsState bytes_eq s → IsTable s → TellsTexts s)
       → (ts : List (Turn C G S H I)) (w end : WorldState C G H I) → IsRun kinds w ts end
-      → HoldsAlong kinds w ts
-  holds_along counted values slices texts ts w end run = record {
-    tells = all_worlds (TellsApart kinds) (λ x ok. record {
-      counted = counted x.counted ok.counted;
-      values = values x.values ok.values;
-      slices = slices x.slices ok.slices;
-      symbols = texts x.table ok.table ok.texts;
-    }) ts w end run;
-    keeps = all_keep ts w end run;
-    collects = all_collect ts w end run;
-  }
+      → All (TellsApart kinds) (worlds w ts)
+  all_tell counted values slices texts = all_worlds (TellsApart kinds) (λ x ok. record {
+    counted = counted x.counted ok.counted;
+    values = values x.values ok.values;
+    slices = slices x.slices ok.slices;
+    symbols = texts x.table ok.table ok.texts;
+  })

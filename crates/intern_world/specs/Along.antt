@@ -1,10 +1,12 @@
 -- What holds along a run.
-use Rattle.std.specs.Prelude.{◌≡◌, ◌↔◌, ◌⊎◌, ℕ, ◌<◌, ◌≤◌, Bool, true, List, length, Some, None}
+use Rattle.std.specs.Prelude.{◌≡◌, ◌↔◌, ◌⊎◌, ℕ, ◌<◌, ◌≤◌, Bool, true, List, ◌++◌, Some, None}
 use Rattle.std.specs.List.{All, AllPairs}
+use Rattle.ra_ap_intern.specs.Families.{IsCollection}
 use Rattle.ra_ap_intern.specs.Name.{Name}
-use Rattle.ra_ap_intern.specs.Reach.{IsReachedSet, starts, calls_of}
+use Rattle.ra_ap_intern.specs.Reach.{starts}
 use Rattle.ra_ap_intern.specs.State.{State, reads}
 use Rattle.ra_ap_intern.specs.Symbols.{Named, text_of}
+use Rattle.intern_world.specs.Ledger.{Balances}
 use Rattle.intern_world.specs.Run.{Turn, worlds, Runs}
 use Rattle.intern_calls.specs.World.{Kinds, WorldState, entries, swept}
 use Rattle.intern_calls.specs.declared.call.Call.{Call}
@@ -48,29 +50,22 @@ module _ {C G H I : Type 0} where
     pub slices : KeepsReading w.slices later.slices
     pub table : KeepsReading w.table later.table
 
-module _ {C G H I : Type 0} where
-  -- a collection leaves what paths reach from counted entries, and visits each of these once
-  pub record IsCollection (kinds : Kinds C G H I) (w : WorldState C G H I) (told : Collected)
-      (after : WorldState C G H I) : Type 0
-    where
-      pub names : List Name
-      pub reached : IsReachedSet (starts (entries kinds w)) (entries kinds w) names
-      pub visits : told.visits ≡ length names
-      pub mark_calls : told.mark_calls ≡ calls_of (entries kinds w) names
-      pub left : after ≡ swept w names
-
 module _ {C G S H I : Type 0} where
-  -- where a turn is a collection that succeeds
+  -- where a turn is a collection that succeeds, it leaves what paths reach from counted entries
   abbrev pub Collects : Kinds C G H I → Turn C G S H I → Type 0
   Collects kinds t = (told : Collected) → t.call ≡ call.Collect → t.reply ≡ Gathered told
-      → IsCollection kinds t.before told t.after
+      → (names : List Name)
+      × IsCollection (starts (entries kinds t.before)) (entries kinds t.before) names told
+      × (t.after ≡ swept t.before names)
 
-  -- at each world, and at each world and each later one
+  -- at each world, and at each world and each later one; and after any of its turns each count is
+  -- what it was, and what the turns before added less what they took
   pub record HoldsAlong (kinds : Kinds C G H I) (w : WorldState C G H I)
       (ts : List (Turn C G S H I)) : Type 0
     where
       pub tells : All (TellsApart kinds) (worlds w ts)
       pub keeps : AllPairs KeepsNames (worlds w ts)
+      pub counts : (done rest : List (Turn C G S H I)) → ts ≡ done ++ rest → Balances w done
       pub collects : All (Collects kinds) ts
 
   -- these replies to these calls are those of a run, along which this holds

@@ -1,15 +1,16 @@
 //! Laws of runs, each the contract of a function that does nothing.
-ghost use Rattle.std.specs.Prelude.{List};
-ghost use Rattle.intern_world.specs.Along.{HoldsAlong};
-ghost use Rattle.intern_world.specs.Run.{Turn, IsRun};
+ghost use Rattle.std.specs.Prelude.{◌≡◌, List, ◌++◌};
+ghost use Rattle.std.specs.List.{All, AllPairs};
+ghost use Rattle.intern_world.specs.Along.{TellsApart, KeepsNames, Collects};
+ghost use Rattle.intern_world.specs.Ledger.{Balances};
+ghost use Rattle.intern_world.specs.Run.{Turn, IsRun, worlds};
 ghost use Rattle.intern_calls.specs.World.{WorldState, kinds_of};
 
 use ra_ap_intern::{GcInternedSliceVisit, GcInternedVisit, Internable, laws};
 
 /// At each world of a run handles of one kind that read something in their storage are equal
-/// exactly if the values are, and symbols that can be read exactly if their texts are. At each
-/// later world a name reads what it read, or nothing; and what is gone stays gone.
-pub fn names_hold_along_runs<
+/// exactly if the values are, and symbols that can be read exactly if their texts are.
+pub fn handles_tell_values_along_runs<
     C: Internable,
     G: Internable + GcInternedVisit,
     S: GcInternedSliceVisit,
@@ -18,10 +19,49 @@ pub fn names_hold_along_runs<
         S.header_children S.slice_children in
         (w end : WorldState C G S.Header S.SliceType)
         (turns : List (Turn C G S S.Header S.SliceType)) →
-        IsRun kinds w turns end → HoldsAlong kinds w turns }
+        IsRun kinds w turns end → All (TellsApart kinds) (worlds w turns) }
 {
     laws::names_tell_values::<C>();
     laws::names_tell_values::<G>();
     laws::names_tell_slices::<S>();
     laws::symbols_tell_texts();
 }
+
+/// At each later world of a run a name reads what it read, or nothing; and what is gone stays
+/// gone.
+pub fn names_keep_what_they_read<
+    C: Internable,
+    G: Internable + GcInternedVisit,
+    S: GcInternedSliceVisit,
+>()
+    ensures { let kinds = kinds_of C.eq G.eq S.Header.eq S.SliceType.eq G.children
+        S.header_children S.slice_children in
+        (w end : WorldState C G S.Header S.SliceType)
+        (turns : List (Turn C G S S.Header S.SliceType)) →
+        IsRun kinds w turns end → AllPairs KeepsNames (worlds w turns) }
+{}
+
+/// After any turns of a run each entry's count is what it was, and what the turns added, less what
+/// they took.
+pub fn counts_balance<C: Internable, G: Internable + GcInternedVisit, S: GcInternedSliceVisit>()
+    ensures { let kinds = kinds_of C.eq G.eq S.Header.eq S.SliceType.eq G.children
+        S.header_children S.slice_children in
+        (w end : WorldState C G S.Header S.SliceType)
+        (turns : List (Turn C G S S.Header S.SliceType)) → IsRun kinds w turns end →
+        (done rest : List (Turn C G S S.Header S.SliceType)) →
+        turns ≡ done ++ rest → Balances w done }
+{}
+
+/// Each collection of a run that succeeds leaves what paths reach from counted entries, visits each
+/// of these once, and tells how many it removed.
+pub fn collections_leave_what_is_reached<
+    C: Internable,
+    G: Internable + GcInternedVisit,
+    S: GcInternedSliceVisit,
+>()
+    ensures { let kinds = kinds_of C.eq G.eq S.Header.eq S.SliceType.eq G.children
+        S.header_children S.slice_children in
+        (w end : WorldState C G S.Header S.SliceType)
+        (turns : List (Turn C G S S.Header S.SliceType)) →
+        IsRun kinds w turns end → All (Collects kinds) turns }
+{}

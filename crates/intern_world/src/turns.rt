@@ -9,7 +9,10 @@ ghost use Rattle.intern_world.specs.Along.{RunsAlong};
 ghost use Rattle.intern_world.specs.Run.{IsWorld};
 ghost use Rattle.intern_calls.specs.World.{numbers_of};
 
-use crate::laws::names_hold_along_runs;
+use crate::laws::{
+    collections_leave_what_is_reached, counts_balance, handles_tell_values_along_runs,
+    names_keep_what_they_read,
+};
 use intern_calls::{Back, Call, Parts, Reply, Slot};
 use ra_ap_intern::{
     GcInternedSliceVisit, GcInternedVisit, Internable, SliceInternable, Symbol,
@@ -125,7 +128,10 @@ where
         RunsAlong kinds (world_of parts.old) calls.items replies.new.items
         (world_of parts.new) }
 {
-    names_hold_along_runs::<C, G, S>();
+    handles_tell_values_along_runs::<C, G, S>();
+    names_keep_what_they_read::<C, G, S>();
+    counts_balance::<C, G, S>();
+    collections_leave_what_is_reached::<C, G, S>();
     learn(parts);
     for call in calls {
         let reply = turn(parts, call);

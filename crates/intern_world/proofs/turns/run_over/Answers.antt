@@ -1,7 +1,7 @@
 use Rattle.std.proofs.Common.{◌≡◌, List, [], ◌∷◌, ◌++◌, ap, sym, ◌∙◌, append_assoc, arith}
 use Rattle.std.proofs.lemmas.List.{append-nil, nil_from_length}
 use Rattle.std.specs.Vec.Iter.{into_iter_items}
-use Rattle.intern_world.proofs.Runs.{no_run, one_more}
+use Rattle.intern_world.proofs.Runs.{no_run, one_more, along}
 use Rattle.intern_calls.specs.declared.call.Call.{Call}
 use Rattle.intern_world.proofs.turns.run_over.Goals as goal
 
@@ -36,5 +36,6 @@ returns-clause-run g c =
     sym (append-nil c.loop-call.yielded)
     ∙ ap (λ (t : List (Call _ _ _ _ _)). c.loop-call.yielded ++ t) (sym none)
     ∙ c.loop-call.invariant.left in
-    let run = rw all at c.loop-call.invariant.run in
-    record { run = run; holds = c.names_hold_along_runs.ensures _ _ _ run.run }
+    along _ _ _ _ _ c.handles_tell_values_along_runs.ensures c.names_keep_what_they_read.ensures
+    c.counts_balance.ensures c.collections_leave_what_is_reached.ensures
+    (rw all at c.loop-call.invariant.run)

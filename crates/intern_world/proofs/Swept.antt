@@ -1,0 +1,80 @@
+-- A collection leaves each counted entry.
+use Rattle.std.proofs.Common.{◌≡◌, ℕ, ◌<◌, Bool, true, false, cond, not, ◌==◌, ◌||◌, List, [], ◌∷◌, ◌++◌, Some, None, refl, sym, ap, ◌∙◌, arith}
+use Rattle.std.specs.Option.{option_map, option_or}
+use Rattle.std.proofs.lemmas.Bool.{and_parts, eq-eqb, eqb-true, ne_eqb}
+use Rattle.ra_ap_intern.specs.Collector.{has}
+use Rattle.ra_ap_intern.specs.Families.{entries_of, has_number}
+use Rattle.ra_ap_intern.specs.Kept.{Kept}
+use Rattle.ra_ap_intern.specs.Name.{Name}
+use Rattle.ra_ap_intern.specs.PairLaws.{entry_either}
+use Rattle.ra_ap_intern.specs.Reach.{Entry, entry_of, is_counted, counted_entry, starts, IsReachedSet}
+use Rattle.ra_ap_intern.specs.State.{State, entry_at}
+use Rattle.ra_ap_intern.specs.StorageLaws.{as_entry, entry_named}
+use Rattle.intern_world.specs.Ledger.{count_in_part}
+use Rattle.intern_world.specs.Run.{IsWorld}
+use Rattle.intern_calls.specs.World.{Kinds, WorldState, entries, swept}
+use Rattle.intern_calls.specs.declared.call.Which.{Which}
+use Rattle.intern_calls.specs.declared.call.Which.TheVariants as which
+use Rattle.intern_world.proofs.Counts.{kept_counts}
+
+is_more : (c : ℕ) → 0 < c → is_counted c ≡ true
+is_more c some = ap not (ne_eqb c 0 (λ same. absurd (omega arith)))
+
+-- the entry of a name is the first list's, or the second's
+in_first : (xs ys : List Entry) (n : Name) (e : Entry) → entry_of xs n ≡ Some e
+    → is_counted e.count ≡ true → starts (xs ++ ys) n ≡ true
+in_first xs ys n e there some =
+    ap counted_entry (entry_either xs ys n ∙ ap (λ o. option_or o (entry_of ys n)) there) ∙ some
+
+in_second : (xs ys : List Entry) (n : Name) (e : Entry) → entry_of xs n ≡ None
+    → entry_of ys n ≡ Some e → is_counted e.count ≡ true → starts (xs ++ ys) n ≡ true
+in_second xs ys n e none there some =
+    ap counted_entry (entry_either xs ys n ∙ ap (λ o. option_or o (entry_of ys n)) none ∙ there)
+    ∙ some
+
+module _ {V : Type 0} (children : V → List Name) (s : State V) (n : Name) where
+  -- as a collection sees it
+  seen_there : (k : Kept V) → n.storage ≡ s.number → entry_at s n.birth ≡ Some k
+      → entry_of (entries_of children s) n ≡ Some (as_entry children s n.birth k)
+  seen_there k home at =
+      entry_named children s n
+      ∙ ap (λ t. cond t (option_map (as_entry children s n.birth) (entry_at s n.birth)) None)
+      (eq-eqb n.storage s.number home)
+      ∙ ap (option_map (as_entry children s n.birth)) at
+
+  seen_elsewhere : (n.storage == s.number) ≡ false → entry_of (entries_of children s) n ≡ None
+  seen_elsewhere foreign =
+      entry_named children s n
+      ∙ ap (λ t. cond t (option_map (as_entry children s n.birth) (entry_at s n.birth)) None)
+      foreign
+
+module _ {C G H I : Type 0} where
+  pub swept_counts : (kinds : Kinds C G H I) (w : WorldState C G H I) (names : List Name)
+      → IsWorld kinds w → IsReachedSet (starts (entries kinds w)) (entries kinds w) names
+      → (part : Which) (n : Name) → count_in_part (swept w names) part n ≡ count_in_part w part n
+  swept_counts kinds w names ok set part n = go part
+    where
+      begins : starts (entries kinds w) n ≡ true → has names n ≡ true
+      begins is = (set.reached n).1 ([], is)
+
+      foreign : n.storage ≡ w.slices.number → (t : Bool) → (n.storage == w.values.number) ≡ t
+          → t ≡ false
+      foreign home false is = refl
+      foreign home true is =
+          let same : w.values.number ≡ w.slices.number =
+          sym (eqb-true n.storage w.values.number is) ∙ home in
+          let test = eq-eqb w.values.number w.slices.number same in
+          let apart = (and_parts _ _ (and_parts _ _ ok.distinct).1).0 in
+          sym apart
+          ∙ ap (λ t. not (t || has_number (w.table.number ∷ []) w.values.number)) test
+
+      go : (p : Which) → count_in_part (swept w names) p n ≡ count_in_part w p n
+      go which.Counted = refl
+      go which.Values = kept_counts w.values (has names) n
+          (λ k home at some. begins (in_first _ _ n _
+          (seen_there kinds.value_children w.values n k home at) (is_more k.count some)))
+      go which.Slices = kept_counts w.slices (has names) n
+          (λ k home at some. begins (in_second _ _ n _
+          (seen_elsewhere kinds.value_children w.values n (foreign home _ refl))
+          (seen_there kinds.slice_children w.slices n k home at) (is_more k.count some)))
+      go which.Symbols = refl
