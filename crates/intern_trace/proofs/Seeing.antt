@@ -1,11 +1,14 @@
 -- What the steps of a tracer do to what is seen of it.
-use Rattle.std.proofs.Common.{ℕ, ◌≡◌, ◌+◌, ◌≤◌, Bool, true, false, not, ◌&&◌, ◌||◌, nat_eq, if◌then◌else◌, Option, Some, None, IfSome, IfNone, List, [], ◌∷◌, ◌++◌, refl, sym, ◌∙◌, ap, inl, inr, arith, length-append, option_and_then, is_some}
-use Rattle.std.specs.List.{IsDistinct, AllByRecursion, list_any}
+use Rattle.std.proofs.Common.{ℕ, ◌≡◌, ◌+◌, ◌≤◌, Bool, true, false, not, ◌&&◌, ◌||◌, nat_eq, if◌then◌else◌, Option, Some, None, IfSome, IfNone, List, [], ◌∷◌, ◌++◌, length, drop, refl, sym, ◌∙◌, ap, inl, inr, arith, length-append, drop-cons, add-one, option_and_then, is_some}
+use Rattle.std.specs.List.{IsDistinct, AllByRecursion, list_any, slice_get}
 use Rattle.std.specs.Option.{option_map}
 use Rattle.std.proofs.lemmas.Bool.{cases_Bool, or_cases, or_left, or_right, eqb-true, eq-eqb, false_from_ne_true, true≢false, not-true}
 use Rattle.std.proofs.lemmas.Cmp.{nat_eq_equiv}
 use Rattle.std.proofs.lemmas.Map.Keys.{IsDistinct-push}
+use Rattle.std.proofs.Math.ListN.{drop_of_length-le}
+use Rattle.std.proofs.lemmas.List.{drop-append-le}
 use Rattle.std.proofs.lemmas.List.Folds.{list_any-append}
+use Rattle.std.proofs.lemmas.Option.{slice_get_within, slice_get_cases, get_or_from_slice_get}
 use Rattle.intern_store.specs.declared.names.Name.{Name}
 use Rattle.intern_store.specs.declared.names.EntryKey.{EntryKey}
 use Rattle.intern_registry.specs.Registry.{Names, Registered, marks_in, flags_in, same_name, with_flags, marked_flags, with_mark, is_unmarked, IsRegistry}
@@ -73,18 +76,15 @@ module _ (r : Names) (slots : List ℕ) (visits calls : ℕ) (i : ℕ) (x : Name
     calls = calls;
   }
 
--- where a list has no element twice, the last isn't among those before it
-before_last : (x : ℕ) (xs : List ℕ) (i : ℕ) → AllByRecursion (λ y. nat_eq x y ≡ false) (xs ++ i ∷ []) → AllByRecursion (λ y. nat_eq x y ≡ false) xs × (nat_eq x i ≡ false)
-before_last x [] i all = (tt, all.0)
-before_last x (y ∷ ys) i all = let rest = before_last x ys i all.1 in ((all.0, rest.0), rest.1)
+-- what differs from each element is none of them
+none_among : (i : ℕ) (xs : List ℕ) → AllByRecursion (λ y. nat_eq i y ≡ false) xs → list_any (nat_eq i) xs ≡ false
+none_among i [] all = refl
+none_among i (x ∷ xs) all = λ j. all.0 j || none_among i xs all.1 j
 
-pub last_once : (xs : List ℕ) (i : ℕ) → IsDistinct nat_eq (xs ++ i ∷ []) → IsDistinct nat_eq xs × (list_any (nat_eq i) xs ≡ false)
+-- where a list has no element twice, the first isn't among those after it
+first_once : (i : ℕ) (xs : List ℕ) → IsDistinct nat_eq (i ∷ xs) → IsDistinct nat_eq xs × (list_any (nat_eq i) xs ≡ false)
 unfolding IsDistinct
-last_once [] i d = (tt, refl)
-last_once (x ∷ xs) i d =
-    let head = before_last x xs i d.0 in
-    let tail = last_once xs i d.1 in
-    ((head.0, tail.0), (λ j. (nat_eq_equiv.symm i x ∙ head.1) j || tail.1 j))
+first_once i xs d = (d.1, none_among i xs d.0)
 
 -- a slot that isn't listed has a name that no listed slot has
 pub not_pending : (r : Names) → IsRegistry r → (slots : List ℕ) (i : ℕ) (x : Name) → r.name_at i ≡ Some x → list_any (nat_eq i) slots ≡ false → is_pending r slots x ≡ false
@@ -106,10 +106,10 @@ not_pending r is (k ∷ slots) i x here out =
         let is_it : i ≡ k = is.apart i k x here (at ∙ ap Some (sym (names_same x z same))) in
         true≢false (sym (eq-eqb i k is_it) ∙ first (nat_eq i k) (list_any (nat_eq i) slots) out))
 
--- the last slot is taken: its name is pending no longer
-pub popped_seen : (r : Names) → IsRegistry r → (slots : List ℕ) (visits calls i : ℕ) (x : Name) → r.name_at i ≡ Some x
-    → IsDistinct nat_eq (slots ++ i ∷ []) → seen r slots (visits + 1) calls ≡ begun (seen r (slots ++ i ∷ []) visits calls) x
-popped_seen r is slots visits calls i x here once = λ j. record {
+-- the first slot is taken: its name is pending no longer
+pub taken_seen : (r : Names) → IsRegistry r → (slots : List ℕ) (visits calls i : ℕ) (x : Name) → r.name_at i ≡ Some x
+    → IsDistinct nat_eq (i ∷ slots) → seen r slots (visits + 1) calls ≡ begun (seen r (i ∷ slots) visits calls) x
+taken_seen r is slots visits calls i x here once = λ j. record {
   registered = λ y. counted_flag (r.flags y);
   size = r.size;
   marked = λ y. is_marked_in (r.flags y);
@@ -118,13 +118,13 @@ popped_seen r is slots visits calls i x here once = λ j. record {
   calls = calls;
 }
   where
-    less : (y : Name) → is_pending r slots y ≡ without x (is_pending r (slots ++ i ∷ [])) y
+    less : (y : Name) → is_pending r slots y ≡ without x (is_pending r (i ∷ slots)) y
     less y =
         elim (cases_Bool (same_name y x)) [
-          | inl same ↦ ap (is_pending r slots) (names_same y x same) ∙ not_pending r is slots i x here (last_once slots i once).1
-              ∙ sym (ap (λ b. not b && is_pending r (slots ++ i ∷ []) y) same)
-          | inr other ↦ sym (ap (λ b. not b && is_pending r (slots ++ i ∷ []) y) other ∙ pending_more r slots i x here y
-              ∙ ap (λ b. is_pending r slots y || b) other ∙ or_false (is_pending r slots y))
+          | inl same ↦ ap (is_pending r slots) (names_same y x same) ∙ not_pending r is slots i x here (first_once i slots once).1
+              ∙ sym (ap (λ b. not b && is_pending r (i ∷ slots) y) same)
+          | inr other ↦ sym (ap (λ b. not b && is_pending r (i ∷ slots) y) other ∙ ap (λ (o : Option Name). is_named o y || is_pending r slots y) here
+              ∙ ap (λ b. b || is_pending r slots y) other)
         ]
 
 -- the name of a slot whose flags have no mark
@@ -171,13 +171,30 @@ module _ (r : Names) (slots : List ℕ) (visits capacity : ℕ) (kept : IsSeen r
     room = kept.room;
   }
 
-pub popped_kept : (r : Names) (slots : List ℕ) (visits capacity i : ℕ) → IsSeen r (slots ++ i ∷ []) visits capacity → IsSeen r slots (visits + 1) capacity
-popped_kept r slots visits capacity i kept = record {
-  named = λ k among. kept.named k (list_any-append _ slots (i ∷ []) ∙ or_left (list_any (nat_eq k) slots) _ among);
-  once = (last_once slots i kept.once).0;
-  many = let more = length-append slots (i ∷ []) in omega (arith, kept.many);
+pub taken_kept : (r : Names) (slots : List ℕ) (visits capacity i : ℕ) → IsSeen r (i ∷ slots) visits capacity → IsSeen r slots (visits + 1) capacity
+taken_kept r slots visits capacity i kept = record {
+  named = λ k among. kept.named k (or_right (nat_eq k i) _ among);
+  once = (first_once i slots kept.once).0;
+  many = omega (arith, kept.many);
   room = kept.room;
 }
+
+-- a slot that is pushed comes after those that are still to be visited
+pub pushed_after : (xs ys : List ℕ) (visits i : ℕ) → visits ≤ length xs → ys ≡ xs ++ i ∷ [] → drop visits ys ≡ drop visits xs ++ i ∷ []
+pushed_after xs ys visits i within is = ap (drop visits) is ∙ drop-append-le visits xs (i ∷ []) within
+
+-- the slot behind the cursor is the first of those that are still to be visited
+pub next_first : (xs : List ℕ) (visits i : ℕ) → slice_get xs visits ≡ Some i → drop visits xs ≡ i ∷ drop (visits + 1) xs
+next_first xs visits i is =
+    drop-cons xs visits i (slice_get_within xs visits i is)
+    ∙ rw (get_or_from_slice_get xs visits i i is, add-one) refl
+
+-- where no slot is behind the cursor, none is still to be visited
+pub none_next : (xs : List ℕ) (visits : ℕ) → slice_get xs visits ≡ None → drop visits xs ≡ []
+none_next xs visits is = elim (slice_get_cases xs visits).1 [
+  | inl at ↦ let some : slice_get xs visits ≡ Some at.0 = at.2 in cc
+  | inr past ↦ drop_of_length-le xs past.0
+]
 
 pub kept_as : (r s : Names) (xs ys : List ℕ) (v w c d : ℕ) → s ≡ r → xs ≡ ys → v ≡ w → c ≡ d → IsSeen r ys w d → IsSeen s xs v c
 kept_as r s xs ys v w c d p q e f kept = rw (p, q, e, f) kept
@@ -248,6 +265,17 @@ of_key (Some k) at P told holds = holds k.name (sym told)
 pub marked_as : (c : Collector) (calls : ℕ) (b : Bool) (x : Name) → b ≡ marks_now c x → calls ≡ tick c.calls → placed b (record c { calls = calls }) x ≡ mark c x
 unfolding mark
 marked_as c calls b x p q = λ j. record (placed (p j) c x) { calls = q j }
+
+-- a marked name has a key
+pub if_keyless : (flags : Name → Option Flags) (o : Option EntryKey) (at : Option Name) (P : Type 0) → option_map (λ (k : EntryKey). k.name) o ≡ at
+    → is_marked_in (option_and_then flags at) ≡ true → IfNone o P
+if_keyless flags None at P told marked =
+    absurd (true≢false (sym marked ∙ ap (λ (o : Option Name). is_marked_in (option_and_then flags o)) (sym told)))
+if_keyless flags (Some k) at P told marked = tt
+
+-- the name of the first slot is pending
+pub first_waits : (r : Names) (i : ℕ) (slots : List ℕ) (x : Name) → r.name_at i ≡ Some x → is_pending r (i ∷ slots) x ≡ true
+first_waits r i slots x here = ap (λ (o : Option Name). is_named o x || is_pending r slots x) here ∙ or_left (same_name x x) _ (same_as_itself x)
 
 pub if_none : {A : Type 0} (o : Option A) (P Q : Type 0) → (P → Q) → IfNone o P → IfNone o Q
 if_none None P Q f p = f p

@@ -27,12 +27,13 @@ pub struct Tracer {
 
 impl Model for Tracer {
     ghost use Rattle.intern_trace.specs.Traced.{Traced};
+    ghost use Rattle.intern_trace.specs.Waiting.{unvisited};
 
     ghost Value = { Traced };
 
     ghost view = { λ t. record {
       registry = t.worklist.registry;
-      pending = t.worklist.pending.items;
+      pending = unvisited t.worklist;
       visits = t.worklist.visits.0;
       calls = t.calls.0;
     } };

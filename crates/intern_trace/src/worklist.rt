@@ -1,5 +1,5 @@
 //! What is registered and marked, and what of it is still to be visited.
-ghost use Rattle.std.specs.Prelude.{◌≡◌, ◌<◌, ◌≤◌, ℕ, true, false, not, ◌&&◌, Some, None, IfSome, IfNone, IfOk, option_and_then, vec_capacity};
+ghost use Rattle.std.specs.Prelude.{◌≡◌, ◌<◌, ◌≤◌, ℕ, true, false, not, ◌&&◌, Some, None, IfSome, IfNone, IfOk, option_and_then, vec_capacity, length, drop, slice_get};
 ghost use Rattle.std.proofs.Props.{props};
 ghost use Rattle.std.specs.Option.{option_map};
 ghost use Rattle.intern_store.specs.declared.names.Name.{Name as EntryName};
@@ -12,13 +12,15 @@ use intern_registry::{Flags, Registry};
 use intern_store::EntryKey;
 use std::alloc::{AllocError, Global};
 
-/// Registered names with their marks, and the slots of those that are marked and not visited yet.
+/// Registered names with their marks, and the slots of the marked names in the order in which they
+/// were marked. They are visited in that order: those past the first `visits` are pending.
 #[derive(Drop)]
 pub(crate) struct Worklist {
     registry: Registry,
-    pending: Vec<usize>,
+    marked: Vec<usize>,
     visits: Visits,
-    ghost kept: { IsSeen (names registry) pending.items visits.0 (vec_capacity pending) } by { Prim.hlevel props },
+    ghost kept: { IsSeen (names registry) (drop visits.0 marked.items) visits.0 (vec_capacity marked) } by { Prim.hlevel props },
+    ghost within: { visits.0 ≤ length marked.items },
 }
 
 // Whether an entry isn't counted and isn't marked.
@@ -38,7 +40,7 @@ impl Worklist {
     {
         Worklist {
             registry: Registry::new(alloc),
-            pending: Vec::new(alloc),
+            marked: Vec::new(alloc),
             visits: Visits::new(),
         }
     }
@@ -50,7 +52,7 @@ impl Worklist {
             ≡ record (fresh (is_counted_in r.flags) r.size) { calls = calls }) }
     {
         Ok(Worklist {
-            pending: Vec::with_capacity(alloc, registry.len())?,
+            marked: Vec::with_capacity(alloc, registry.len())?,
             registry,
             visits: Visits::new(),
         })
@@ -112,7 +114,7 @@ impl Worklist {
             waiting self.new calls ≡ placed true (waiting self.old calls) x }
     {
         self.registry.mark(slot);
-        self.pending.push_reserved(slot);
+        self.marked.push_reserved(slot);
     }
 
     /// Marks a name where it is registered, isn't counted and isn't marked, and says whether it
@@ -170,6 +172,13 @@ impl Worklist {
         }
     }
 
+    // The slot that was marked first among those that are still to be visited.
+    fn first_pending(&self) -> Option<usize>
+        ensures { result ≡ slice_get self.now.marked.items self.now.visits.0 }
+    {
+        self.marked.get(self.visits.get()).copied()
+    }
+
     /// The next pending name, whose visit begins.
     pub(crate) fn next(&mut self) -> Option<EntryKey>
         ensures none { IfNone result ((calls : ℕ) (x : EntryName) →
@@ -185,7 +194,7 @@ impl Worklist {
     {
         // Its length brings in what holds of a registry.
         let _len = self.registry.len();
-        let slot = self.pending.pop()?;
+        let slot = self.first_pending()?;
         self.visits.tick();
         self.registry.key(slot)
     }
