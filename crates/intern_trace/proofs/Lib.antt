@@ -1,3 +1,4 @@
+pub mod Counting
 pub mod Names
 pub mod Reaching
 pub mod Rooting

@@ -8,9 +8,10 @@ use Rattle.intern_registry.specs.Registry.{Names, no_names, unmarked}
 use Rattle.intern_registry.specs.declared.flags.Flags.{Flags}
 use Rattle.intern_store.specs.declared.names.Name.{Name}
 use Rattle.intern_trace.specs.Collector.{Collector, has, fresh, marks, begun, root, roots, with_counted}
-use Rattle.intern_trace.specs.Reach.{Entry, entry_of, is_counted, children_in, starts_with, kept_entries}
+use Rattle.intern_trace.specs.Reach.{Entry, entry_of, is_entry, is_counted, children_in, starts_with, kept_entries}
 use Rattle.intern_trace.specs.Seen.{is_counted_in}
 use Rattle.intern_trace.specs.Trace.{Traces, IsTrace, counted_in}
+use Rattle.intern_trace.proofs.Counting.{all_reached}
 use Rattle.intern_trace.proofs.Steps.{root_places, each-size}
 use Rattle.intern_trace.proofs.Traces.{trace_begins, visit_keeps, reached_at_end, counted_begin}
 use Rattle.ra_ap_intern.specs.Families.{with_family, IsCollection}
@@ -66,6 +67,13 @@ or_none false b h = h
 pub all_visited : (begins : Name → Bool) (family : List Entry) (visited : List Name) (c : Collector) → IsTrace begins family visited c
     → ((x : Name) → c.pending x ≡ false) → c.marked ≡ has visited
 all_visited begins family visited c t done = λ i x. (t.parted.parted x ∙ or_none (has visited x) (c.pending x) (done x)) i
+
+-- where as many entries were visited as there are, each was
+pub none_left_out : (family : List Entry) (listed visited : List Name) (c : Collector) → IsTrace (starts_with listed family) family visited c
+    → ((x : Name) → c.pending x ≡ false) → length family ≤ c.visits → (x : Name) → is_entry family x ≡ true → has visited x ≡ true
+none_left_out family listed visited c t done many =
+    all_reached listed family visited (reached_at_end (starts_with listed family) family visited c t (counted_begin family listed) done)
+    (subst (λ n. length family ≤ n) t.visits many)
 
 -- no more are left than there were
 fewer_left : (p : Entry → Bool) (es : List Entry) → length (filter p es) ≤ length es

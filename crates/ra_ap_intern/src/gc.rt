@@ -208,7 +208,10 @@ impl GarbageCollector {
         self.root(roots);
         self.follow(family);
         let entries = self.tracer.len();
-        family.sweep(&self);
+        // Where every entry was visited, all of them stay.
+        if self.visits() < entries {
+            family.sweep(&self);
+        }
         Ok(Collected {
             visits: self.visits(),
             mark_calls: self.mark_calls(),
