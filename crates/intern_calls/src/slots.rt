@@ -10,7 +10,7 @@ use std::alloc::{AllocError, Global};
 use std::marker::Model;
 use std::mem;
 
-// The slots, with the room for more.
+/// The slots, with the room for more.
 #[derive(Drop)]
 pub struct Slots<C, G, S> {
     slots: Vec<Slot<C, G, S>>,
@@ -29,6 +29,7 @@ impl<C, G, S> Model for Slots<C, G, S> {
 }
 
 impl<C, G, S> Slots<C, G, S> {
+    /// No slot. It takes no memory.
     pub fn new(alloc: Global) -> Self
         ensures { result.held ≡ [] }
     {
@@ -37,7 +38,8 @@ impl<C, G, S> Slots<C, G, S> {
         }
     }
 
-    // Asks for the room of so many slots more.
+    /// Asks for the room of so many slots more. Where there is no memory for it, `AllocError`, and the
+    /// slots are as before.
     pub fn reserve(&mut self, more: usize) -> Result<(), AllocError>
         ensures held { self.new.held ≡ self.old.held }
         ensures room { OnOk result (more ≤ self.new.room) }
@@ -45,6 +47,7 @@ impl<C, G, S> Slots<C, G, S> {
         self.slots.reserve(more)
     }
 
+    /// A slot. None where there is none of this number.
     pub fn get(&self, n: usize) -> Option<&Slot<C, G, S>>
         ensures slot { option_map (λ s. seen s.now) result ≡ slice_get self.now.held n }
         ensures held { unwrap_or (option_map (λ s. seen s.now) result) nothing
@@ -53,7 +56,7 @@ impl<C, G, S> Slots<C, G, S> {
         self.slots.get(n)
     }
 
-    // Puts a handle into a new slot.
+    /// Puts a handle into a new slot.
     pub fn place<H>(&mut self, slot: Slot<C, G, S>, back: Back<C, G, H>) -> Reply<C, G, H>
         requires { 0 < self.old.room }
         ensures reply { result ≡ Reply.Made (length self.old.held) back }
@@ -65,7 +68,7 @@ impl<C, G, S> Slots<C, G, S> {
         Reply::Made(n, back)
     }
 
-    // Takes what a release gives up out of its slot. Where there is no such thing, an empty slot.
+    /// Takes what a release gives up out of its slot. Where there is no such thing, an empty slot.
     #[tactic(auto, using(crate::proofs::Lists::map_set))]
     pub fn take_owner(&mut self, n: usize) -> Slot<C, G, S>
         ensures slot { seen result ≡ owner (held_at self.old.held n) }
@@ -84,7 +87,7 @@ impl<C, G, S> Slots<C, G, S> {
         }
     }
 
-    // Puts it back.
+    /// Puts a handle into a slot that is there.
     #[tactic(auto, using(crate::proofs::Lists::map_set))]
     pub fn put_back(&mut self, n: usize, slot: Slot<C, G, S>)
         ensures held { self.new.held ≡ slice_set self.old.held n (seen slot) }

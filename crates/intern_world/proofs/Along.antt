@@ -15,9 +15,8 @@ use Rattle.intern_calls.specs.Answer.{Answer, unless, up, down, given_up, at_tex
 use Rattle.intern_calls.specs.Held.{Home, Held, held_at}
 use Rattle.intern_calls.specs.Held.Home.{counted, values, slices}
 use Rattle.intern_calls.specs.Held.Held.{nothing, owned, reference, symbol}
-use Rattle.intern_calls.specs.World.{numbers_of}
 use Rattle.intern_calls.specs.Step.{Step}
-use Rattle.intern_calls.specs.World.{Kinds, WorldState, swept}
+use Rattle.intern_calls.specs.World.{Kinds, WorldState, numbers_of, swept}
 use Rattle.intern_calls.specs.declared.call.Call.{Call}
 use Rattle.intern_calls.specs.declared.call.Call.TheVariants as call
 use Rattle.intern_calls.specs.declared.reply.Back.{Back}

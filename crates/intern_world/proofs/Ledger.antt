@@ -18,8 +18,6 @@ use Rattle.intern_calls.specs.Answer.{Answer, counted_back, value_back, header_b
 use Rattle.intern_calls.specs.Held.{Home, Held, seen, held_at}
 use Rattle.intern_calls.specs.Held.Home.{counted, values, slices}
 use Rattle.intern_calls.specs.Held.Held.{nothing, owned, reference, symbol}
-use Rattle.intern_world.specs.Ledger.{is_part, names_entry, count_in_part, counts_handle, made, added, taken_by, taken, Balances}
-use Rattle.intern_world.specs.Run.{Turn, IsWorld, IsRun}
 use Rattle.intern_calls.specs.Step.{Step, Reaches}
 use Rattle.intern_calls.specs.World.{Kinds, WorldState}
 use Rattle.intern_calls.specs.declared.call.Call.{Call}
@@ -30,6 +28,8 @@ use Rattle.intern_calls.specs.declared.reply.Back.{Back}
 use Rattle.intern_calls.specs.declared.reply.Back.TheVariants as back
 use Rattle.intern_calls.specs.declared.reply.Reply.{Reply}
 use Rattle.intern_calls.specs.declared.reply.Reply.TheVariants.{Refused}
+use Rattle.intern_world.specs.Ledger.{is_part, names_entry, count_in_part, counts_handle, made, added, taken_by, taken, Balances}
+use Rattle.intern_world.specs.Run.{Turn, IsWorld, IsRun}
 use Rattle.intern_world.proofs.Swept.{swept_counts}
 use Rattle.intern_world.proofs.Counts.{flag, is_there, released_at, up_counts, down_counts, released_counts, interned_counts, interned_counted_counts}
 

@@ -2,13 +2,13 @@
 use Rattle.std.proofs.Common.{◌≡◌, List, [], ◌∷◌, ◌++◌, refl, sym, ap, ◌∙◌}
 use Rattle.std.specs.List.{All, AllPairs}
 use Rattle.std.proofs.lemmas.List.{map-append}
-use Rattle.intern_world.specs.Along.{TellsApart, KeepsNames, Collects, RunsAlong}
-use Rattle.intern_world.specs.Ledger.{Balances}
-use Rattle.intern_world.specs.Run.{Turn, IsWorld, IsRun, Runs, worlds}
 use Rattle.intern_calls.specs.Step.{Step}
 use Rattle.intern_calls.specs.World.{Kinds, WorldState}
 use Rattle.intern_calls.specs.declared.call.Call.{Call}
 use Rattle.intern_calls.specs.declared.reply.Reply.{Reply}
+use Rattle.intern_world.specs.Along.{TellsApart, KeepsNames, Collects, RunsAlong}
+use Rattle.intern_world.specs.Ledger.{Balances}
+use Rattle.intern_world.specs.Run.{Turn, IsWorld, IsRun, Runs, worlds}
 
 module _ {C G S H I : Type 0} (kinds : Kinds C G H I) (w : WorldState C G H I) where
   run_more : (ts : List (Turn C G S H I)) (start mid : WorldState C G H I) (c : Call C G S H I)

@@ -10,11 +10,11 @@ use Rattle.ra_ap_intern.specs.PairLaws.{entry_either}
 use Rattle.ra_ap_intern.specs.Reach.{Entry, entry_of, is_counted, counted_entry, starts, IsReachedSet}
 use Rattle.ra_ap_intern.specs.State.{State, entry_at}
 use Rattle.ra_ap_intern.specs.StorageLaws.{as_entry, entry_named}
-use Rattle.intern_world.specs.Ledger.{count_in_part}
-use Rattle.intern_world.specs.Run.{IsWorld}
 use Rattle.intern_calls.specs.World.{Kinds, WorldState, entries, swept}
 use Rattle.intern_calls.specs.declared.call.Which.{Which}
 use Rattle.intern_calls.specs.declared.call.Which.TheVariants as which
+use Rattle.intern_world.specs.Ledger.{count_in_part}
+use Rattle.intern_world.specs.Run.{IsWorld}
 use Rattle.intern_world.proofs.Counts.{kept_counts}
 
 is_more : (c : ℕ) → 0 < c → is_counted c ≡ true

@@ -13,14 +13,14 @@ use Rattle.ra_ap_intern.specs.Name.{Name}
 use Rattle.ra_ap_intern.specs.Reach.{Entry, starts, kept_entries}
 use Rattle.ra_ap_intern.specs.State.{State, IsState, entry_at, reads}
 use Rattle.ra_ap_intern.specs.Symbols.{IsTable}
-use Rattle.intern_world.specs.Along.{TellsValues, TellsTexts, TellsApart, KeepsReading, KeepsNames, Collects}
 use Rattle.intern_calls.specs.Answer.{told as tells_of}
-use Rattle.intern_world.specs.Run.{Turn, IsWorld, IsRun, worlds}
 use Rattle.intern_calls.specs.Step.{Step}
 use Rattle.intern_calls.specs.declared.call.Call.{Call}
 use Rattle.intern_calls.specs.declared.call.Call.TheVariants as call
 use Rattle.intern_calls.specs.declared.reply.Reply.TheVariants.{Collected as Gathered}
 use Rattle.intern_calls.specs.World.{Kinds, WorldState, entries, swept}
+use Rattle.intern_world.specs.Along.{TellsValues, TellsTexts, TellsApart, KeepsReading, KeepsNames, Collects}
+use Rattle.intern_world.specs.Run.{Turn, IsWorld, IsRun, worlds}
 use Rattle.intern_world.proofs.Along.{Laters, laters, step_later}
 use Rattle.intern_world.proofs.Later.{Later, value_at}
 

@@ -6,14 +6,14 @@ use Rattle.ra_ap_intern.specs.Name.{Name}
 use Rattle.ra_ap_intern.specs.Reach.{starts}
 use Rattle.ra_ap_intern.specs.State.{State, reads}
 use Rattle.ra_ap_intern.specs.Symbols.{Named, text_of}
-use Rattle.intern_world.specs.Ledger.{Balances}
-use Rattle.intern_world.specs.Run.{Turn, worlds, Runs}
+use Rattle.ra_ap_intern.specs.declared.gc.Collected.{Collected}
 use Rattle.intern_calls.specs.World.{Kinds, WorldState, entries, swept}
 use Rattle.intern_calls.specs.declared.call.Call.{Call}
 use Rattle.intern_calls.specs.declared.call.Call.TheVariants as call
 use Rattle.intern_calls.specs.declared.reply.Reply.{Reply}
 use Rattle.intern_calls.specs.declared.reply.Reply.TheVariants.{Collected as Gathered}
-use Rattle.ra_ap_intern.specs.declared.gc.Collected.{Collected}
+use Rattle.intern_world.specs.Ledger.{Balances}
+use Rattle.intern_world.specs.Run.{Turn, worlds, Runs}
 
 module _ {V : Type 0} where
   -- names that read something in a storage are equal exactly if the values are

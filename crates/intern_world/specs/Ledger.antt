@@ -9,7 +9,6 @@ use Rattle.ra_ap_intern.specs.Symbols.Named.{preset, entry}
 use Rattle.intern_calls.specs.Held.{Home, Held, held_at}
 use Rattle.intern_calls.specs.Held.Home.{counted, values, slices}
 use Rattle.intern_calls.specs.Held.Held.{nothing, owned, reference, symbol}
-use Rattle.intern_world.specs.Run.{Turn}
 use Rattle.intern_calls.specs.World.{WorldState}
 use Rattle.intern_calls.specs.declared.call.Call.{Call}
 use Rattle.intern_calls.specs.declared.call.Call.TheVariants as call
@@ -17,6 +16,7 @@ use Rattle.intern_calls.specs.declared.call.Which.{Which}
 use Rattle.intern_calls.specs.declared.call.Which.TheVariants as which
 use Rattle.intern_calls.specs.declared.reply.Reply.{Reply}
 use Rattle.intern_calls.specs.declared.reply.Reply.TheVariants.{Made, Done}
+use Rattle.intern_world.specs.Run.{Turn}
 
 -- whether a storage is this part of the world
 abbrev pub is_part : Home → Which → Bool
@@ -25,7 +25,7 @@ is_part values which.Values = true
 is_part slices which.Slices = true
 is_part _ _ = false
 
--- whether the table is
+-- whether a part of the world is the table
 abbrev pub is_table : Which → Bool
 is_table which.Symbols = true
 is_table _ = false

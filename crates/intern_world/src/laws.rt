@@ -1,10 +1,10 @@
 //! Laws of runs, each the contract of a function that does nothing.
 ghost use Rattle.std.specs.Prelude.{◌≡◌, List, ◌++◌};
 ghost use Rattle.std.specs.List.{All, AllPairs};
+ghost use Rattle.intern_calls.specs.World.{WorldState, kinds_of};
 ghost use Rattle.intern_world.specs.Along.{TellsApart, KeepsNames, Collects};
 ghost use Rattle.intern_world.specs.Ledger.{Balances};
 ghost use Rattle.intern_world.specs.Run.{Turn, IsRun, worlds};
-ghost use Rattle.intern_calls.specs.World.{WorldState, kinds_of};
 
 use ra_ap_intern::{GcInternedSliceVisit, GcInternedVisit, Internable, laws};
 

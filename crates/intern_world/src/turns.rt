@@ -4,19 +4,16 @@ ghost use Rattle.std.specs.Vec.{vec_len, vec_capacity};
 ghost use Rattle.ra_ap_intern.specs.Families.{are_distinct};
 ghost use Rattle.intern_calls.specs.Parts.{world_of};
 ghost use Rattle.intern_calls.specs.Step.{Step};
-ghost use Rattle.intern_calls.specs.World.{kinds_of};
+ghost use Rattle.intern_calls.specs.World.{kinds_of, numbers_of};
 ghost use Rattle.intern_world.specs.Along.{RunsAlong};
 ghost use Rattle.intern_world.specs.Run.{IsWorld};
-ghost use Rattle.intern_calls.specs.World.{numbers_of};
 
 use crate::laws::{
     collections_leave_what_is_reached, counts_balance, handles_tell_values_along_runs,
     names_keep_what_they_read,
 };
-use intern_calls::{Back, Call, Parts, Reply, Slot};
-use ra_ap_intern::{
-    GcInternedSliceVisit, GcInternedVisit, Internable, SliceInternable, Symbol,
-};
+use intern_calls::{Call, Parts, Reply};
+use ra_ap_intern::{GcInternedSliceVisit, GcInternedVisit, Internable, SliceInternable};
 
 // A call, by its line of `answer`.
 fn apply<C: Internable + Drop, G: Internable + GcInternedVisit + Drop, S: GcInternedSliceVisit>(
@@ -42,10 +39,8 @@ where
         Call::Intern(text) => parts.new_symbol(&text),
         Call::IntegerGet(n) => parts.new_integer(n),
         Call::GeneratedGet(n) => parts.new_generated(n),
-        Call::Empty => parts
-            .slots
-            .place(Slot::Symbol(Symbol::empty()), Back::Nothing),
-        Call::Put(slot) => parts.slots.place(slot, Back::Nothing),
+        Call::Empty => parts.new_empty(),
+        Call::Put(slot) => parts.put(slot),
         Call::FromRaw(kind, birth) => parts.from_birth(kind, birth),
         Call::AsRef(n) => parts.refer(n),
         Call::Clone(n) => parts.clone_handle(n),
@@ -108,11 +103,7 @@ pub fn run_over<
     C: Internable + Drop,
     G: Internable + GcInternedVisit + Drop,
     S: GcInternedSliceVisit,
->(
-    parts: &mut Parts<C, G, S>,
-    replies: &mut Vec<Reply<C, G, S::Header>>,
-    calls: Vec<Call<C, G, S>>,
-)
+>(parts: &mut Parts<C, G, S>, replies: &mut Vec<Reply<C, G, S::Header>>, calls: Vec<Call<C, G, S>>)
 where
     S::Header: Drop,
     requires counted { C.Internable.USE_GC ≡ false }

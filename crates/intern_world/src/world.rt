@@ -3,10 +3,10 @@ ghost use Rattle.std.specs.Prelude.{◌≡◌, ◌<◌, ◌≤◌, true, false, 
 ghost use Rattle.std.specs.Option.{option_map};
 ghost use Rattle.ra_ap_intern.specs.Families.{are_distinct};
 ghost use Rattle.intern_calls.specs.Held.{seen};
-ghost use Rattle.intern_world.specs.Along.{RunsAlong};
-ghost use Rattle.intern_world.specs.Run.{are_apart, new_world};
 ghost use Rattle.intern_calls.specs.Step.{Keeps, roots_in};
 ghost use Rattle.intern_calls.specs.World.{kinds_of};
+ghost use Rattle.intern_world.specs.Along.{RunsAlong};
+ghost use Rattle.intern_world.specs.Run.{are_apart, new_world};
 
 use crate::turns::run_over;
 use intern_calls::{Back, Call, Parts, Reply, Slot, Slots};
@@ -41,8 +41,7 @@ impl<C: Internable, G: Internable, S: SliceInternable> Model for World<C, G, S> 
     ghost use Rattle.std.specs.Prelude.{◌≡◌, true, false};
     ghost use Rattle.ra_ap_intern.specs.Families.{are_distinct};
     ghost use Rattle.intern_calls.specs.Parts.{world_of};
-    ghost use Rattle.intern_calls.specs.World.{numbers_of};
-    ghost use Rattle.intern_calls.specs.World.{WorldState, world_code};
+    ghost use Rattle.intern_calls.specs.World.{WorldState, numbers_of, world_code};
 
     ghost Value = { WorldState C G S.Header S.SliceType };
 

@@ -4,9 +4,8 @@ ghost use Rattle.std.specs.List.{list_all, filter_map};
 ghost use Rattle.ra_ap_intern.specs.Families.{are_distinct};
 ghost use Rattle.ra_ap_intern.specs.Reach.{starts};
 ghost use Rattle.intern_calls.specs.Parts.{world_of};
-ghost use Rattle.intern_calls.specs.World.{numbers_of};
 ghost use Rattle.intern_calls.specs.Step.{Gathers, Keeps, Lacks, root_at};
-ghost use Rattle.intern_calls.specs.World.{kinds_of, entries};
+ghost use Rattle.intern_calls.specs.World.{kinds_of, entries, numbers_of};
 
 use super::Parts;
 use crate::reply::{Back, Reply};
@@ -20,6 +19,7 @@ impl<C: Internable, G: Internable + GcInternedVisit + Drop, S: GcInternedSliceVi
 where
     S::Header: Drop,
 {
+    /// Removes all collected entries that nothing counted reaches.
     pub fn collect(&mut self) -> Reply<C, G, S::Header>
         requires distinct { are_distinct (numbers_of (world_of self.old)) ≡ true }
         requires values { G.Internable.USE_GC ≡ true }
@@ -37,7 +37,7 @@ where
         }
     }
 
-    // A collection that begins also at the entries of these names.
+    /// A collection that begins also at the entries of these names.
     pub fn collect_keeping(&mut self, roots: &[Name]) -> Reply<C, G, S::Header>
         requires distinct { are_distinct (numbers_of (world_of self.old)) ≡ true }
         requires values { G.Internable.USE_GC ≡ true }
@@ -53,7 +53,7 @@ where
         }
     }
 
-    // Whether all these slots hold handles of collected entries.
+    /// Whether all these slots hold handles of collected entries.
     pub fn are_roots(&self, slots: &[usize]) -> bool
         ensures { result
             ≡ list_all (λ n. is_some (root_at self.now.slots.held n)) slots.now }
@@ -61,7 +61,7 @@ where
         slots.iter().all(|n| self.root(*n).is_some())
     }
 
-    // The names of these handles.
+    /// The names of these handles.
     pub fn roots(&self, slots: &[usize]) -> Result<Vec<Name>, AllocError>
         ensures { IfOk result (λ names.
             names.items ≡ filter_map (root_at self.now.slots.held) slots.now) }

@@ -12,6 +12,7 @@ use crate::slot::Slot;
 use ra_ap_intern::{Internable, InternedRef, InternedSliceRef, Refusal, Refused, SliceInternable};
 
 impl<C: Internable, G: Internable, S: SliceInternable> Parts<C, G, S> {
+    /// A reference to what an owned handle names.
     pub fn refer(&mut self, n: usize) -> Reply<C, G, S::Header>
         requires { 0 < self.old.slots.room }
         ensures says { Says (refers (world_of self.old) (held_at self.old.slots.held n)) result
@@ -27,6 +28,7 @@ impl<C: Internable, G: Internable, S: SliceInternable> Parts<C, G, S> {
         self.slots.place(reference, Back::Nothing)
     }
 
+    /// A second owned handle or symbol.
     pub fn clone_handle(&mut self, n: usize) -> Reply<C, G, S::Header>
         requires { 0 < self.old.slots.room }
         ensures says { Says (clones (world_of self.old) (held_at self.old.slots.held n)) result
@@ -55,6 +57,7 @@ impl<C: Internable, G: Internable, S: SliceInternable> Parts<C, G, S> {
         self.slots.place(copy, Back::Nothing)
     }
 
+    /// An owned handle of what a reference names.
     pub fn own(&mut self, n: usize) -> Reply<C, G, S::Header>
         requires { 0 < self.old.slots.room }
         ensures says { Says (owns (world_of self.old) (held_at self.old.slots.held n)) result
@@ -82,6 +85,8 @@ impl<C: Internable, G: Internable, S: SliceInternable> Parts<C, G, S> {
         self.slots.place(owned, Back::Nothing)
     }
 
+    /// Gives an owned handle or a symbol up, and leaves its slot empty. Where it is refused, the handle
+    /// stays in its slot.
     #[tactic(auto, using(crate::proofs::Lists::restored))]
     pub fn release(&mut self, n: usize) -> Reply<C, G, S::Header>
         requires counted { C.Internable.USE_GC ≡ false }
@@ -114,6 +119,7 @@ impl<C: Internable, G: Internable, S: SliceInternable> Parts<C, G, S> {
         Reply::Refused(why, Back::Nothing)
     }
 
+    /// Takes back the count of a handle that was dropped, by a reference or a symbol.
     pub fn decrement(&mut self, n: usize) -> Reply<C, G, S::Header>
         ensures says { Says (decrements (world_of self.old) (held_at self.old.slots.held n)) result
             (world_of self.new) }

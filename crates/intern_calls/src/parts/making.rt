@@ -3,11 +3,13 @@ ghost use Rattle.std.specs.Prelude.{◌≡◌, ◌+◌, ◌<◌, ◌≤◌, ◌�
 ghost use Rattle.ra_ap_intern.specs.Outcome.{Owes};
 ghost use Rattle.ra_ap_intern.specs.Presets.{generated_text};
 ghost use Rattle.intern_calls.specs.Held.{seen};
+ghost use Rattle.intern_calls.specs.Held.Held.{symbol};
 ghost use Rattle.ra_ap_intern.specs.Sliced.{sliced_eq};
 ghost use Rattle.ra_ap_intern.specs.State.{is_new, due_interning, full, any_count};
 ghost use Rattle.ra_ap_intern.specs.Slices.{due_slice, is_new_slice};
-ghost use Rattle.ra_ap_intern.specs.Symbols.{due_symbol, is_new_text, symbol_in};
-ghost use Rattle.intern_calls.specs.Answer.{stores, stores_gc, stores_slice, stores_text, takes_over, raw_held, due_raw, counted_back, value_back, header_back};
+ghost use Rattle.ra_ap_intern.specs.Symbols.{due_symbol, is_new_text, symbol_name};
+ghost use Rattle.ra_ap_intern.specs.declared.symbol.symbols.TheConstants as sym;
+ghost use Rattle.intern_calls.specs.Answer.{makes, stores, stores_gc, stores_slice, stores_text, takes_over, raw_held, due_raw, counted_back, value_back, header_back};
 ghost use Rattle.intern_calls.specs.Parts.{world_of};
 ghost use Rattle.intern_calls.specs.Step.{Says, Lacks, where_new, text_wanted};
 
@@ -20,6 +22,7 @@ use ra_ap_intern::{
     Internable, Interned, InternedRef, InternedSlice, Refusal, Refused, SliceInternable, Symbol,
 };
 
+/// What came back of a counted value.
 pub fn back_of_counted<C, G, H>(value: Option<C>) -> Back<C, G, H>
     ensures { result ≡ counted_back value }
 {
@@ -29,6 +32,7 @@ pub fn back_of_counted<C, G, H>(value: Option<C>) -> Back<C, G, H>
     }
 }
 
+/// What came back of a collected value.
 pub fn back_of_value<C, G, H>(value: Option<G>) -> Back<C, G, H>
     ensures { result ≡ value_back value }
 {
@@ -38,6 +42,7 @@ pub fn back_of_value<C, G, H>(value: Option<G>) -> Back<C, G, H>
     }
 }
 
+/// What came back of a slice.
 pub fn back_of_header<C, G, H>(header: Option<H>) -> Back<C, G, H>
     ensures { result ≡ header_back header }
 {
@@ -48,6 +53,7 @@ pub fn back_of_header<C, G, H>(header: Option<H>) -> Back<C, G, H>
 }
 
 impl<C: Internable, G: Internable, S: SliceInternable> Parts<C, G, S> {
+    /// Interns a counted value: an owned handle.
     pub fn new_counted(&mut self, value: C) -> Reply<C, G, S::Header>
         requires mode { C.Internable.USE_GC ≡ false }
         requires room { 0 < self.old.slots.room }
@@ -66,6 +72,7 @@ impl<C: Internable, G: Internable, S: SliceInternable> Parts<C, G, S> {
         }
     }
 
+    /// Interns a collected value: a reference.
     pub fn new_value(&mut self, value: G) -> Reply<C, G, S::Header>
         requires mode { G.Internable.USE_GC ≡ true }
         requires room { 0 < self.old.slots.room }
@@ -83,6 +90,7 @@ impl<C: Internable, G: Internable, S: SliceInternable> Parts<C, G, S> {
         }
     }
 
+    /// Interns a slice: a reference.
     pub fn new_slice(&mut self, header: S::Header, items: &[S::SliceType]) -> Reply<C, G, S::Header>
         requires mode { S.SliceInternable.USE_GC ≡ true }
         requires room { 0 < self.old.slots.room }
@@ -101,6 +109,7 @@ impl<C: Internable, G: Internable, S: SliceInternable> Parts<C, G, S> {
         }
     }
 
+    /// Interns a text: a symbol.
     pub fn new_symbol(&mut self, text: &str) -> Reply<C, G, S::Header>
         requires { 0 < self.old.slots.room }
         ensures step { Says (stores_text (world_of self.old) text.now) result (world_of self.new)
@@ -114,6 +123,7 @@ impl<C: Internable, G: Internable, S: SliceInternable> Parts<C, G, S> {
         }
     }
 
+    /// The symbol of a number's digits.
     pub fn new_integer(&mut self, n: usize) -> Reply<C, G, S::Header>
         requires { 0 < self.old.slots.room }
         ensures step { Says (stores_text (world_of self.old) (decimal n)) result
@@ -128,6 +138,7 @@ impl<C: Internable, G: Internable, S: SliceInternable> Parts<C, G, S> {
         }
     }
 
+    /// The symbol of a generated name.
     pub fn new_generated(&mut self, n: usize) -> Reply<C, G, S::Header>
         requires { 0 < self.old.slots.room }
         ensures step { Says (stores_text (world_of self.old) (generated_text n)) result
@@ -142,7 +153,28 @@ impl<C: Internable, G: Internable, S: SliceInternable> Parts<C, G, S> {
         }
     }
 
-    // A handle of a birth.
+    /// The symbol of the empty text, which is a preset.
+    pub fn new_empty(&mut self) -> Reply<C, G, S::Header>
+        requires { 0 < self.old.slots.room }
+        ensures says { Says (makes (world_of self.old) (symbol (symbol_name sym._empty_sym))
+            Back.Nothing) result (world_of self.new) }
+        ensures room { self.old.slots.room ≤ self.new.slots.room + 1 }
+    {
+        self.slots
+            .place(Slot::Symbol(Symbol::empty()), Back::Nothing)
+    }
+
+    /// A slot that is handed in.
+    pub fn put(&mut self, slot: Slot<C, G, S>) -> Reply<C, G, S::Header>
+        requires { 0 < self.old.slots.room }
+        ensures says { Says (makes (world_of self.old) (seen slot) Back.Nothing) result
+            (world_of self.new) }
+        ensures room { self.old.slots.room ≤ self.new.slots.room + 1 }
+    {
+        self.slots.place(slot, Back::Nothing)
+    }
+
+    /// A handle of a birth.
     pub fn from_birth(&mut self, kind: Kind, birth: u64) -> Reply<C, G, S::Header>
         requires { 0 < self.old.slots.room }
         ensures says { Says (takes_over (world_of self.old) kind birth) result

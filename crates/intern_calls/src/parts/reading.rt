@@ -20,6 +20,7 @@ use ra_ap_intern::{
 };
 
 impl<C: Internable, G: Internable, S: SliceInternable> Parts<C, G, S> {
+    /// The birth that a reference names.
     pub fn birth(&self, n: usize) -> Reply<C, G, S::Header>
         ensures { Says (tells_birth (world_of self.now) (held_at self.now.slots.held n)) result
             (world_of self.now) }
@@ -31,6 +32,7 @@ impl<C: Internable, G: Internable, S: SliceInternable> Parts<C, G, S> {
         }
     }
 
+    /// Whether a handle reads this counted value.
     pub fn reads_counted(&self, n: usize, value: &C) -> Reply<C, G, S::Header>
         ensures { Says (reads_counted C.eq (world_of self.now) (held_at self.now.slots.held n)
             value.now) result (world_of self.now) }
@@ -43,6 +45,7 @@ impl<C: Internable, G: Internable, S: SliceInternable> Parts<C, G, S> {
         Reply::Read(read.map(|found| found == value))
     }
 
+    /// Whether a handle reads this collected value.
     pub fn reads_value(&self, n: usize, value: &G) -> Reply<C, G, S::Header>
         ensures { Says (reads_value G.eq (world_of self.now) (held_at self.now.slots.held n)
             value.now) result (world_of self.now) }
@@ -55,6 +58,7 @@ impl<C: Internable, G: Internable, S: SliceInternable> Parts<C, G, S> {
         Reply::Read(read.map(|found| found == value))
     }
 
+    /// Whether a handle reads this header with these items.
     pub fn reads_slice(
         &self,
         n: usize,
@@ -73,6 +77,7 @@ impl<C: Internable, G: Internable, S: SliceInternable> Parts<C, G, S> {
         Reply::Read(read.map(|found| found.header.header == header && found.slice == items))
     }
 
+    /// Whether a symbol reads this text.
     pub fn reads_text(&self, n: usize, text: &str) -> Reply<C, G, S::Header>
         ensures { Says (reads_text (world_of self.now) (held_at self.now.slots.held n) text.now)
             result (world_of self.now) }
@@ -85,6 +90,7 @@ impl<C: Internable, G: Internable, S: SliceInternable> Parts<C, G, S> {
         }
     }
 
+    /// The count of the entry that a handle names.
     pub fn count(&self, n: usize) -> Reply<C, G, S::Header>
         ensures { Says (tells_count (world_of self.now) (held_at self.now.slots.held n)) result
             (world_of self.now) }
@@ -102,6 +108,7 @@ impl<C: Internable, G: Internable, S: SliceInternable> Parts<C, G, S> {
         Reply::Count(count)
     }
 
+    /// How many entries there are.
     pub fn len(&self, which: Which) -> Reply<C, G, S::Header>
         ensures { result ≡ Reply.Number (len_of (world_of self.now) which) }
     {
@@ -114,6 +121,7 @@ impl<C: Internable, G: Internable, S: SliceInternable> Parts<C, G, S> {
         Reply::Number(len as u64)
     }
 
+    /// The number that a symbol's text writes.
     pub fn uint(&self, n: usize) -> Reply<C, G, S::Header>
         ensures { Says (tells_uint (world_of self.now) (held_at self.now.slots.held n)) result
             (world_of self.now) }
@@ -124,6 +132,7 @@ impl<C: Internable, G: Internable, S: SliceInternable> Parts<C, G, S> {
         }
     }
 
+    /// Whether two handles of one kind are equal.
     pub fn same(&self, n: usize, m: usize) -> Reply<C, G, S::Header>
         ensures { result ≡ truth (same (held_at self.now.slots.held n)
             (held_at self.now.slots.held m)) }

@@ -65,11 +65,10 @@ returns-in-AsUint-clause-step g c = answered _ _ _ _ _ _ c.in-AsUint.is refl c.u
 
 pub returns-in-Empty-clause-step : goal.returns-in-Empty-clause-step
 returns-in-Empty-clause-step g c = answered _ _ _ _ _ _ c.in-Empty.is refl
-    (record { reply_is = c.place.ensures.reply; after_is = rw c.place.ensures.held (rw c.empty.ensures refl) })
+    c.new_empty.ensures.says
 
 pub returns-in-Put-clause-step : goal.returns-in-Put-clause-step
-returns-in-Put-clause-step g c = answered _ _ _ _ _ _ c.in-Put.is refl
-    (record { reply_is = c.place-in-Put.ensures.reply; after_is = rw c.place-in-Put.ensures.held refl })
+returns-in-Put-clause-step g c = answered _ _ _ _ _ _ c.in-Put.is refl c.put.ensures.says
 
 pub returns-in-Same-clause-step : goal.returns-in-Same-clause-step
 returns-in-Same-clause-step g c = answered _ _ _ _ _ _ c.in-Same.is refl

@@ -1,8 +1,8 @@
 use Rattle.std.proofs.Common.{◌≡◌, List, [], ◌∷◌, ◌++◌, ap, sym, ◌∙◌, append_assoc, arith}
 use Rattle.std.proofs.lemmas.List.{append-nil, nil_from_length}
 use Rattle.std.specs.Vec.Iter.{into_iter_items}
-use Rattle.intern_world.proofs.Runs.{no_run, one_more, along}
 use Rattle.intern_calls.specs.declared.call.Call.{Call}
+use Rattle.intern_world.proofs.Runs.{no_run, one_more, along}
 use Rattle.intern_world.proofs.turns.run_over.Goals as goal
 
 pub loop-call-init : goal.loop-call-init

@@ -2,9 +2,9 @@ use Rattle.std.proofs.Common.{◌≡◌, ◌+◌, ◌≤◌, ◌++◌, true, vec
 use Rattle.std.specs.Vec.Iter.{into_iter_items, into_iter_len}
 use Rattle.ra_ap_intern.specs.Families.{are_distinct}
 use Rattle.intern_calls.specs.Parts.{world_of}
-use Rattle.intern_world.specs.Run.{Runs}
 use Rattle.intern_calls.specs.World.{numbers_of}
 use Rattle.intern_calls.specs.World.{kinds_of}
+use Rattle.intern_world.specs.Run.{Runs}
 use Rattle.intern_world.proofs.turns.run_over.Given as goal
 
 -- the calls so far are a run, what is left is the rest of the calls, and there is room for it
