@@ -1,0 +1,190 @@
+//! Each call that takes a slot, on each kind of slots.
+use crate::worlds::{
+    Asked, Texts, Told, items, made, new_world, replies, reply_to, text, value, word,
+};
+use intern_world::{Call, Reply, Slot, Which};
+use std::alloc::Global;
+use std::process::Abort;
+
+// The slots of `eight_slots`, by what they hold, and the number of none.
+const EMPTY: usize = 0;
+
+const COUNTED: usize = 1;
+
+const COUNTED_REF: usize = 2;
+
+const VALUE_REF: usize = 3;
+
+const VALUE: usize = 4;
+
+const SLICE_REF: usize = 5;
+
+const SLICE: usize = 6;
+
+const SYMBOL: usize = 7;
+
+const NONE: usize = 8;
+
+/// A call that takes a slot.
+#[derive(Clone, Copy, Debug)]
+enum Taking {
+    AsRef,
+    Clone,
+    ToOwned,
+    Release,
+    Decrement,
+    AsRaw,
+    ReadsCounted,
+    ReadsValue,
+    ReadsSlice,
+    ReadsText,
+    Count,
+    AsUint,
+}
+
+#[test]
+fn calls_that_take_a_slot(rt: HostRuntime) {
+    let alloc = rt.alloc();
+    calls_that_make_handles(&rt, alloc);
+    calls_that_give_counts_up(&rt, alloc);
+    calls_that_read_values(&rt, alloc);
+    calls_that_tell_numbers(&rt, alloc);
+}
+
+fn calls_that_make_handles(rt: &impl Abort, alloc: Global) {
+    takes(rt, alloc, Taking::AsRef, &[COUNTED, VALUE, SLICE]);
+    takes(rt, alloc, Taking::Clone, &[COUNTED, VALUE, SLICE, SYMBOL]);
+    takes(
+        rt,
+        alloc,
+        Taking::ToOwned,
+        &[COUNTED_REF, VALUE_REF, SLICE_REF],
+    );
+}
+
+fn calls_that_give_counts_up(rt: &impl Abort, alloc: Global) {
+    takes(rt, alloc, Taking::Release, &[COUNTED, VALUE, SLICE, SYMBOL]);
+    takes(
+        rt,
+        alloc,
+        Taking::Decrement,
+        &[COUNTED_REF, VALUE_REF, SLICE_REF, SYMBOL],
+    );
+}
+
+fn calls_that_read_values(rt: &impl Abort, alloc: Global) {
+    takes(rt, alloc, Taking::ReadsCounted, &[COUNTED, COUNTED_REF]);
+    takes(rt, alloc, Taking::ReadsValue, &[VALUE, VALUE_REF]);
+    takes(rt, alloc, Taking::ReadsSlice, &[SLICE, SLICE_REF]);
+    takes(rt, alloc, Taking::ReadsText, &[SYMBOL]);
+}
+
+fn calls_that_tell_numbers(rt: &impl Abort, alloc: Global) {
+    takes(rt, alloc, Taking::AsRaw, &[COUNTED_REF, VALUE_REF]);
+    takes(rt, alloc, Taking::AsUint, &[SYMBOL]);
+    let all = [
+        COUNTED,
+        COUNTED_REF,
+        VALUE_REF,
+        VALUE,
+        SLICE_REF,
+        SLICE,
+        SYMBOL,
+    ];
+    takes(rt, alloc, Taking::Count, &all);
+}
+
+#[test]
+fn calls_on_several_slots(rt: HostRuntime) {
+    let alloc = rt.alloc();
+    two_slots_are_compared_where_they_are_of_one_kind(&rt, alloc);
+    collections_begin_at_what_is_collected(&rt, alloc);
+}
+
+fn two_slots_are_compared_where_they_are_of_one_kind(rt: &impl Abort, alloc: Global) {
+    let mut world = eight_slots(rt, alloc);
+    for n in EMPTY..=NONE {
+        for m in EMPTY..=NONE {
+            let reply = reply_to(rt, alloc, &mut world, Call::Same(n, m));
+            let is_one = n == m && n != EMPTY && n != NONE;
+            assert_eq!(rt; matches!(&reply, Reply::Truth(true)), is_one, "{n} and {m}");
+            assert_eq!(rt; matches!(&reply, Reply::WrongSlot), !is_one, "{n} and {m}");
+        }
+    }
+    is_as_made(rt, alloc, &mut world);
+}
+
+fn collections_begin_at_what_is_collected(rt: &impl Abort, alloc: Global) {
+    let mut world = eight_slots(rt, alloc);
+    for slot in EMPTY..=NONE {
+        let is_root = [VALUE, VALUE_REF, SLICE, SLICE_REF].contains(&slot);
+        let reply = world.collect_keeping(&[VALUE, slot]);
+        assert_eq!(rt; !matches!(&reply, Reply::WrongSlot), is_root, "slot {slot}");
+    }
+    is_as_made(rt, alloc, &mut world);
+}
+
+/// The call takes these slots of eight, and on any other changes nothing.
+fn takes(rt: &impl Abort, alloc: Global, call: Taking, slots: &[usize]) {
+    for slot in EMPTY..=NONE {
+        let mut world = eight_slots(rt, alloc);
+        let reply = reply_to(rt, alloc, &mut world, call_on(rt, alloc, call, slot));
+        let is_wrong = matches!(&reply, Reply::WrongSlot);
+        assert_eq!(rt; !is_wrong, slots.contains(&slot), "{call:?} on slot {slot}");
+        if is_wrong {
+            is_as_made(rt, alloc, &mut world);
+        }
+    }
+}
+
+/// The call on a slot.
+fn call_on(rt: &impl Abort, alloc: Global, call: Taking, slot: usize) -> Asked {
+    match call {
+        Taking::AsRef => Call::AsRef(slot),
+        Taking::Clone => Call::Clone(slot),
+        Taking::ToOwned => Call::ToOwned(slot),
+        Taking::Release => Call::Release(slot),
+        Taking::Decrement => Call::Decrement(slot),
+        Taking::AsRaw => Call::AsRaw(slot),
+        Taking::ReadsCounted => Call::ReadsCounted(slot, word(rt, alloc, "x")),
+        Taking::ReadsValue => Call::ReadsValue(slot, value(rt, alloc, "x")),
+        Taking::ReadsSlice => {
+            Call::ReadsSlice(slot, text(rt, alloc, "x"), items(rt, alloc, &[1]))
+        }
+        Taking::ReadsText => Call::ReadsText(slot, text(rt, alloc, "x")),
+        Taking::Count => Call::Count(slot),
+        Taking::AsUint => Call::AsUint(slot),
+    }
+}
+
+/// A world with a slot of each kind, where each part has an entry, counted once.
+fn eight_slots(rt: &impl Abort, alloc: Global) -> Texts {
+    let mut world = new_world(alloc);
+    let slice = Call::FromHeaderAndSlice(text(rt, alloc, "x"), items(rt, alloc, &[1]));
+    let rows = vec![in alloc;
+        (Call::Put(Slot::Empty), made(EMPTY)),
+        (Call::New(word(rt, alloc, "x")), made(COUNTED)),
+        (Call::AsRef(COUNTED), made(COUNTED_REF)),
+        (Call::NewGc(value(rt, alloc, "x")), made(VALUE_REF)),
+        (Call::ToOwned(VALUE_REF), made(VALUE)),
+        (slice, made(SLICE_REF)),
+        (Call::ToOwned(SLICE_REF), made(SLICE)),
+        (Call::Intern(text(rt, alloc, "x")), made(SYMBOL)),
+    ];
+    replies(rt, &mut world, rows.expect(rt, "memory"));
+    world
+}
+
+/// The world is as `eight_slots` makes it.
+fn is_as_made(rt: &impl Abort, alloc: Global, world: &mut Texts) {
+    for which in [Which::Counted, Which::Values, Which::Slices, Which::Symbols] {
+        let len = reply_to(rt, alloc, world, Call::Len(which));
+        assert!(rt; matches!(&len, Reply::Number(1)), "{which:?}");
+    }
+    for slot in COUNTED..=SYMBOL {
+        let count = reply_to(rt, alloc, world, Call::Count(slot));
+        assert!(rt; matches!(&count, Reply::Count(Some(1))), "slot {slot}");
+    }
+    assert!(rt; matches!(&world.slot(EMPTY), Some(Slot::Empty)));
+    assert!(rt; world.slot(NONE).is_none());
+}
