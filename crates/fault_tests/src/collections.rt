@@ -1,6 +1,6 @@
 //! Calls of the collector.
 mod grove;
-mod node;
+pub(crate) mod node;
 
 use crate::fault::{Fault, ensure};
 use grove::{Grove, Left, owns_branch, owns_node};

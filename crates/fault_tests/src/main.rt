@@ -12,6 +12,7 @@ mod slices;
 mod storage;
 mod symbols;
 mod values;
+mod worlds;
 
 use crate::collections::{Collection, check_collection, check_registration};
 use crate::fault::Fault;
@@ -19,6 +20,7 @@ use crate::scene::check;
 use crate::slices::Row;
 use crate::symbols::{Call, Symbols};
 use crate::values::Term;
+use crate::worlds::{check_keeping, check_runs};
 use intern_fixtures::Unhashed;
 use ra_ap_intern::{InternSliceStorage, InternStorage, Text};
 use std::alloc::Global;
@@ -35,7 +37,9 @@ fn check_all(rt: &(impl Print + Eprint), alloc: Global) -> Result<(), Fault> {
     check(rt, alloc, Symbols::new(alloc, Call::Generated))?;
     check_registration(rt, alloc)?;
     check_collection(rt, alloc, Collection::Plain)?;
-    check_collection(rt, alloc, Collection::Keeping)
+    check_collection(rt, alloc, Collection::Keeping)?;
+    check_runs(rt, alloc)?;
+    check_keeping(rt, alloc)
 }
 
 fn main(rt: HostRuntime) -> ExitCode {

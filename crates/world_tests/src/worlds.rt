@@ -1,7 +1,7 @@
 //! Worlds, and runs on them with the replies that they must get.
 use intern_fixtures::{GcString, StringSlice, Word, make_gc_string, make_word};
 use intern_world::{Back, Call, Numbers, Reply, World, run};
-use ra_ap_intern::{Collected, GcInternedVisit, Internable, Refusal};
+use ra_ap_intern::{Collected, GcInternedVisit, Internable, Limits, Refusal};
 use std::alloc::Global;
 use std::process::Abort;
 
@@ -13,8 +13,10 @@ pub type Told = Reply<Word, GcString, String>;
 
 pub type Returned = Back<Word, GcString, String>;
 
-/// Calls with the replies that they must get.
-pub type Rows = Vec<(Asked, Told)>;
+/// A call with the reply that it must get.
+pub type Row = (Asked, Told);
+
+pub type Rows = Vec<Row>;
 
 /// The numbers of the worlds of these tests.
 pub const NUMBERS: Numbers = Numbers {
@@ -27,6 +29,11 @@ pub const NUMBERS: Numbers = Numbers {
 /// A new world.
 pub fn new_world(alloc: Global) -> Texts {
     World::new(alloc, NUMBERS)
+}
+
+/// A new world in which counts go to one, and each part gives two births.
+pub fn small_world(alloc: Global) -> Texts {
+    World::with_limits(alloc, NUMBERS, Limits { top: 1, numbers: 2 })
 }
 
 /// Adds a value at the end of a list.

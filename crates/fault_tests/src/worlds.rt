@@ -1,0 +1,395 @@
+//! Runs over lists of calls, on a world.
+mod input;
+
+use crate::collections::node::{Branch, Node};
+use crate::fault::{Fault, ensure};
+use crate::scene::room;
+use input::{ALL, CallKind, FOUNDERS, Input};
+use intern_world::{Back, Call, Numbers, Reply, Slot, World, run};
+use ra_ap_intern::{Collected, Refusal, Text};
+use std::alloc::Global;
+
+/// How many lists of calls are run, each with every call that may want memory.
+const ROUNDS: usize = 140;
+
+/// How many nodes, and how many slices, a world has that collects and keeps some of them.
+const LISTED: usize = 16;
+
+/// How many slots a world has at its beginning.
+const FIRST: usize = 3;
+
+type Calls = Vec<Call<Text, Node, Branch>>;
+
+type Replies = Vec<Reply<Text, Node, Node>>;
+
+/// A handle in a slot.
+#[derive(Clone, Copy)]
+struct Held {
+    kind: CallKind,
+    number: usize,
+    is_gone: bool,
+}
+
+/// A world with what it has to hold: two nodes in the first slots, an owned one and the one that it
+/// declares, and then what the calls of the inputs stored.
+#[derive(Drop)]
+struct Watched {
+    world: World<Text, Node, Branch>,
+    inputs: Vec<Input>,
+    held: Vec<Held>,
+}
+
+/// Checks `run`, and each call of a list that may want memory.
+pub(crate) fn check_runs(rt: &(impl Print + Eprint), alloc: Global) -> Result<(), Fault> {
+    run_rounds(rt, alloc)?;
+    println!(rt; "run: {ROUNDS}")?;
+    for kind in ALL {
+        println!(rt; "{}: {ROUNDS}", kind.name())?;
+    }
+    Ok(())
+}
+
+/// Checks `World::collect_keeping`.
+pub(crate) fn check_keeping(rt: &(impl Print + Eprint), alloc: Global) -> Result<(), Fault> {
+    let visits = keep_some(rt, alloc)?;
+    println!(rt; "World::collect_keeping: {visits}")?;
+    Ok(())
+}
+
+fn run_rounds(rt: &impl Eprint, alloc: Global) -> Result<(), Fault> {
+    let mut watched = Watched::new(alloc)?;
+    for number in 0..ROUNDS {
+        watched.run_round(rt, alloc, number)?;
+    }
+    watched.is_as_it_was()
+}
+
+// Tells the visits.
+fn keep_some(rt: &impl Eprint, alloc: Global) -> Result<usize, Fault> {
+    let mut watched = Watched::new(alloc)?;
+    for number in 0..LISTED {
+        watched.store(rt, alloc, number)?;
+    }
+    watched.keep_listed(rt, alloc)
+}
+
+// A world with two nodes, the second of which is owned and declares the first.
+fn make_world(alloc: Global) -> Result<World<Text, Node, Branch>, Fault> {
+    let numbers = Numbers {
+        counted: 7,
+        values: 8,
+        slices: 9,
+        table: 10,
+    };
+    let mut world = World::new(alloc, numbers);
+    make_one(&mut world, alloc, Call::NewGc(Node::new(ROUNDS, None)))?;
+    let leaf = match world.slot(0) {
+        Some(Slot::ValueRef(leaf)) => *leaf,
+        _ => return Err(Fault::Wrong("a slot holds something else")),
+    };
+    make_one(
+        &mut world,
+        alloc,
+        Call::NewGc(Node::new(ROUNDS, Some(leaf))),
+    )?;
+    make_one(&mut world, alloc, Call::ToOwned(1))?;
+    Ok(world)
+}
+
+// Runs one call, which gives a handle.
+fn make_one(
+    world: &mut World<Text, Node, Branch>,
+    alloc: Global,
+    call: Call<Text, Node, Branch>,
+) -> Result<(), Fault> {
+    let mut calls = Vec::with_capacity(alloc, 1)?;
+    calls.push(call)?;
+    let replies = run(world, calls).map_err(|_| Fault::NoMemory)?;
+    match replies.get(0) {
+        Some(Reply::Made(_, Back::Nothing)) => Ok(()),
+        _ => Err(Fault::NoMemory),
+    }
+}
+
+// The slot of a handle.
+fn slot_of(n: usize) -> usize {
+    n.saturating_add(FIRST)
+}
+
+impl Watched {
+    // At the second try where the first is refused.
+    fn new(alloc: Global) -> Result<Watched, Fault> {
+        let world = match make_world(alloc) {
+            Ok(world) => world,
+            Err(_) => make_world(alloc)?,
+        };
+        Ok(Watched {
+            world,
+            inputs: room(alloc, ROUNDS)?,
+            held: room(alloc, ALL.len() * ROUNDS)?,
+        })
+    }
+
+    // A list of all calls, and a collection of what they stored.
+    fn run_round(&mut self, rt: &impl Eprint, alloc: Global, number: usize) -> Result<(), Fault> {
+        self.inputs.push(Input::make(alloc, number)?)?;
+        self.make_all(rt, alloc, &ALL)?;
+        if self.live() > 0 {
+            self.make_all(rt, alloc, &[CallKind::Collect])?;
+        }
+        Ok(())
+    }
+
+    // Stores a node and a slice.
+    fn store(&mut self, rt: &impl Eprint, alloc: Global, number: usize) -> Result<(), Fault> {
+        self.inputs.push(Input::make(alloc, number)?)?;
+        self.make_all(rt, alloc, &[CallKind::NewGc, CallKind::FromHeaderAndSlice])
+    }
+
+    fn input(&self) -> Result<&Input, Fault> {
+        self.inputs.last().ok_or(Fault::Wrong("there is no input"))
+    }
+
+    // Makes the calls of the last input. Where one is refused, nothing has changed by it, and it is
+    // made once more.
+    fn make_all(
+        &mut self,
+        rt: &impl Eprint,
+        alloc: Global,
+        kinds: &[CallKind],
+    ) -> Result<(), Fault> {
+        let Some(refused) = self.make(rt, alloc, kinds)? else {
+            return Ok(());
+        };
+        rt.eprintln(refused.name())?;
+        self.is_as_it_was()?;
+        match self.make(rt, alloc, &[refused])? {
+            None => Ok(()),
+            Some(_) => Err(Fault::NoMemory),
+        }
+    }
+
+    // Runs the calls of the last input, and tells which one was refused. Where the run is refused,
+    // the calls are back and all is as it was, and the run is made once more.
+    fn make(
+        &mut self,
+        rt: &impl Eprint,
+        alloc: Global,
+        kinds: &[CallKind],
+    ) -> Result<Option<CallKind>, Fault> {
+        let calls = self.calls(alloc, kinds)?;
+        let replies = match run(&mut self.world, calls) {
+            Ok(replies) => replies,
+            Err(back) => {
+                rt.eprintln("run")?;
+                self.are_back(&back, kinds)?;
+                self.is_as_it_was()?;
+                run(&mut self.world, back).map_err(|_| Fault::NoMemory)?
+            }
+        };
+        self.take(&replies, kinds)
+    }
+
+    // At the second try where the first is refused.
+    fn calls(&self, alloc: Global, kinds: &[CallKind]) -> Result<Calls, Fault> {
+        match self.try_calls(alloc, kinds) {
+            Ok(calls) => Ok(calls),
+            Err(_) => self.try_calls(alloc, kinds),
+        }
+    }
+
+    fn try_calls(&self, alloc: Global, kinds: &[CallKind]) -> Result<Calls, Fault> {
+        let mut calls = Vec::with_capacity(alloc, kinds.len())?;
+        for kind in kinds {
+            calls.push(self.input()?.call(alloc, *kind)?)?;
+        }
+        Ok(calls)
+    }
+
+    fn are_back(&self, back: &Calls, kinds: &[CallKind]) -> Result<(), Fault> {
+        ensure(back.len() == kinds.len(), "more or fewer calls came back")?;
+        for (call, kind) in back.iter().zip(kinds.iter()) {
+            ensure(self.input()?.is_call(*kind, call), "another call came back")?;
+        }
+        Ok(())
+    }
+
+    // Fails unless each call has its reply. Tells which one was refused.
+    fn take(&mut self, replies: &Replies, kinds: &[CallKind]) -> Result<Option<CallKind>, Fault> {
+        ensure(
+            replies.len() == kinds.len(),
+            "there are more or fewer replies than calls",
+        )?;
+        let mut refused = None;
+        for (reply, kind) in replies.iter().zip(kinds.iter()) {
+            if !self.is_made(reply, *kind)? {
+                ensure(refused.is_none(), "two calls of a run were refused")?;
+                refused = Some(*kind);
+            }
+        }
+        Ok(refused)
+    }
+
+    // Whether a call was made, and not refused.
+    fn is_made(&mut self, reply: &Reply<Text, Node, Node>, kind: CallKind) -> Result<bool, Fault> {
+        match reply {
+            Reply::Made(slot, Back::Nothing) => {
+                self.hold(*slot, kind)?;
+                Ok(true)
+            }
+            Reply::Collected(told) if kind == CallKind::Collect => {
+                ensure(
+                    *told == self.told(0),
+                    "a collection in a run tells something else",
+                )?;
+                self.sweep(0);
+                Ok(true)
+            }
+            Reply::Refused(Refusal::OutOfMemory, back) => {
+                ensure(
+                    self.input()?.is_back(kind, back),
+                    "a refused call gave back something else",
+                )?;
+                Ok(false)
+            }
+            _ => Err(Fault::Wrong("a call of a run has a wrong reply")),
+        }
+    }
+
+    fn hold(&mut self, slot: usize, kind: CallKind) -> Result<(), Fault> {
+        ensure(
+            slot == slot_of(self.held.len()) && kind != CallKind::Collect,
+            "a handle was made in another slot",
+        )?;
+        let number = self.inputs.len().saturating_sub(1);
+        self.held.push(Held {
+            kind,
+            number,
+            is_gone: false,
+        })?;
+        Ok(())
+    }
+
+    // Collects, and keeps what is in the slots of the lower half of the inputs. Where that is
+    // refused, all is as it was, and it is made once more. Tells the visits.
+    fn keep_listed(&mut self, rt: &impl Eprint, alloc: Global) -> Result<usize, Fault> {
+        let listed = LISTED / 2;
+        let mut slots = room(alloc, self.held.len())?;
+        for (held, n) in self.held.iter().zip(0..) {
+            if held.number < listed {
+                slots.push(slot_of(n))?;
+            }
+        }
+        let reply = match self.world.collect_keeping(&slots) {
+            Reply::Refused(Refusal::OutOfMemory, Back::Nothing) => {
+                rt.eprintln("World::collect_keeping")?;
+                self.is_as_it_was()?;
+                self.world.collect_keeping(&slots)
+            }
+            reply => reply,
+        };
+        let wanted = self.told(listed);
+        ensure(
+            matches!(&reply, Reply::Collected(told) if *told == wanted),
+            "a collection that keeps slots tells something else",
+        )?;
+        self.sweep(listed);
+        self.is_as_it_was()?;
+        Ok(wanted.visits)
+    }
+
+    // What a collection tells that keeps what the inputs below a number stored.
+    fn told(&self, listed: usize) -> Collected {
+        let kept = self
+            .held
+            .iter()
+            .filter(|held| held.is_live() && held.number < listed)
+            .count();
+        Collected {
+            visits: kept.saturating_add(FOUNDERS),
+            mark_calls: 1,
+            removed: self.live().saturating_sub(kept),
+        }
+    }
+
+    // What else was stored, and is collected, is gone.
+    fn sweep(&mut self, listed: usize) {
+        for held in self.held.iter_mut() {
+            if held.kind.is_collected() && held.number >= listed {
+                held.is_gone = true;
+            }
+        }
+    }
+
+    // How many entries there are that the next collection removes.
+    fn live(&self) -> usize {
+        self.held.iter().filter(|held| held.is_live()).count()
+    }
+
+    // How many entries the calls of a kind stored that are not gone.
+    fn stored(&self, kind: CallKind) -> usize {
+        self.held
+            .iter()
+            .filter(|held| held.kind == kind && !held.is_gone)
+            .count()
+    }
+
+    // Fails unless the world has exactly the slots and the entries that it has to have.
+    fn is_as_it_was(&self) -> Result<(), Fault> {
+        self.check_lengths()?;
+        self.check_founders()?;
+        for (held, n) in self.held.iter().zip(0..) {
+            let slot = self.world.slot(slot_of(n));
+            let is_right = match (slot, self.inputs.get(held.number)) {
+                (Some(slot), Some(input)) => {
+                    input.is_held(held.kind, slot, &self.world, held.is_gone)
+                }
+                _ => false,
+            };
+            ensure(is_right, "a slot of a world is not as it was")?;
+        }
+        ensure(
+            self.world.slot(slot_of(self.held.len())).is_none(),
+            "a world has another number of slots",
+        )
+    }
+
+    fn check_lengths(&self) -> Result<(), Fault> {
+        let texts = self
+            .stored(CallKind::Intern)
+            .saturating_add(self.stored(CallKind::IntegerGet))
+            .saturating_add(self.stored(CallKind::GeneratedGet));
+        let nodes = self.stored(CallKind::NewGc).saturating_add(FOUNDERS);
+        ensure(
+            self.world.counted().len() == self.stored(CallKind::New)
+                && self.world.values().len() == nodes
+                && self.world.slices().len() == self.stored(CallKind::FromHeaderAndSlice)
+                && self.world.table().len() == texts,
+            "a storage of a world has another length",
+        )
+    }
+
+    // Fails unless the first nodes are there, the second with one owner.
+    fn check_founders(&self) -> Result<(), Fault> {
+        let nodes = self.world.values();
+        let is_right = match (self.world.slot(0), self.world.slot(1), self.world.slot(2)) {
+            (Some(Slot::ValueRef(leaf)), Some(Slot::ValueRef(parent)), Some(Slot::Value(owner))) =>
+                {
+                    leaf.get(nodes) == Some(&Node::new(ROUNDS, None))
+                        && owner.get(nodes) == Some(&Node::new(ROUNDS, Some(*leaf)))
+                        && nodes.count(*leaf) == Some(0)
+                        && nodes.count(*parent) == Some(1)
+                        && owner.as_ref() == *parent
+                }
+            _ => false,
+        };
+        ensure(is_right, "a node of a world is not as it was")
+    }
+}
+
+impl Held {
+    // Whether a collection removes the entry.
+    fn is_live(&self) -> bool {
+        self.kind.is_collected() && !self.is_gone
+    }
+}

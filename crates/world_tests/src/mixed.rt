@@ -1,0 +1,155 @@
+//! Many calls of all kinds, in the order that a generator draws.
+ghost use Rattle.std.specs.Prelude.{◌<◌};
+
+use crate::model::{GENERATED, INTEGERS, Model};
+use crate::worlds::{Row, Texts, new_world, push, replies};
+use intern_world::{Kind, Which};
+use std::alloc::Global;
+use std::process::Abort;
+
+#[test]
+fn ten_thousand_calls(rt: HostRuntime) {
+    let alloc = rt.alloc();
+    runs_are_as_told(&rt, alloc);
+}
+
+/// Twenty runs on one world, each told by the model. At last the world is as the model.
+fn runs_are_as_told(rt: &impl Abort, alloc: Global) {
+    let mut world = new_world(alloc);
+    let mut model = Model::new(alloc);
+    let mut dice = Dice(1);
+    for _ in 0..20 {
+        run_some(rt, alloc, &mut world, &mut model, &mut dice);
+    }
+    is_as_told(rt, alloc, &mut world, &model);
+}
+
+/// Makes 500 calls in one run.
+fn run_some(rt: &impl Abort, alloc: Global, world: &mut Texts, model: &mut Model, dice: &mut Dice) {
+    let mut rows = Vec::new(alloc);
+    for _ in 0..500 {
+        push(rt, &mut rows, draw(rt, model, dice));
+    }
+    replies(rt, world, rows);
+}
+
+/// Each slot reads what the model has there, each count is that of the model, and so is how many
+/// entries there are.
+fn is_as_told(rt: &impl Abort, alloc: Global, world: &mut Texts, model: &Model) {
+    let mut rows = Vec::new(alloc);
+    for slot in 0..model.len() {
+        push(rt, &mut rows, model.reads_all(rt, slot));
+        push(rt, &mut rows, model.count(slot));
+    }
+    for which in [Which::Counted, Which::Values, Which::Slices, Which::Symbols] {
+        push(rt, &mut rows, model.len_of(which));
+    }
+    replies(rt, world, rows);
+    assert!(rt; world.slot(model.len()).is_none());
+}
+
+/// Draws a call.
+fn draw(rt: &impl Abort, model: &mut Model, dice: &mut Dice) -> Row {
+    match dice.below(4) {
+        0 => draw_making(rt, model, dice),
+        1 => draw_counting(rt, model, dice),
+        2 => draw_reading(rt, model, dice),
+        _ => draw_telling(model, dice),
+    }
+}
+
+fn draw_making(rt: &impl Abort, model: &mut Model, dice: &mut Dice) -> Row {
+    let number = 240 + dice.below(32) as usize;
+    match dice.below(9) {
+        0 => model.new_counted(rt, dice.below(100)),
+        1 => model.new_value(rt, dice.below(100)),
+        2 => model.new_slice(rt, dice.below(100)),
+        3 => model.intern(rt, draw_key(dice)),
+        4 => model.integer(rt, number),
+        5 => model.generated(rt, number),
+        6 => model.empty(rt),
+        7 => model.put(rt),
+        _ => model.from_raw(rt, draw_kind(dice), dice.below(200)),
+    }
+}
+
+fn draw_counting(rt: &impl Abort, model: &mut Model, dice: &mut Dice) -> Row {
+    let slot = draw_slot(model, dice);
+    match dice.below(8) {
+        0 => model.as_ref(rt, slot),
+        1 => model.clone(rt, slot),
+        2 | 3 => model.to_owned(rt, slot),
+        4 | 5 | 6 => model.release(rt, slot),
+        _ => model.decrement(rt, slot),
+    }
+}
+
+fn draw_reading(rt: &impl Abort, model: &mut Model, dice: &mut Dice) -> Row {
+    let slot = draw_slot(model, dice);
+    match dice.below(5) {
+        0 | 1 | 2 => model.reads_all(rt, slot),
+        3 => model.reads(rt, slot, draw_key(dice), draw_part(dice)),
+        _ => model.same(slot, draw_slot(model, dice)),
+    }
+}
+
+fn draw_telling(model: &mut Model, dice: &mut Dice) -> Row {
+    let slot = draw_slot(model, dice);
+    match dice.below(9) {
+        0 => model.collect(),
+        1 => model.as_raw(slot),
+        2 | 3 => model.len_of(draw_part(dice)),
+        4 => model.uint(slot),
+        _ => model.count(slot),
+    }
+}
+
+/// One of the last slots, or of none.
+fn draw_slot(model: &Model, dice: &mut Dice) -> usize {
+    model.len().saturating_sub(dice.below(40) as usize)
+}
+
+/// The key of a text, which is a preset or isn't.
+fn draw_key(dice: &mut Dice) -> u64 {
+    match dice.below(3) {
+        0 => INTEGERS + 240 + dice.below(32),
+        1 => GENERATED + 240 + dice.below(32),
+        _ => dice.below(100),
+    }
+}
+
+fn draw_kind(dice: &mut Dice) -> Kind {
+    match dice.below(4) {
+        0 => Kind::Counted,
+        1 => Kind::CountedRef,
+        2 => Kind::Value,
+        _ => Kind::ValueRef,
+    }
+}
+
+fn draw_part(dice: &mut Dice) -> Which {
+    match dice.below(4) {
+        0 => Which::Counted,
+        1 => Which::Values,
+        2 => Which::Slices,
+        _ => Which::Symbols,
+    }
+}
+
+/// A linear congruential generator, with the constants of Knuth's MMIX.
+#[derive(Drop)]
+struct Dice(u64);
+
+impl Dice {
+    /// The next number, below this one.
+    fn below(&mut self, sides: u64) -> u64
+        requires { 0 < sides }
+        ensures { result < sides }
+    {
+        self.0 = self
+            .0
+            .wrapping_mul(6_364_136_223_846_793_005)
+            .wrapping_add(1_442_695_040_888_963_407);
+        (self.0 >> 33) % sides
+    }
+}
