@@ -10,7 +10,9 @@ use ra_ap_intern::{
 };
 use std::alloc::Global;
 
-/// What a world is made of: its storages, its table and its slots. Each call is a function of it.
+/// What a world is made of: its storages, its table and its slots. Each call is a function of it,
+/// and takes the memory that the library's call takes. One that gives a handle wants the room for a
+/// slot, which [`Slots::reserve`] asks for.
 #[derive(Drop)]
 pub struct Parts<C: Internable, G: Internable, S: SliceInternable> {
     /// What memory is taken from.

@@ -38,8 +38,8 @@ impl<C, G, S> Slots<C, G, S> {
         }
     }
 
-    /// Asks for the room of so many slots more. Where there is no memory for it, `AllocError`, and the
-    /// slots are as before.
+    /// Asks for the room of so many slots more. Where there is no memory for it, `AllocError`. What
+    /// the slots hold stays.
     pub fn reserve(&mut self, more: usize) -> Result<(), AllocError>
         ensures held { self.new.held ≡ self.old.held }
         ensures room { OnOk result (more ≤ self.new.room) }
@@ -87,7 +87,7 @@ impl<C, G, S> Slots<C, G, S> {
         }
     }
 
-    /// Puts a handle into a slot that is there.
+    /// Puts a handle into a slot. Where there is none of this number, the handle is dropped.
     #[tactic(auto, using(crate::proofs::Lists::map_set))]
     pub fn put_back(&mut self, n: usize, slot: Slot<C, G, S>)
         ensures held { self.new.held ≡ slice_set self.old.held n (seen slot) }
