@@ -21,7 +21,9 @@ fn a_chain_of_a_thousand_nodes(rt: &impl Abort, alloc: Global) {
     }
     let owned = reply_to(rt, alloc, &mut world, Call::ToOwned(999));
     assert!(rt; matches!(&owned, Reply::Made(1_000, Back::Nothing)));
-    collects(rt, alloc, &mut world, (1_000, 999, 0));
+    for _ in 0..2 {
+        collects(rt, alloc, &mut world, (1_000, 999, 0));
+    }
     let released = reply_to(rt, alloc, &mut world, Call::Release(1_000));
     assert!(rt; matches!(&released, Reply::Done(Back::Nothing)));
     collects(rt, alloc, &mut world, (0, 0, 1_000));
