@@ -1,8 +1,9 @@
 //! Makes the public calls that may want memory, and those that want none, and checks each answer.
 //!
-//! One request for memory may be refused, whichever it is: what was refused is tried once more.
-//! So the program writes the same, whatever was refused. Where a call was refused, it checks
-//! first that nothing has changed and that what was offered came back.
+//! One request for memory may be refused, whichever it is: what was refused is tried once more, or
+//! the replies are checked that the calls after it have then. So the program writes the same,
+//! whatever was refused. Where a call was refused, it checks first that nothing has changed and that
+//! what was offered came back.
 #![tactic(auto)]
 
 mod collections;
@@ -20,7 +21,7 @@ use crate::scene::check;
 use crate::slices::Row;
 use crate::symbols::{Call, Symbols};
 use crate::values::Term;
-use crate::worlds::{check_keeping, check_runs};
+use crate::worlds::{check_keeping, check_one_value, check_runs};
 use intern_fixtures::Unhashed;
 use ra_ap_intern::{InternSliceStorage, InternStorage, Text};
 use std::alloc::Global;
@@ -39,6 +40,7 @@ fn check_all(rt: &(impl Print + Eprint), alloc: Global) -> Result<(), Fault> {
     check_collection(rt, alloc, Collection::Plain)?;
     check_collection(rt, alloc, Collection::Keeping)?;
     check_runs(rt, alloc)?;
+    check_one_value(rt, alloc)?;
     check_keeping(rt, alloc)
 }
 

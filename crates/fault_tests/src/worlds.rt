@@ -1,11 +1,13 @@
-//! Runs over lists of calls, on a world.
+//! Runs over lists of calls, on worlds.
 mod input;
+mod one_value;
 
 use crate::collections::node::{Branch, Node};
 use crate::fault::{Fault, ensure};
 use crate::scene::room;
 use input::{ALL, CallKind, FOUNDERS, Input};
 use intern_world::{Back, Call, Numbers, Reply, Slot, World, run};
+pub(crate) use one_value::check_one_value;
 use ra_ap_intern::{Collected, Refusal, Text};
 use std::alloc::Global;
 
@@ -18,9 +20,13 @@ const LISTED: usize = 16;
 /// How many slots a world has at its beginning.
 const FIRST: usize = 3;
 
+type TestWorld = World<Text, Node, Branch>;
+
 type Calls = Vec<Call<Text, Node, Branch>>;
 
-type Replies = Vec<Reply<Text, Node, Node>>;
+type TestReply = Reply<Text, Node, Node>;
+
+type Replies = Vec<TestReply>;
 
 /// A handle in a slot.
 #[derive(Clone, Copy)]
@@ -34,7 +40,7 @@ struct Held {
 /// declares, and then what the calls of the inputs stored.
 #[derive(Drop)]
 struct Watched {
-    world: World<Text, Node, Branch>,
+    world: TestWorld,
     inputs: Vec<Input>,
     held: Vec<Held>,
 }
@@ -73,15 +79,20 @@ fn keep_some(rt: &impl Eprint, alloc: Global) -> Result<usize, Fault> {
     watched.keep_listed(rt, alloc)
 }
 
-// A world with two nodes, the second of which is owned and declares the first.
-fn make_world(alloc: Global) -> Result<World<Text, Node, Branch>, Fault> {
+// A world with nothing in it.
+fn new_world(alloc: Global) -> TestWorld {
     let numbers = Numbers {
         counted: 7,
         values: 8,
         slices: 9,
         table: 10,
     };
-    let mut world = World::new(alloc, numbers);
+    World::new(alloc, numbers)
+}
+
+// A world with two nodes, the second of which is owned and declares the first.
+fn make_world(alloc: Global) -> Result<TestWorld, Fault> {
+    let mut world = new_world(alloc);
     make_one(&mut world, alloc, Call::NewGc(Node::new(ROUNDS, None)))?;
     let leaf = match world.slot(0) {
         Some(Slot::ValueRef(leaf)) => *leaf,
@@ -98,7 +109,7 @@ fn make_world(alloc: Global) -> Result<World<Text, Node, Branch>, Fault> {
 
 // Runs one call, which gives a handle.
 fn make_one(
-    world: &mut World<Text, Node, Branch>,
+    world: &mut TestWorld,
     alloc: Global,
     call: Call<Text, Node, Branch>,
 ) -> Result<(), Fault> {
@@ -107,11 +118,12 @@ fn make_one(
     let replies = run(world, calls).map_err(|_| Fault::NoMemory)?;
     match replies.get(0) {
         Some(Reply::Made(_, Back::Nothing)) => Ok(()),
-        _ => Err(Fault::NoMemory),
+        Some(Reply::Refused(Refusal::OutOfMemory, _)) => Err(Fault::NoMemory),
+        _ => Err(Fault::Wrong("a call of a run has a wrong reply")),
     }
 }
 
-// The slot of a handle.
+// The slot of the n-th handle that a list of calls gave.
 fn slot_of(n: usize) -> usize {
     n.saturating_add(FIRST)
 }
@@ -120,8 +132,8 @@ impl Watched {
     // At the second try where the first is refused.
     fn new(alloc: Global) -> Result<Watched, Fault> {
         let world = match make_world(alloc) {
-            Ok(world) => world,
-            Err(_) => make_world(alloc)?,
+            Err(Fault::NoMemory | Fault::RefusedTwice) => make_world(alloc)?,
+            made => made?,
         };
         Ok(Watched {
             world,
@@ -130,11 +142,12 @@ impl Watched {
         })
     }
 
-    // A list of all calls, and a collection of what they stored.
+    // Makes all calls, the last of which collects what they stored, and collects what was stored
+    // only at a second try.
     fn run_round(&mut self, rt: &impl Eprint, alloc: Global, number: usize) -> Result<(), Fault> {
         self.inputs.push(Input::make(alloc, number)?)?;
         self.make_all(rt, alloc, &ALL)?;
-        if self.live() > 0 {
+        if self.uncounted() > 0 {
             self.make_all(rt, alloc, &[CallKind::Collect])?;
         }
         Ok(())
@@ -231,7 +244,7 @@ impl Watched {
     }
 
     // Whether a call was made, and not refused.
-    fn is_made(&mut self, reply: &Reply<Text, Node, Node>, kind: CallKind) -> Result<bool, Fault> {
+    fn is_made(&mut self, reply: &TestReply, kind: CallKind) -> Result<bool, Fault> {
         match reply {
             Reply::Made(slot, Back::Nothing) => {
                 self.hold(*slot, kind)?;
@@ -303,12 +316,12 @@ impl Watched {
         let kept = self
             .held
             .iter()
-            .filter(|held| held.is_live() && held.number < listed)
+            .filter(|held| held.is_uncounted() && held.number < listed)
             .count();
         Collected {
             visits: kept.saturating_add(FOUNDERS),
             mark_calls: 1,
-            removed: self.live().saturating_sub(kept),
+            removed: self.uncounted().saturating_sub(kept),
         }
     }
 
@@ -322,8 +335,8 @@ impl Watched {
     }
 
     // How many entries there are that the next collection removes.
-    fn live(&self) -> usize {
-        self.held.iter().filter(|held| held.is_live()).count()
+    fn uncounted(&self) -> usize {
+        self.held.iter().filter(|held| held.is_uncounted()).count()
     }
 
     // How many entries the calls of a kind stored that are not gone.
@@ -388,8 +401,8 @@ impl Watched {
 }
 
 impl Held {
-    // Whether a collection removes the entry.
-    fn is_live(&self) -> bool {
+    // Whether the next collection removes the entry, unless its slot is listed.
+    fn is_uncounted(&self) -> bool {
         self.kind.is_collected() && !self.is_gone
     }
 }

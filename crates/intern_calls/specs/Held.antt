@@ -75,7 +75,7 @@ abbrev pub is_symbol : Held → Bool
 is_symbol (symbol s) = true
 is_symbol _ = false
 
--- what a slot holds, as four numbers: its kind, and what it names
+-- what a slot holds, as three numbers: its kind, and what it names
 abbrev pub named_numbers : Named → ℕ × (ℕ × ℕ)
 named_numbers (preset p) = (7, (p, 0))
 named_numbers (entry n) = (8, (n.storage, n.birth))

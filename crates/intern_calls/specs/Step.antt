@@ -85,7 +85,7 @@ module _ {C G S H I : Type 0} where
   Step kinds w c reply after =
       Answers kinds w c reply after ⊎ Lacks (wants_memory kinds w c) w reply after
 
--- the name of a handle that is collected
+-- the name of a handle of a collected entry
 abbrev pub root_in : Held → Option Name
 root_in (owned values n) = Some n
 root_in (reference values n) = Some n

@@ -61,7 +61,7 @@ module _ {C G H I : Type 0} where
   entries kinds w = entries_of kinds.value_children w.values
       ++ entries_of kinds.slice_children w.slices
 
-  -- of these the ones alone whose names are listed
+  -- the world with only those of its collected entries whose names are listed
   abbrev pub swept : WorldState C G H I → List Name → WorldState C G H I
   swept w names = record w {
     values = kept_named w.values (has names);

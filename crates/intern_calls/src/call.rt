@@ -30,7 +30,9 @@ pub enum Which {
 
 /// A call of the library, on handles in slots.
 ///
-/// A call that gives a handle puts it into a new slot at the end of the list.
+/// A call that gives a handle puts it into a new slot at the end of the list. It is refused where
+/// the library's call of that name is. Where there is no such slot, or it holds nothing that the
+/// call takes, the reply is `WrongSlot`.
 #[derive(Drop)]
 pub enum Call<C, G, S: SliceInternable> {
     /// Interns a counted value: an owned handle.
@@ -51,7 +53,7 @@ pub enum Call<C, G, S: SliceInternable> {
     Put(Slot<C, G, S>),
     /// A handle of a birth.
     FromRaw(Kind, u64),
-    /// A reference to what an owned handle names.
+    /// A reference to what an owned handle of a value or of a slice names.
     AsRef(usize),
     /// A second owned handle or symbol.
     Clone(usize),
@@ -61,7 +63,7 @@ pub enum Call<C, G, S: SliceInternable> {
     Release(usize),
     /// Takes back the count of a handle that was dropped, by a reference or a symbol.
     Decrement(usize),
-    /// The birth that a reference names.
+    /// The birth that a reference to a value names.
     AsRaw(usize),
     /// Whether a handle reads this counted value.
     ReadsCounted(usize, C),

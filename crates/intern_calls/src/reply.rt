@@ -33,7 +33,8 @@ pub enum Reply<C, G, H> {
     Uint(Option<usize>),
     /// What a collection did.
     Collected(Collected),
-    /// The call was refused, and nothing has changed.
+    /// The call was refused, and nothing has changed. The value or the header that it was offered
+    /// is back.
     Refused(Refusal, Back<C, G, H>),
     /// There is no slot of this number, or it holds nothing that the call takes.
     WrongSlot,

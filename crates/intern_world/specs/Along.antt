@@ -58,8 +58,8 @@ module _ {C G S H I : Type 0} where
       × IsCollection (starts (entries kinds t.before)) (entries kinds t.before) names told
       × (t.after ≡ swept t.before names)
 
-  -- at each world, and at each world and each later one; and after any of its turns each count is
-  -- what it was, and what the turns before added less what they took
+  -- what holds along turns from w: at each world, at each world and each later one, of each count
+  -- after any of the turns, and at each collection
   pub record HoldsAlong (kinds : Kinds C G H I) (w : WorldState C G H I)
       (ts : List (Turn C G S H I)) : Type 0
     where

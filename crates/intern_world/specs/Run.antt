@@ -32,7 +32,7 @@ module _ {C G H I : Type 0} where
     slots = [];
   }
 
-  -- each storage holds values that differ, and each number is another
+  -- each storage holds values that differ, and no two numbers are the same
   pub record IsWorld (kinds : Kinds C G H I) (w : WorldState C G H I) : Type 0 where
     pub counted : IsState kinds.counted_eq w.counted
     pub values : IsState kinds.value_eq w.values
@@ -42,7 +42,8 @@ module _ {C G H I : Type 0} where
     pub distinct : are_distinct (numbers_of w) ≡ true
 
 module _ {C G S H I : Type 0} where
-  -- a run from a world to an end: steps, each from the world that the one before it left
+  -- a run from a world to an end: steps, each from the world that the one before it left, where
+  -- `IsWorld` holds of each
   abbrev pub IsRun : Kinds C G H I → WorldState C G H I → List (Turn C G S H I)
       → WorldState C G H I → Type 0
   IsRun kinds w [] end = (w ≡ end) × IsWorld kinds w

@@ -84,7 +84,7 @@ where
     reply
 }
 
-// Says what holds of the storages, and takes no step.
+// Says what holds of the storages, and changes nothing.
 fn learn<C: Internable, G: Internable + GcInternedVisit, S: GcInternedSliceVisit>(
     parts: &Parts<C, G, S>,
 )

@@ -141,7 +141,8 @@ impl<C: Internable, G: Internable + GcInternedVisit + Drop, S: GcInternedSliceVi
 where
     S::Header: Drop,
 {
-    /// Collects, and begins also at the entries that the handles in these slots name.
+    /// Collects, and begins also at the entries that the handles in these slots name. A handle whose
+    /// entry is gone, or of another storage, adds nothing.
     ///
     /// It replies as a collection does: `Collected`, or `Refused` where there is no memory, also
     /// for the names. `WrongSlot` where a slot holds no handle of a collected value or of a slice.

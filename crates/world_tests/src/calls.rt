@@ -125,13 +125,14 @@ fn slices_are_read_and_released(rt: HostRuntime) {
     tells_anew(&rt, alloc, &SLICES_ARE_READ_AND_RELEASED);
 }
 
-const SYMBOLS_ARE_MADE: [(Ask, Tell); 12] = [
+const SYMBOLS_ARE_MADE: [(Ask, Tell); 13] = [
     (Ask::Intern("1000"), Tell::Made(0)),
     (Ask::IntegerGet(1000), Tell::Made(1)),
     (Ask::GeneratedGet(1000), Tell::Made(2)),
     (Ask::Intern("<ra@gennew>1000"), Tell::Made(3)),
     (Ask::Empty, Tell::Made(4)),
     (Ask::Intern(""), Tell::Made(5)),
+    (Ask::PutEmpty, Tell::Made(6)),
     (Ask::Same(0, 1), Tell::Truth(true)),
     (Ask::Same(2, 3), Tell::Truth(true)),
     (Ask::Same(4, 5), Tell::Truth(true)),

@@ -1,10 +1,11 @@
 //! Handles that are put into slots, of other storages and tables than the world's.
 use crate::rows::{Ask, Tell, tells};
-use crate::worlds::{NUMBERS, Texts, new_world, reply_to, text, value, word};
+use crate::worlds::{NUMBERS, Texts, collected, is_told, new_world, reply_to, text, value, word};
 use intern_fixtures::{GcString, StringSlice, Word, allowed};
 use intern_world::{Back, Call, Reply, Slot, Which};
 use ra_ap_intern::{
-    InternSliceStorage, InternStorage, Interned, InternedSlice, Refusal, Symbol, SymbolTable,
+    InternSliceStorage, InternStorage, Interned, InternedSlice, InternedSliceRef, Refusal, Symbol,
+    SymbolTable,
 };
 use std::alloc::Global;
 use std::process::Abort;
@@ -59,6 +60,14 @@ fn a_collected_value_of_another_storage(rt: HostRuntime) {
     puts(&rt, alloc, &mut world, Slot::ValueRef(reference));
     puts(&rt, alloc, &mut world, Slot::Value(owned));
     tells(&rt, alloc, &mut world, &A_COLLECTED_VALUE);
+    nothing_is_kept(&rt, &mut world);
+}
+
+/// Of the collected values, slots 0 and 1 have handles of another storage, and slot 2 that of the
+/// world's only one, which nothing counts.
+fn nothing_is_kept(rt: &impl Abort, world: &mut Texts) {
+    is_told(rt, &world.collect_keeping(&[0, 1]), &collected(0, 0, 1));
+    is_told(rt, &world.collect_keeping(&[2]), &collected(0, 0, 0));
 }
 
 const A_SLICE: [(Ask, Tell); 7] = [
@@ -76,9 +85,7 @@ fn a_slice_of_another_storage(rt: HostRuntime) {
     let alloc = rt.alloc();
     let mut world = new_world(alloc);
     let mut other: InternSliceStorage<StringSlice> = InternSliceStorage::new(alloc, OTHER);
-    let header = text(&rt, alloc, "x");
-    let made = allowed(InternedSlice::from_header_and_slice(&mut other, header, &[1]));
-    let (reference, _) = made.expect(&rt, "interned");
+    let reference = slice(&rt, alloc, &mut other);
     let owned = reference.to_owned(&mut other).expect(&rt, "owned");
     puts(&rt, alloc, &mut world, Slot::SliceRef(reference));
     puts(&rt, alloc, &mut world, Slot::Slice(owned));
@@ -155,4 +162,16 @@ fn counted(
 ) -> Interned<Word> {
     let (handle, _) = allowed(Interned::new(storage, word(rt, alloc, text))).expect(rt, "made");
     handle
+}
+
+/// Interns a slice in a storage, and gives its reference.
+fn slice(
+    rt: &impl Abort,
+    alloc: Global,
+    storage: &mut InternSliceStorage<StringSlice>,
+) -> InternedSliceRef<StringSlice> {
+    let header = text(rt, alloc, "x");
+    let made = allowed(InternedSlice::from_header_and_slice(storage, header, &[1]));
+    let (reference, _) = made.expect(rt, "made");
+    reference
 }

@@ -2,7 +2,7 @@
 ghost use Rattle.std.specs.Prelude.{◌<◌};
 
 use crate::model::{GENERATED, INTEGERS, Model};
-use crate::worlds::{Row, Texts, new_world, push, replies};
+use crate::worlds::{Row, Rows, Texts, new_world, push, replies};
 use intern_world::{Kind, Which};
 use std::alloc::Global;
 use std::process::Abort;
@@ -10,27 +10,26 @@ use std::process::Abort;
 #[test]
 fn ten_thousand_calls(rt: HostRuntime) {
     let alloc = rt.alloc();
-    runs_are_as_told(&rt, alloc);
+    a_run_is_as_told(&rt, alloc);
 }
 
-/// Twenty runs on one world, each told by the model. At last the world is as the model.
-fn runs_are_as_told(rt: &impl Abort, alloc: Global) {
+/// Makes the calls in one run: each has the model's reply, and at the end the world is as the model.
+fn a_run_is_as_told(rt: &impl Abort, alloc: Global) {
     let mut world = new_world(alloc);
     let mut model = Model::new(alloc);
-    let mut dice = Dice(1);
-    for _ in 0..20 {
-        run_some(rt, alloc, &mut world, &mut model, &mut dice);
-    }
+    let rows = draw_all(rt, alloc, &mut model);
+    replies(rt, &mut world, rows);
     is_as_told(rt, alloc, &mut world, &model);
 }
 
-/// Makes 500 calls in one run.
-fn run_some(rt: &impl Abort, alloc: Global, world: &mut Texts, model: &mut Model, dice: &mut Dice) {
+/// Draws 10,000 calls, each with the model's reply.
+fn draw_all(rt: &impl Abort, alloc: Global, model: &mut Model) -> Rows {
+    let mut dice = Dice(1);
     let mut rows = Vec::new(alloc);
-    for _ in 0..500 {
-        push(rt, &mut rows, draw(rt, model, dice));
+    for _ in 0..10_000 {
+        push(rt, &mut rows, draw(rt, model, &mut dice));
     }
-    replies(rt, world, rows);
+    rows
 }
 
 /// Each slot reads what the model has there, each count is that of the model, and so is how many
@@ -59,7 +58,7 @@ fn draw(rt: &impl Abort, model: &mut Model, dice: &mut Dice) -> Row {
 }
 
 fn draw_making(rt: &impl Abort, model: &mut Model, dice: &mut Dice) -> Row {
-    let number = 240 + dice.below(32) as usize;
+    let number = draw_number(dice) as usize;
     match dice.below(9) {
         0 => model.new_counted(rt, dice.below(100)),
         1 => model.new_value(rt, dice.below(100)),
@@ -104,7 +103,7 @@ fn draw_telling(model: &mut Model, dice: &mut Dice) -> Row {
     }
 }
 
-/// One of the last slots, or of none.
+/// One of the last 39 slots, or the number of none.
 fn draw_slot(model: &Model, dice: &mut Dice) -> usize {
     model.len().saturating_sub(dice.below(40) as usize)
 }
@@ -112,10 +111,17 @@ fn draw_slot(model: &Model, dice: &mut Dice) -> usize {
 /// The key of a text, which is a preset or isn't.
 fn draw_key(dice: &mut Dice) -> u64 {
     match dice.below(3) {
-        0 => INTEGERS + 240 + dice.below(32),
-        1 => GENERATED + 240 + dice.below(32),
+        0 => INTEGERS + draw_number(dice),
+        1 => GENERATED + draw_number(dice),
         _ => dice.below(100),
     }
+}
+
+/// A number about 256, from which on the texts of numbers are no presets.
+fn draw_number(dice: &mut Dice) -> u64
+    ensures { result < 272 }
+{
+    240 + dice.below(32)
 }
 
 fn draw_kind(dice: &mut Dice) -> Kind {

@@ -105,13 +105,22 @@ fn two_slots_are_compared_where_they_are_of_one_kind(rt: &impl Abort, alloc: Glo
     let mut world = eight_slots(rt, alloc);
     for n in EMPTY..=NONE {
         for m in EMPTY..=NONE {
-            let reply = reply_to(rt, alloc, &mut world, Call::Same(n, m));
-            let is_one = n == m && n != EMPTY && n != NONE;
-            assert_eq!(rt; matches!(&reply, Reply::Truth(true)), is_one, "{n} and {m}");
-            assert_eq!(rt; matches!(&reply, Reply::WrongSlot), !is_one, "{n} and {m}");
+            compares(rt, alloc, &mut world, (n, m));
         }
     }
     is_as_made(rt, alloc, &mut world);
+}
+
+/// A slot that holds a handle is as itself, and can be compared with no other of eight.
+fn compares(rt: &impl Abort, alloc: Global, world: &mut Texts, (n, m): (usize, usize)) {
+    let is_one = n == m && n != EMPTY && n != NONE;
+    let reply = reply_to(rt, alloc, world, Call::Same(n, m));
+    let is_told = match &reply {
+        Reply::Truth(true) => is_one,
+        Reply::WrongSlot => !is_one,
+        _ => false,
+    };
+    assert!(rt; is_told, "{n} and {m}");
 }
 
 fn collections_begin_at_what_is_collected(rt: &impl Abort, alloc: Global) {
@@ -127,14 +136,20 @@ fn collections_begin_at_what_is_collected(rt: &impl Abort, alloc: Global) {
 /// The call takes these slots of eight, and on any other changes nothing.
 fn takes(rt: &impl Abort, alloc: Global, call: Taking, slots: &[usize]) {
     for slot in EMPTY..=NONE {
-        let mut world = eight_slots(rt, alloc);
-        let reply = reply_to(rt, alloc, &mut world, call_on(rt, alloc, call, slot));
-        let is_wrong = matches!(&reply, Reply::WrongSlot);
-        assert_eq!(rt; !is_wrong, slots.contains(&slot), "{call:?} on slot {slot}");
-        if is_wrong {
-            is_as_made(rt, alloc, &mut world);
-        }
+        let is_taken = does_take(rt, alloc, call, slot);
+        assert_eq!(rt; is_taken, slots.contains(&slot), "{call:?} on slot {slot}");
     }
+}
+
+/// Whether the call takes this slot of eight. Where it doesn't, it changes nothing.
+fn does_take(rt: &impl Abort, alloc: Global, call: Taking, slot: usize) -> bool {
+    let mut world = eight_slots(rt, alloc);
+    let reply = reply_to(rt, alloc, &mut world, call_on(rt, alloc, call, slot));
+    let is_wrong = matches!(&reply, Reply::WrongSlot);
+    if is_wrong {
+        is_as_made(rt, alloc, &mut world);
+    }
+    !is_wrong
 }
 
 /// The call on a slot.

@@ -1,7 +1,8 @@
 //! The calls of a run that may want memory, each with the values and the texts of a number.
+use super::TestWorld;
 use crate::collections::node::{Branch, Node, items_of};
 use crate::values::text_of;
-use intern_world::{Back, Call, Slot, World};
+use intern_world::{Back, Call, Slot};
 use ra_ap_intern::{HeaderSlice, Text, sym};
 use std::alloc::{AllocError, Global};
 
@@ -142,7 +143,7 @@ impl Input {
         &self,
         kind: CallKind,
         slot: &Slot<Text, Node, Branch>,
-        world: &World<Text, Node, Branch>,
+        world: &TestWorld,
         is_gone: bool,
     ) -> bool {
         match kind {
@@ -156,11 +157,7 @@ impl Input {
         }
     }
 
-    fn is_text_in(
-        &self,
-        slot: &Slot<Text, Node, Branch>,
-        world: &World<Text, Node, Branch>,
-    ) -> bool {
+    fn is_text_in(&self, slot: &Slot<Text, Node, Branch>, world: &TestWorld) -> bool {
         let Slot::Counted(handle) = slot else {
             return false;
         };
@@ -172,7 +169,7 @@ impl Input {
     fn is_node_in(
         &self,
         slot: &Slot<Text, Node, Branch>,
-        world: &World<Text, Node, Branch>,
+        world: &TestWorld,
         is_gone: bool,
     ) -> bool {
         let Slot::ValueRef(reference) = slot else {
@@ -187,7 +184,7 @@ impl Input {
     fn is_branch_in(
         &self,
         slot: &Slot<Text, Node, Branch>,
-        world: &World<Text, Node, Branch>,
+        world: &TestWorld,
         is_gone: bool,
     ) -> bool {
         let Slot::SliceRef(reference) = slot else {
@@ -198,11 +195,7 @@ impl Input {
             && world.slices().count(*reference) == (!is_gone).then_some(0)
     }
 
-    fn is_integer_in(
-        &self,
-        slot: &Slot<Text, Node, Branch>,
-        world: &World<Text, Node, Branch>,
-    ) -> bool {
+    fn is_integer_in(&self, slot: &Slot<Text, Node, Branch>, world: &TestWorld) -> bool {
         let Slot::Symbol(symbol) = slot else {
             return false;
         };
@@ -224,11 +217,7 @@ fn large(number: usize) -> usize {
 }
 
 // Whether a slot holds the only symbol of this text.
-fn is_symbol_in(
-    slot: &Slot<Text, Node, Branch>,
-    world: &World<Text, Node, Branch>,
-    text: &Text,
-) -> bool {
+fn is_symbol_in(slot: &Slot<Text, Node, Branch>, world: &TestWorld, text: &Text) -> bool {
     let Slot::Symbol(symbol) = slot else {
         return false;
     };

@@ -12,7 +12,7 @@ use crate::slot::Slot;
 use ra_ap_intern::{Internable, InternedRef, InternedSliceRef, Refusal, Refused, SliceInternable};
 
 impl<C: Internable, G: Internable, S: SliceInternable> Parts<C, G, S> {
-    /// A reference to what an owned handle names.
+    /// A reference to what an owned handle of a value or of a slice names.
     pub fn refer(&mut self, n: usize) -> Reply<C, G, S::Header>
         requires { 0 < self.old.slots.room }
         ensures says { Says (refers (world_of self.old) (held_at self.old.slots.held n)) result

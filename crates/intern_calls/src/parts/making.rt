@@ -187,7 +187,7 @@ impl<C: Internable, G: Internable, S: SliceInternable> Parts<C, G, S> {
         }
     }
 
-    // The handle itself.
+    // The handle of a birth, or why there is none.
     fn raw(&self, kind: Kind, birth: u64) -> Result<Slot<C, G, S>, Refusal>
         ensures ok { IfOk result (λ slot. seen slot ≡ raw_held (world_of self.now) kind birth) }
         ensures refused { Owes result (due_raw (world_of self.now) kind birth) }

@@ -20,7 +20,7 @@ use ra_ap_intern::{
 };
 
 impl<C: Internable, G: Internable, S: SliceInternable> Parts<C, G, S> {
-    /// The birth that a reference names.
+    /// The birth that a reference to a value names.
     pub fn birth(&self, n: usize) -> Reply<C, G, S::Header>
         ensures { Says (tells_birth (world_of self.now) (held_at self.now.slots.held n)) result
             (world_of self.now) }

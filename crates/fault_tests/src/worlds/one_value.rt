@@ -1,0 +1,158 @@
+//! A run that interns one value twice, on a new world. Where its first call is refused for want of
+//! memory, its third gives the first handle.
+use super::{Calls, Replies, TestReply, TestWorld, new_world};
+use crate::fault::{Fault, ensure};
+use intern_world::{Back, Call, Reply, run};
+use ra_ap_intern::{Refusal, Text};
+use std::alloc::{AllocError, Global};
+
+/// The value. It takes no memory beside its entry.
+const VALUE: &str = "x";
+
+/// How many calls the run has.
+const CALLS: usize = 8;
+
+/// Checks its replies, and that at the end the world has no entry.
+pub(crate) fn check_one_value(rt: &(impl Print + Eprint), alloc: Global) -> Result<(), Fault> {
+    run_one_value(rt, alloc)?;
+    println!(rt; "run, on one value: {CALLS}")?;
+    println!(rt; "Call::New, first of a run on one value: {CALLS}")?;
+    Ok(())
+}
+
+fn run_one_value(rt: &impl Eprint, alloc: Global) -> Result<(), Fault> {
+    let mut world = new_world(alloc);
+    let replies = run_calls(rt, &mut world, calls(alloc)?)?;
+    check_replies(rt, &replies)?;
+    check_empty(&world)
+}
+
+fn check_replies(rt: &impl Eprint, replies: &Replies) -> Result<(), Fault> {
+    if is_first_refused(replies) {
+        rt.eprintln("Call::New, first of a run on one value")?;
+        return Ok(());
+    }
+    ensure(
+        are_all_made(replies),
+        "a run on one value has a wrong reply",
+    )
+}
+
+// At the second try where the first is refused.
+fn calls(alloc: Global) -> Result<Calls, AllocError> {
+    match try_calls(alloc) {
+        Ok(calls) => Ok(calls),
+        Err(_) => try_calls(alloc),
+    }
+}
+
+// The value is interned twice and both handles are released. Then the reference is read, and the
+// first slot released again.
+fn try_calls(alloc: Global) -> Result<Calls, AllocError> {
+    let first = Text::new(alloc, VALUE)?;
+    let second = Text::new(alloc, VALUE)?;
+    let read = Text::new(alloc, VALUE)?;
+    Ok(vec![in alloc;
+        Call::New(first),
+        Call::AsRef(0),
+        Call::New(second),
+        Call::Same(0, 2),
+        Call::Release(0),
+        Call::Release(2),
+        Call::ReadsCounted(1, read),
+        Call::Release(0),
+    ]?)
+}
+
+// Where the room for replies and slots is refused, the calls are back and the world is as it was,
+// and the run is made once more.
+fn run_calls(rt: &impl Eprint, world: &mut TestWorld, calls: Calls) -> Result<Replies, Fault> {
+    match run(world, calls) {
+        Ok(replies) => Ok(replies),
+        Err(back) => {
+            rt.eprintln("run, on one value")?;
+            check_back(world, &back)?;
+            run(world, back).map_err(|_| Fault::NoMemory)
+        }
+    }
+}
+
+fn check_back(world: &TestWorld, back: &Calls) -> Result<(), Fault> {
+    ensure(are_calls(back), "other calls came back")?;
+    ensure(world.slot(0).is_none(), "a world has a slot too many")?;
+    check_empty(world)
+}
+
+// Fails unless no storage has an entry.
+fn check_empty(world: &TestWorld) -> Result<(), Fault> {
+    ensure(
+        world.counted().is_empty()
+            && world.values().is_empty()
+            && world.slices().is_empty()
+            && world.table().is_empty(),
+        "a world has an entry too many",
+    )
+}
+
+// Whether these are the calls of the run.
+fn are_calls(calls: &Calls) -> bool {
+    match calls.as_slice() {
+        [first, second, third, fourth, fifth, sixth, seventh, eighth] => {
+            matches!(first, Call::New(text) if is_value(text))
+                && matches!(second, Call::AsRef(0))
+                && matches!(third, Call::New(text) if is_value(text))
+                && matches!(fourth, Call::Same(0, 2))
+                && matches!(fifth, Call::Release(0))
+                && matches!(sixth, Call::Release(2))
+                && matches!(seventh, Call::ReadsCounted(1, text) if is_value(text))
+                && matches!(eighth, Call::Release(0))
+        }
+        _ => false,
+    }
+}
+
+// Whether these are the replies where the first call is refused for want of memory.
+fn is_first_refused(replies: &Replies) -> bool {
+    match replies.as_slice() {
+        [first, second, third, fourth, fifth, sixth, seventh, eighth] => {
+            is_refused(first)
+                && matches!(second, Reply::WrongSlot)
+                && matches!(third, Reply::Made(0, Back::Nothing))
+                && matches!(fourth, Reply::WrongSlot)
+                && matches!(fifth, Reply::Done(Back::Counted(text)) if is_value(text))
+                && matches!(sixth, Reply::WrongSlot)
+                && matches!(seventh, Reply::WrongSlot)
+                && matches!(eighth, Reply::WrongSlot)
+        }
+        _ => false,
+    }
+}
+
+// Whether a call was refused for want of memory, and the value came back.
+fn is_refused(reply: &TestReply) -> bool {
+    match reply {
+        Reply::Refused(Refusal::OutOfMemory, Back::Counted(text)) => is_value(text),
+        _ => false,
+    }
+}
+
+// Whether these are the replies where no call is refused.
+fn are_all_made(replies: &Replies) -> bool {
+    match replies.as_slice() {
+        [first, second, third, fourth, fifth, sixth, seventh, eighth] => {
+            matches!(first, Reply::Made(0, Back::Nothing))
+                && matches!(second, Reply::Made(1, Back::Nothing))
+                && matches!(third, Reply::Made(2, Back::Counted(text)) if is_value(text))
+                && matches!(fourth, Reply::Truth(true))
+                && matches!(fifth, Reply::Done(Back::Nothing))
+                && matches!(sixth, Reply::Done(Back::Counted(text)) if is_value(text))
+                && matches!(seventh, Reply::Read(None))
+                && matches!(eighth, Reply::WrongSlot)
+        }
+        _ => false,
+    }
+}
+
+fn is_value(text: &Text) -> bool {
+    text.as_str() == VALUE
+}
