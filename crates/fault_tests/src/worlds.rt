@@ -17,7 +17,7 @@ const ROUNDS: usize = 140;
 /// How many nodes, and how many slices, a world has that collects and keeps some of them.
 const LISTED: usize = 16;
 
-/// How many slots a world has at its beginning.
+/// How many slots the world of a `Watched` has at its beginning.
 const FIRST: usize = 3;
 
 type TestWorld = World<Text, Node, Branch>;

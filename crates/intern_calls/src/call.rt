@@ -30,9 +30,9 @@ pub enum Which {
 
 /// A call of the library, on handles in slots.
 ///
-/// A call that gives a handle puts it into a new slot at the end of the list. It is refused where
-/// the library's call of that name is. Where there is no such slot, or it holds nothing that the
-/// call takes, the reply is `WrongSlot`.
+/// A call names slots by their numbers. Where there is no slot of a number, or it holds nothing that
+/// the call takes, the reply is `WrongSlot`; else a call is refused where that of the library is.
+/// One that gives a handle puts it into a new slot at the end of the list.
 #[derive(Drop)]
 pub enum Call<C, G, S: SliceInternable> {
     /// Interns a counted value: an owned handle.

@@ -16,7 +16,7 @@ pub struct Limits {
 /// What a handle names: an entry, by the number of its storage and by its birth.
 ///
 /// The births of a storage begin at 0, rise by one, and are never given twice.
-#[derive(Clone, Copy, Debug, PartialEq, Eq, Hash)]
+#[derive(Clone, Copy, Debug, PartialEq, Eq, PartialOrd, Ord, Hash)]
 pub struct Name {
     /// The storage's number.
     pub storage: u64,
@@ -36,8 +36,8 @@ pub struct Spot {
 }
 
 /// What a handle holds: the name of an entry, and the place where it was found. The name alone is
-/// compared and hashed.
-#[derive_where(Clone, Copy, PartialEq, Eq, Hash)]
+/// compared, ordered and hashed.
+#[derive_where(Clone, Copy, PartialEq, Eq, PartialOrd, Ord, Hash)]
 pub struct EntryKey {
     /// The entry's name.
     pub name: Name,

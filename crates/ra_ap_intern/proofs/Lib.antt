@@ -1,3 +1,4 @@
+pub mod CallerLemmas
 mod Collections
 mod Entries
 mod Following

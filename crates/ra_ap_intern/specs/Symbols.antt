@@ -33,6 +33,11 @@ symbol_name s = kind_name s.0
 abbrev pub symbol_ref_name : SymbolRef → Named
 symbol_ref_name s = kind_name s.0
 
+-- the name of a symbol's entry; presets have none
+abbrev pub entry_name : Named → Option Name
+entry_name (preset place) = None
+entry_name (entry name) = Some name
+
 -- the text of a symbol, while it can be read
 abbrev pub text_of : State (List ℕ) → Named → Option (List ℕ)
 text_of s (preset place) = preset_text place

@@ -66,8 +66,9 @@ pub struct InternedSlice<T> {
     pub(crate) key: TypedKey<T>,
 }
 
-/// A reference, which counts nothing. It is compared and hashed by its name alone.
-#[derive_where(Clone, Copy, PartialEq, Eq, Hash)]
+/// A reference, which counts nothing. It is compared, ordered and hashed by its name alone: the
+/// storage's number, and then the birth.
+#[derive_where(Clone, Copy, PartialEq, Eq, PartialOrd, Ord, Hash)]
 pub struct InternedSliceRef<T> {
     pub(crate) key: TypedKey<T>,
 }

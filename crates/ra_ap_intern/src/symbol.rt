@@ -10,14 +10,14 @@ ghost use Rattle.std.specs.Option.{option_map};
 ghost use Rattle.std.specs.Str.{bytes_eq};
 ghost use Rattle.intern_store.specs.Outcome.{Owes, OwesBack, MayWant, Becomes};
 ghost use Rattle.intern_store.specs.State.{IsState, new_state, counted_up, full, any_count, released};
-ghost use Rattle.ra_ap_intern.specs.Symbols.{IsTable, symbol_name, symbol_ref_name, named_in, named_texts, text_of, count_of, symbol_in, due_of, due_symbol, is_new_text, at_entry};
+ghost use Rattle.ra_ap_intern.specs.Symbols.{IsTable, symbol_name, symbol_ref_name, named_in, named_texts, entry_name, text_of, count_of, symbol_in, due_of, due_symbol, is_new_text, at_entry};
 ghost use Rattle.ra_ap_intern.specs.declared.symbol.symbols.TheConstants as sym;
 
 mod iter;
 mod numbered;
 pub mod symbols;
 
-use intern_store::{EntryKey, Limits, Refusal, Refused, Store};
+use intern_store::{EntryKey, Limits, Name, Refusal, Refused, Store};
 use intern_table::{Table, Text};
 pub use iter::SymbolIter;
 use std::alloc::Global;
@@ -180,6 +180,13 @@ impl Symbol {
         SymbolRef(self.0)
     }
 
+    /// The name of the symbol's entry: the table's number and the birth. None for a preset.
+    pub fn name(&self) -> Option<Name>
+        ensures { result ≡ entry_name (symbol_name self.now) }
+    {
+        self.as_ref().name()
+    }
+
     /// The text: a preset's, whatever the table, or else the one that the table keeps.
     /// None for a symbol of another table, and for one whose text is gone.
     pub fn as_str<'a>(&self, table: &'a SymbolTable) -> Option<&'a str>
@@ -226,6 +233,16 @@ impl Symbol {
 }
 
 impl SymbolRef {
+    /// The name of the symbol's entry: the table's number and the birth. None for a preset.
+    pub fn name(self) -> Option<Name>
+        ensures { result ≡ entry_name (symbol_ref_name self) }
+    {
+        let Kind::Runtime(key) = self.0 else {
+            return None;
+        };
+        Some(key.name)
+    }
+
     /// The text: a preset's, whatever the table, or else the one that the table keeps.
     /// None for a symbol of another table, and for one whose text is gone.
     pub fn as_str<'a>(self, table: &'a SymbolTable) -> Option<&'a str>

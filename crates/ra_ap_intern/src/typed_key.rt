@@ -4,9 +4,9 @@ ghost use Rattle.std.specs.Prelude.{◌≡◌};
 use intern_store::EntryKey;
 use std::marker::PhantomData;
 
-/// The key of an entry in a storage of this type. It is compared and hashed by the entry's name
-/// alone.
-#[derive_where(Clone, Copy, PartialEq, Eq, Hash)]
+/// The key of an entry in a storage of this type. It is compared, ordered and hashed by the entry's
+/// name alone.
+#[derive_where(Clone, Copy, PartialEq, Eq, PartialOrd, Ord, Hash)]
 pub(crate) struct TypedKey<T> {
     pub(crate) entry: EntryKey,
     // The pointer lets a type hold handles of itself.

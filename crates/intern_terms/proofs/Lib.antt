@@ -1,0 +1,6 @@
+mod Names
+mod Built
+mod Trees
+mod Collected
+mod Walks
+mod Opened

@@ -1,0 +1,154 @@
+-- Terms and their trees.
+use Rattle.std.proofs.Common.{◌≡◌, ◌↔◌, ℕ, zero, suc, ◌<◌, Bool, true, List, [], ◌∷◌, map, Some, IsSome, refl, sym, ap, subst, ◌∙◌, arith}
+use Rattle.ra_ap_intern.specs.Collector.{has}
+use Rattle.ra_ap_intern.specs.Name.{Name}
+use Rattle.ra_ap_intern.specs.Sliced.{Sliced}
+use Rattle.ra_ap_intern.specs.Slices.{slice_of}
+use Rattle.ra_ap_intern.specs.State.{State, reads, entry_at, with_count, interned, interned_name}
+use Rattle.ra_ap_intern.specs.Symbols.{symbol_name}
+use Rattle.ra_ap_intern.specs.declared.symbol.Symbol.{Symbol}
+use Rattle.intern_terms.specs.Handle.{term_name}
+use Rattle.intern_terms.specs.Store.{arguments, same_node, IsBuilt, IsTerms}
+use Rattle.intern_terms.specs.Tree.{Tree, Trees, tree, no_more, one_more, UnfoldsTo, AllUnfold}
+use Rattle.intern_terms.specs.declared.handle.TermRef.{TermRef}
+use Rattle.intern_terms.proofs.Names.{has_first, has_later, nodes_same, same_nodes}
+use Rattle.ra_ap_intern.proofs.CallerLemmas.{read_once, some_read, interned_reads_on, reads-recounted}
+
+module _ (s : State (Sliced Symbol TermRef)) where
+  -- a name has one tree
+  mutual
+    pub one_tree : (t u : Tree) (name : Name) → UnfoldsTo s name t → UnfoldsTo s name u → t ≡ u
+    one_tree (tree h ts) (tree i us) name a b =
+        let same : a.0 ≡ b.0 = let p = a.1 in let q = b.1 in cc in
+        let heads : h ≡ i = sym a.2 ∙ ap (λ x. symbol_name x.header) same ∙ b.2 in
+        let trees = one_forest ts us (arguments a.0) a.3 (rw same b.3) in
+        λ k. tree (heads k) (trees k)
+
+    one_forest : (ts us : Trees) (names : List Name) → AllUnfold s names ts → AllUnfold s names us
+        → ts ≡ us
+    one_forest no_more no_more [] a b = refl
+    one_forest no_more (one_more u us) [] a b = absurd b
+    one_forest (one_more t ts) us [] a b = absurd a
+    one_forest no_more us (name ∷ names) a b = absurd a
+    one_forest (one_more t ts) no_more (name ∷ names) a b = absurd b
+    one_forest (one_more t ts) (one_more u us) (name ∷ names) a b =
+        let first = one_tree t u name a.0 b.0 in
+        let rest = one_forest ts us names a.1 b.1 in
+        λ k. one_more (first k) (rest k)
+
+-- a tree has one name
+module _ (s : State (Sliced Symbol TermRef)) (ok : IsTerms s) where
+  mutual
+    pub one_name : (t : Tree) (n m : Name) → UnfoldsTo s n t → UnfoldsTo s m t → n ≡ m
+    one_name (tree h ts) n m a b =
+        read_once same_node s ok.state n m a.0 b.0 a.1 b.1
+        (same_nodes a.0 b.0 (a.2 ∙ sym b.2)
+        (one_list ts (arguments a.0) (arguments b.0) a.3 b.3))
+
+    one_list : (ts : Trees) (ns ms : List Name) → AllUnfold s ns ts → AllUnfold s ms ts → ns ≡ ms
+    one_list no_more [] [] a b = refl
+    one_list no_more [] (m ∷ ms) a b = absurd b
+    one_list no_more (n ∷ ns) ms a b = absurd a
+    one_list (one_more t ts) [] ms a b = absurd a
+    one_list (one_more t ts) (n ∷ ns) [] a b = absurd b
+    one_list (one_more t ts) (n ∷ ns) (m ∷ ms) a b =
+        let first = one_name t n m a.0 b.0 in
+        let rest = one_list ts ns ms a.1 b.1 in
+        λ k. first k ∷ rest k
+
+  -- names are equal exactly if their trees are
+  pub names_tell_trees : (n m : Name) (t u : Tree) → UnfoldsTo s n t → UnfoldsTo s m u
+      → (n ≡ m) ↔ (t ≡ u)
+  names_tell_trees n m t u a b =
+      (λ same. one_tree s t u m (rw same at a) b, λ same. one_name u n m (rw same at a) b)
+
+-- each term has a tree
+module _ (s : State (Sliced Symbol TermRef)) (built : IsBuilt s) where
+  has_forest : (k : ℕ)
+      → ((n : Name) → n.birth < k → IsSome (reads s n) → (t : Tree) × UnfoldsTo s n t)
+      → (ns : List Name) → ((a : Name) → has ns a ≡ true → (a.birth < k) × IsSome (reads s a))
+      → (ts : Trees) × AllUnfold s ns ts
+  has_forest k each [] there = (no_more, tt)
+  has_forest k each (n ∷ ns) there =
+      let here = there n (has_first n ns) in
+      let first = each n here.0 here.1 in
+      let rest = has_forest k each ns (λ a is. there a (has_later n a ns is)) in
+      (one_more first.0 rest.0, (first.1, rest.1))
+
+  has_tree_below : (k : ℕ) (n : Name) → n.birth < k → IsSome (reads s n)
+      → (t : Tree) × UnfoldsTo s n t
+  has_tree_below zero n lt is = absurd (omega arith)
+  has_tree_below (suc k) n lt is =
+      let v = some_read (reads s n) is in
+      let forest = has_forest k (has_tree_below k) (arguments v.0) (λ a h.
+      let e = built n a v.0 v.1 h in
+      let below = e.below in
+      (omega arith, e.there)) in
+      (tree (symbol_name v.0.header) forest.0, (v.0, v.1, refl, forest.1))
+
+  pub has_tree : (n : Name) → IsSome (reads s n) → (t : Tree) × UnfoldsTo s n t
+  has_tree n is = has_tree_below (suc n.birth) n (omega arith) is
+
+-- the trees of a set of names that has, with a name, its arguments, stay where their reads do
+module _ (s t : State (Sliced Symbol TermRef)) (set : Name → Bool)
+    (reads_on : (n : Name) (v : Sliced Symbol TermRef) → set n ≡ true → reads s n ≡ Some v
+    → reads t n ≡ Some v)
+    (closed : (n a : Name) (v : Sliced Symbol TermRef) → set n ≡ true → reads s n ≡ Some v
+    → has (arguments v) a ≡ true → set a ≡ true) where
+  mutual
+    pub tree_stays : (x : Tree) (n : Name) → set n ≡ true → UnfoldsTo s n x → UnfoldsTo t n x
+    tree_stays (tree h ts) n is a = (
+      a.0,
+      reads_on n a.0 is a.1,
+      a.2,
+      forest_stays ts (arguments a.0) (λ b. closed n b a.0 is a.1) a.3,
+    )
+
+    forest_stays : (ts : Trees) (ns : List Name) → ((a : Name) → has ns a ≡ true → set a ≡ true)
+        → AllUnfold s ns ts → AllUnfold t ns ts
+    forest_stays no_more [] is a = tt
+    forest_stays no_more (n ∷ ns) is a = absurd a
+    forest_stays (one_more x xs) [] is a = absurd a
+    forest_stays (one_more x xs) (n ∷ ns) is a = (
+      tree_stays x n (is n (has_first n ns)) a.0,
+      forest_stays xs ns (λ b h. is b (has_later n b ns h)) a.1,
+    )
+
+-- a tree stays where the reads do
+module _ (s t : State (Sliced Symbol TermRef))
+    (reads_on : (n : Name) (v : Sliced Symbol TermRef) → reads s n ≡ Some v → reads t n ≡ Some v)
+  where
+    pub tree_on : (x : Tree) (n : Name) → UnfoldsTo s n x → UnfoldsTo t n x
+    tree_on x n = tree_stays s t (λ _. true) (λ m v is. reads_on m v) (λ m a v is read has. refl) x n refl
+
+    pub forest_on : (ts : Trees) (ns : List Name) → AllUnfold s ns ts → AllUnfold t ns ts
+    forest_on ts ns =
+        forest_stays s t (λ _. true) (λ m v is. reads_on m v) (λ m a v is read has. refl) ts ns
+        (λ a is. refl)
+
+pub tree_interned : (s : State (Sliced Symbol TermRef)) → IsTerms s → (w : Sliced Symbol TermRef)
+    (x : Tree) (n : Name) → UnfoldsTo s n x → UnfoldsTo (interned same_node s w).state n x
+tree_interned s ok w = tree_on s _ (interned_reads_on same_node s ok.state w)
+
+pub tree_recounted : (f : ℕ → ℕ) (s : State (Sliced Symbol TermRef)) (b : ℕ) (x : Tree) (n : Name)
+    → UnfoldsTo s n x → UnfoldsTo (with_count f s b (entry_at s b)) n x
+tree_recounted f s b = tree_on s _ (λ n v is. reads-recounted f s b n ∙ is)
+
+-- a term unfolds into its head over the trees of its arguments
+pub term_unfolds : (s : State (Sliced Symbol TermRef)) → IsTerms s → (head : Symbol)
+    (args : List TermRef) (w : Sliced Symbol TermRef)
+    → reads (interned same_node s (slice_of head args)).state
+    (interned_name same_node s (slice_of head args)) ≡ Some w
+    → same_node (slice_of head args) w ≡ true
+    → (ts : Trees) → AllUnfold s (map term_name args) ts
+    → UnfoldsTo (interned same_node s (slice_of head args)).state
+    (interned_name same_node s (slice_of head args)) (tree (symbol_name head) ts)
+term_unfolds s ok head args w read same ts unfolds =
+    let parts = nodes_same (slice_of head args) w same in
+    let next = (interned same_node s (slice_of head args)).state in (
+      w,
+      read,
+      sym parts.0,
+      subst (λ ns. AllUnfold next ns ts) parts.1
+          (forest_on s next (interned_reads_on same_node s ok.state (slice_of head args)) ts _ unfolds),
+    )

@@ -1,0 +1,4 @@
+pub mod Handle
+pub mod Store
+pub mod Tree
+pub mod Walk

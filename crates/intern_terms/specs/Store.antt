@@ -1,0 +1,74 @@
+-- What a store of terms holds, and the words of its contracts.
+use Rattle.std.specs.Prelude.{◌≡◌, ◌<◌, ◌==◌, Bool, true, false, ◌&&◌, List, [], ◌∷◌, map as list_map, Option, Some, None, IsSome}
+use Rattle.std.specs.Cmp.Lexicographic.{pointwise}
+use Rattle.std.specs.FinMap as map
+use Rattle.std.specs.Option.{option_or}
+use Rattle.ra_ap_intern.specs.Collector.{has}
+use Rattle.ra_ap_intern.specs.Families.{entries_of, sliced_children}
+use Rattle.ra_ap_intern.specs.Name.{Name}
+use Rattle.ra_ap_intern.specs.Reach.{Entry}
+use Rattle.ra_ap_intern.specs.Refusal.{Refusal}
+use Rattle.ra_ap_intern.specs.Registry.{same_name}
+use Rattle.ra_ap_intern.specs.Sliced.{Sliced}
+use Rattle.ra_ap_intern.specs.Slices.{due_slice}
+use Rattle.ra_ap_intern.specs.State.{State, IsState, name_in, reads, due, any_count}
+use Rattle.ra_ap_intern.specs.Symbols.{Named, symbol_name}
+use Rattle.ra_ap_intern.specs.Symbols.Named.{preset, entry}
+use Rattle.ra_ap_intern.specs.declared.symbol.Symbol.{Symbol}
+use Rattle.intern_terms.specs.Handle.{term_name}
+use Rattle.intern_terms.specs.declared.handle.TermRef.{TermRef}
+
+-- the names of a term's arguments, in order
+abbrev pub arguments : Sliced Symbol TermRef → List Name
+arguments v = list_map term_name v.items
+
+-- whether two heads are the same symbol
+abbrev pub same_head : Named → Named → Bool
+same_head (preset p) (preset q) = p == q
+same_head (preset p) (entry m) = false
+same_head (entry n) (preset q) = false
+same_head (entry n) (entry m) = same_name n m
+
+-- whether two terms have the same head, and the same arguments in order
+abbrev pub same_node : Sliced Symbol TermRef → Sliced Symbol TermRef → Bool
+same_node v w = same_head (symbol_name v.header) (symbol_name w.header)
+    && pointwise (λ a b. same_name (term_name a) (term_name b)) v.items w.items
+
+-- the name of each term
+abbrev pub names_in : State (Sliced Symbol TermRef) → List Name
+names_in s = list_map (λ e. name_in s e.0) (map.entries s.map)
+
+-- an argument reads a term that is earlier than the term of this name
+pub record IsEarlier (s : State (Sliced Symbol TermRef)) (name argument : Name) : Type 0 where
+  pub below : argument.birth < name.birth
+  pub there : IsSome (reads s argument)
+
+-- each argument of each term is an earlier term
+abbrev pub IsBuilt : State (Sliced Symbol TermRef) → Type 0
+IsBuilt s = (name argument : Name) (v : Sliced Symbol TermRef) → reads s name ≡ Some v
+    → has (arguments v) argument ≡ true → IsEarlier s name argument
+
+-- what holds of every store: no two terms have the same head and the same arguments, and each
+-- argument of a term is an earlier term
+pub record IsTerms (s : State (Sliced Symbol TermRef)) : Type 0 where
+  pub state : IsState same_node s
+  pub built : IsBuilt s
+
+-- the refusal of the first of these names that can't be read
+abbrev pub due_arguments : State (Sliced Symbol TermRef) → List Name → Option Refusal
+due_arguments s [] = None
+due_arguments s (name ∷ names) = option_or (due s name any_count) (due_arguments s names)
+
+-- the refusal of a call that stores a term, before want of memory: what its first argument that
+-- can't be read decides, or else, where the term isn't stored, that births are used up
+abbrev pub due_term : State (Sliced Symbol TermRef) → Symbol → List TermRef → Option Refusal
+due_term s head args = option_or (due_arguments s (list_map term_name args))
+    (due_slice same_node s head args)
+
+-- what a term declares: its arguments
+abbrev pub declared_by : Sliced Symbol TermRef → List Name
+declared_by = sliced_children (λ _. []) (λ items. list_map term_name items)
+
+-- a store's terms, as a collection sees them
+abbrev pub terms_of : State (Sliced Symbol TermRef) → List Entry
+terms_of s = entries_of declared_by s

@@ -1,0 +1,96 @@
+//! What names terms.
+ghost use Rattle.std.specs.Prelude.{◌≡◌, true};
+ghost use Rattle.intern_terms.specs.Handle.{term_name, owned_name};
+
+use ra_ap_intern::{
+    GarbageCollector, GcInternedSliceVisit, InternedSlice, InternedSliceRef, Name, SliceInternable,
+    Symbol,
+};
+use std::fmt;
+
+// Terms as slices: a symbol over references to terms.
+pub(crate) struct Terms;
+
+impl SliceInternable for Terms {
+    type Header = Symbol;
+
+    type SliceType = TermRef;
+
+    const USE_GC: bool = true;
+
+    ghost USE_GC = { true };
+}
+
+impl GcInternedSliceVisit for Terms {
+    ghost use Rattle.std.specs.Prelude.{[], map};
+    ghost use Rattle.intern_terms.specs.Handle.{term_name};
+
+    ghost header_children = { λ _. [] };
+
+    ghost slice_children = { λ items. map term_name items };
+
+    fn visit_header(_header: &Symbol, _gc: &mut GarbageCollector) {}
+
+    fn visit_slice(slice: &[TermRef], gc: &mut GarbageCollector) {
+        for term in slice {
+            let _ = gc.mark_interned_slice_alive(term.reference);
+        }
+    }
+}
+
+/// A reference to a term, which counts nothing. It is compared, ordered and hashed by its name
+/// alone: the store's number, and then the birth.
+#[derive(Clone, Copy, PartialEq, Eq, PartialOrd, Ord, Hash)]
+pub struct TermRef {
+    pub(crate) reference: InternedSliceRef<Terms>,
+}
+
+/// A term that is kept: while it is, no collection removes it, or a term in its tree.
+///
+/// One that is dropped without `release` keeps its count.
+#[derive(Drop)]
+pub struct Term {
+    pub(crate) owned: InternedSlice<Terms>,
+}
+
+// A name, written as `#3.5`: the entry of birth 5 in the storage of number 3.
+#[derive(Clone, Copy)]
+pub(crate) struct Shown(pub(crate) Name);
+
+impl fmt::Display for Shown {
+    fn fmt<W: fmt::Write>(&self, f: &mut fmt::Formatter<W>) -> fmt::Result {
+        write!(f, "#{}.{}", self.0.storage, self.0.birth)
+    }
+}
+
+impl fmt::Debug for TermRef {
+    fn fmt<W: fmt::Write>(&self, f: &mut fmt::Formatter<W>) -> fmt::Result {
+        write!(f, "TermRef({})", Shown(self.name()))
+    }
+}
+
+impl fmt::Debug for Term {
+    fn fmt<W: fmt::Write>(&self, f: &mut fmt::Formatter<W>) -> fmt::Result {
+        write!(f, "Term({})", Shown(self.as_ref().name()))
+    }
+}
+
+impl TermRef {
+    /// The term's name: the store's number and the birth.
+    pub fn name(self) -> Name
+        ensures { result ≡ term_name self }
+    {
+        self.reference.name()
+    }
+}
+
+impl Term {
+    /// A reference to the same term.
+    pub fn as_ref(&self) -> TermRef
+        ensures { term_name result ≡ owned_name self.now }
+    {
+        TermRef {
+            reference: self.owned.as_ref(),
+        }
+    }
+}

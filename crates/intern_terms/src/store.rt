@@ -1,0 +1,285 @@
+//! The store of terms.
+ghost use Rattle.std.specs.Prelude.{◌≡◌, ◌<◌, ◌==◌, List, map as list_map, Some, None, IsSome, is_some, IsPermutation, IfOk, OnErr};
+ghost use Rattle.std.specs.FinMap as map;
+ghost use Rattle.std.specs.Option.{option_map};
+ghost use Rattle.ra_ap_intern.specs.Collector.{has};
+ghost use Rattle.ra_ap_intern.specs.Families.{IsCollection, kept_named};
+ghost use Rattle.ra_ap_intern.specs.Name.{Name as TermName};
+ghost use Rattle.ra_ap_intern.specs.Outcome.{Owes, OwesBack, MayWantBack, Becomes};
+ghost use Rattle.ra_ap_intern.specs.Reach.{starts, starts_with};
+ghost use Rattle.ra_ap_intern.specs.Slices.{slice_of, slice_name_in, slice_in, slice_back, is_new_slice};
+ghost use Rattle.ra_ap_intern.specs.State.{new_state, name_of_value, reads, counts, counted_up, counted_down, due, full, zero_count, any_count};
+ghost use Rattle.intern_terms.specs.Handle.{term_name, owned_name};
+ghost use Rattle.intern_terms.specs.Store.{IsTerms, names_in, same_node, due_arguments, due_term, terms_of};
+ghost use Rattle.intern_terms.specs.Tree.{Tree as TermTree, UnfoldsTo};
+
+use crate::handle::{Term, TermRef, Terms};
+use crate::iter::TermIter;
+use ra_ap_intern::{
+    Collected, GarbageCollector, InternSliceStorage, InternedSlice, Limits, Name, Refusal, Refused,
+    Symbol,
+};
+use std::alloc::{AllocError, Global};
+use std::marker::Model;
+
+/// A store of terms. Each is kept once: a head over the same arguments is the same term.
+///
+/// Only a term that isn't stored, and a collection, take memory.
+#[derive(Drop)]
+pub struct TermStore {
+    alloc: Global,
+    terms: InternSliceStorage<Terms>,
+}
+
+impl Model for TermStore {
+    ghost use Rattle.ra_ap_intern.specs.Sliced.{Sliced, sliced_code};
+    ghost use Rattle.ra_ap_intern.specs.State.{State, state_code};
+    ghost use Rattle.ra_ap_intern.specs.contracts.symbol.Symbol as symbol;
+    ghost use Rattle.ra_ap_intern.specs.declared.symbol.Symbol.{Symbol};
+    ghost use Rattle.intern_terms.specs.contracts.handle.TermRef as term;
+    ghost use Rattle.intern_terms.specs.Store.{IsBuilt};
+    ghost use Rattle.intern_terms.specs.declared.handle.TermRef.{TermRef};
+
+    ghost Value = { State (Sliced Symbol TermRef) };
+
+    ghost coded = { state_code (sliced_code symbol.the_row.coded term.the_row.coded) };
+
+    ghost view = { λ a. a.terms };
+
+    ghost invariant = { λ a. IsBuilt a.terms };
+}
+
+impl TermStore {
+    /// An empty store with the largest limits. It takes no memory.
+    ///
+    /// Terms tell stores apart by their numbers alone: give each store one of its own.
+    pub fn new(alloc: Global, number: u64) -> Self
+        ensures { result ≡ new_state number u64.MAX u64.MAX }
+    {
+        TermStore {
+            alloc,
+            terms: InternSliceStorage::new(alloc, number),
+        }
+    }
+
+    /// An empty store with limits of its own. It takes no memory.
+    pub fn with_limits(alloc: Global, number: u64, limits: Limits) -> Self
+        requires { 0 < limits.top }
+        ensures { result ≡ new_state number limits.top limits.numbers }
+    {
+        TermStore {
+            alloc,
+            terms: InternSliceStorage::with_limits(alloc, number, limits),
+        }
+    }
+
+    /// The store's number.
+    pub fn number(&self) -> u64
+        ensures number { result ≡ self.now.number }
+        ensures state { IsTerms self.now }
+    {
+        self.terms.number()
+    }
+
+    /// How many terms there are.
+    pub fn len(&self) -> usize
+        ensures len { result ≡ map.len self.now.map }
+        ensures state { IsTerms self.now }
+    {
+        let _number = self.number();
+        self.terms.len()
+    }
+
+    /// Whether there is no term.
+    pub fn is_empty(&self) -> bool
+        ensures { result ≡ (map.len self.now.map == 0) }
+    {
+        self.terms.is_empty()
+    }
+
+    /// The term with this head over these arguments.
+    ///
+    /// Where it is stored, the head given comes back beside the term. Otherwise it is stored, with
+    /// count zero, which may take memory. Refused, with the head back: `Foreign` or `Gone`, as the
+    /// first argument that can't be read; then, where the term isn't stored, `NumbersUsedUp` and
+    /// `OutOfMemory`. After a refusal nothing has changed.
+    pub fn term(
+        &mut self,
+        head: Symbol,
+        args: &[TermRef],
+    ) -> Result<(TermRef, Option<Symbol>), Refused<Symbol>>
+        ensures name { IfOk result (λ r. term_name r.0 ≡ slice_name_in same_node self.old head args.now) }
+        ensures back { IfOk result (λ r. r.1 ≡ slice_back same_node self.old head args.now) }
+        ensures refused { MayWantBack result (due_term self.old head args.now)
+            (is_new_slice same_node self.old head args.now) head }
+        ensures state { Becomes result self.old self.new
+            (slice_in same_node self.old head args.now).state }
+    {
+        if let Some(why) = self.refusal(args) {
+            return Err(Refused { why, back: head });
+        }
+        let (reference, back) = InternedSlice::from_header_and_slice(&mut self.terms, head, args)?;
+        Ok((TermRef { reference }, back))
+    }
+
+    /// The term with this head over these arguments, where it is stored. It takes no memory.
+    pub fn get(&self, head: &Symbol, args: &[TermRef]) -> Option<TermRef>
+        ensures term { option_map term_name result
+            ≡ name_of_value same_node self.now (slice_of head.now args.now) }
+    {
+        let reference = self.terms.get(head, args)?;
+        Some(TermRef { reference })
+    }
+
+    /// Whether the store has a term of this name: one of another store, or one that is gone, it
+    /// hasn't.
+    pub fn contains(&self, term: TermRef) -> bool
+        ensures there { result ≡ is_some (reads self.now (term_name term)) }
+        ensures state { IsTerms self.now }
+    {
+        let _number = self.number();
+        self.terms.count(term.reference).is_some()
+    }
+
+    /// How many owners a term has. None for a term of another store, or one that is gone.
+    pub fn count(&self, term: TermRef) -> Option<u64>
+        ensures { result ≡ counts self.now (term_name term) }
+    {
+        self.terms.count(term.reference)
+    }
+
+    /// The terms, in no promised order. It takes no memory.
+    pub fn iter(&self) -> TermIter<'_>
+        ensures { IsPermutation result (names_in self.now) }
+    {
+        TermIter {
+            entries: self.terms.iter(),
+        }
+    }
+
+    /// A term's head. None for a term of another store, or one that is gone.
+    pub fn head(&self, term: TermRef) -> Option<&Symbol>
+        ensures { option_map (λ h. h.now) result
+            ≡ option_map (λ v. v.header) (reads self.now (term_name term)) }
+    {
+        Some(term.reference.get(&self.terms)?.header.header)
+    }
+
+    /// A term's arguments. None for a term of another store, or one that is gone.
+    pub fn args(&self, term: TermRef) -> Option<&[TermRef]>
+        ensures { option_map (λ a. a.now) result
+            ≡ option_map (λ v. v.items) (reads self.now (term_name term)) }
+    {
+        Some(term.reference.get(&self.terms)?.slice)
+    }
+
+    /// Keeps a term, and so all that is in its tree: it is counted once more.
+    /// Refused: `Foreign`, `Gone`, `CountFull`.
+    pub fn keep(&mut self, term: TermRef) -> Result<Term, Refusal>
+        ensures ok { IfOk result (λ t. owned_name t ≡ term_name term) }
+        ensures refused { Owes result (due self.old (term_name term) (full self.old.top)) }
+        ensures state { Becomes result self.old self.new
+            (counted_up self.old (term_name term).birth) }
+    {
+        let owned = term.reference.to_owned(&mut self.terms)?;
+        Ok(Term { owned })
+    }
+
+    /// Removes every term that is in no tree of a term that is kept. No birth is given again. Where
+    /// there is no memory, `AllocError`, and the store is as it was.
+    pub fn collect(&mut self) -> Result<Collected, AllocError>
+        ensures ok { IfOk result (λ told. (names : List TermName)
+            × IsCollection (starts (terms_of self.old)) (terms_of self.old) names told
+            × (self.new ≡ kept_named self.old (has names))) }
+        ensures err { OnErr result (self.new ≡ self.old) }
+        ensures trees { (name : TermName) (tree : TermTree) → IsSome (reads self.new name) →
+            UnfoldsTo self.old name tree → UnfoldsTo self.new name tree }
+    {
+        GarbageCollector::new(self.alloc).collect(&mut self.terms)
+    }
+
+    /// Does the same, and leaves the trees of these terms too. A term of another store, one that is
+    /// gone, or one that is listed twice, adds nothing.
+    pub fn collect_keeping(&mut self, roots: &[TermRef]) -> Result<Collected, AllocError>
+        ensures ok { IfOk result (λ told. (names : List TermName)
+            × IsCollection (starts_with (list_map term_name roots.now) (terms_of self.old))
+            (terms_of self.old) names told
+            × (self.new ≡ kept_named self.old (has names))) }
+        ensures err { OnErr result (self.new ≡ self.old) }
+        ensures trees { (name : TermName) (tree : TermTree) → IsSome (reads self.new name) →
+            UnfoldsTo self.old name tree → UnfoldsTo self.new name tree }
+    {
+        let names = names_of(self.alloc, roots)?;
+        GarbageCollector::new(self.alloc).collect_keeping(&mut self.terms, &names)
+    }
+
+    // Where the store's memory is from.
+    pub(crate) fn alloc(&self) -> Global {
+        self.alloc
+    }
+
+    // Why the first argument that can't be read can't be.
+    fn refusal(&self, args: &[TermRef]) -> Option<Refusal>
+        ensures why { result ≡ due_arguments self.now (list_map term_name args.now) }
+        ensures state { IsTerms self.now }
+    {
+        let number = self.number();
+        for term in args {
+            if let Some(why) = self.unread(number, *term) {
+                return Some(why);
+            }
+        }
+        None
+    }
+
+    // Why a term can't be read, if it can't.
+    fn unread(&self, number: u64, term: TermRef) -> Option<Refusal>
+        requires { number ≡ self.now.number }
+        ensures { result ≡ due self.now (term_name term) any_count }
+    {
+        if term.name().storage != number {
+            return Some(Refusal::Foreign);
+        }
+        match self.terms.count(term.reference) {
+            Some(_) => None,
+            None => Some(Refusal::Gone),
+        }
+    }
+}
+
+// The names of terms, in order.
+fn names_of(alloc: Global, terms: &[TermRef]) -> Result<Vec<Name>, AllocError>
+    ensures { IfOk result (λ names. names.items ≡ list_map term_name terms.now) }
+{
+    terms.iter().map(|term| term.name()).collect(alloc)
+}
+
+impl Term {
+    /// A second owner of the term, which is counted once more.
+    /// Refused: `Foreign`, `Gone`, `CountFull`.
+    pub fn clone(&self, store: &mut TermStore) -> Result<Term, Refusal>
+        ensures ok { IfOk result (λ t. owned_name t ≡ owned_name self.now) }
+        ensures refused { Owes result (due store.old (owned_name self.now) (full store.old.top)) }
+        ensures state { Becomes result store.old store.new
+            (counted_up store.old (owned_name self.now).birth) }
+    {
+        store.keep(self.as_ref())
+    }
+
+    /// Gives the term up, with its count. It stays until a collection.
+    /// Refused, with the term back: `Foreign`, `Gone`, `CountZero`.
+    pub fn release(self, store: &mut TermStore) -> Result<(), Refused<Term>>
+        ensures refused { OwesBack result (due store.old (owned_name self) zero_count) self }
+        ensures state { Becomes result store.old store.new
+            (counted_down store.old (owned_name self).birth) }
+    {
+        self.owned
+            .release(&mut store.terms)
+            .map_err(|refused| Refused {
+                why: refused.why,
+                back: Term {
+                    owned: refused.back,
+                },
+            })
+    }
+}
