@@ -1,7 +1,8 @@
 -- Terms and their trees.
-use Rattle.std.proofs.Common.{◌≡◌, ◌↔◌, ℕ, zero, suc, ◌<◌, Bool, true, List, [], ◌∷◌, map, Some, IsSome, refl, sym, ap, subst, ◌∙◌, arith}
+use Rattle.std.proofs.Common.{◌≡◌, ◌↔◌, ℕ, zero, suc, ◌<◌, Bool, true, List, [], ◌∷◌, map, Some, IsSome, Result, Ok, Err, refl, sym, ap, subst, ◌∙◌, arith}
 use Rattle.ra_ap_intern.specs.Collector.{has}
 use Rattle.ra_ap_intern.specs.Name.{Name}
+use Rattle.ra_ap_intern.specs.Outcome.{Becomes}
 use Rattle.ra_ap_intern.specs.Sliced.{Sliced}
 use Rattle.ra_ap_intern.specs.Slices.{slice_of}
 use Rattle.ra_ap_intern.specs.State.{State, reads, entry_at, with_count, interned, interned_name}
@@ -11,8 +12,8 @@ use Rattle.intern_terms.specs.Handle.{term_name}
 use Rattle.intern_terms.specs.Store.{arguments, same_node, IsBuilt, IsTerms}
 use Rattle.intern_terms.specs.Tree.{Tree, Trees, tree, no_more, one_more, UnfoldsTo, AllUnfold}
 use Rattle.intern_terms.specs.declared.handle.TermRef.{TermRef}
-use Rattle.intern_terms.proofs.Names.{has_first, has_later, nodes_same, same_nodes}
-use Rattle.ra_ap_intern.proofs.CallerLemmas.{read_once, some_read, interned_reads_on, reads-recounted}
+use Rattle.intern_terms.proofs.Names.{has_first, has_later, nodes_same, same_nodes, same_node_laws}
+use Rattle.ra_ap_intern.proofs.CallerLemmas.{read_once, some_read, interned_reads, interned_reads_on, reads-recounted}
 
 module _ (s : State (Sliced Symbol TermRef)) where
   -- a name has one tree
@@ -152,3 +153,32 @@ term_unfolds s ok head args w read same ts unfolds =
       subst (λ ns. AllUnfold next ns ts) parts.1
           (forest_on s next (interned_reads_on same_node s ok.state (slice_of head args)) ts _ unfolds),
     )
+
+-- a call that changes nothing where it is refused
+pub tree_becomes : {A E : Type 0} (r : Result A E) (s t next : State (Sliced Symbol TermRef))
+    → Becomes r s t next → (x : Tree) (n : Name) → (UnfoldsTo s n x → UnfoldsTo next n x)
+    → UnfoldsTo s n x → UnfoldsTo t n x
+tree_becomes (Ok _) s t next is x n on a = subst (λ u. UnfoldsTo u n x) (sym is) (on a)
+tree_becomes (Err _) s t next is x n on a = subst (λ u. UnfoldsTo u n x) (sym is) a
+
+-- what a call that stores a term over arguments leaves of trees
+module _ (seen s t : State (Sliced Symbol TermRef)) (head : Symbol) (args : List TermRef)
+    (same : s ≡ seen) (ok : IsTerms seen) where
+  pub tree_after_term : {A E : Type 0} (r : Result A E)
+      → Becomes r s t (interned same_node s (slice_of head args)).state
+      → (x : Tree) (n : Name) → UnfoldsTo seen n x → UnfoldsTo t n x
+  tree_after_term r becomes x n a =
+      tree_becomes r s t _ becomes x n
+      (tree_interned s (subst IsTerms (sym same) ok) (slice_of head args) x n)
+      (subst (λ u. UnfoldsTo u n x) (sym same) a)
+
+  -- and the tree of the term
+  pub tree_of_term : (n : Name) → t ≡ (interned same_node s (slice_of head args)).state
+      → n ≡ interned_name same_node s (slice_of head args) → (ts : Trees)
+      → AllUnfold seen (map term_name args) ts → UnfoldsTo t n (tree (symbol_name head) ts)
+  tree_of_term n now named ts a =
+      let read = interned_reads same_node same_node_laws s (slice_of head args) in
+      let unfolds = term_unfolds s (subst IsTerms (sym same) ok) head args read.0 read.1 read.2 ts
+      (subst (λ u. AllUnfold u (map term_name args) ts) (sym same) a) in
+      subst (λ u. UnfoldsTo u n (tree (symbol_name head) ts)) (sym now)
+      (subst (λ m. UnfoldsTo (interned same_node s (slice_of head args)).state m (tree (symbol_name head) ts)) (sym named) unfolds)

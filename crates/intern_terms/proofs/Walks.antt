@@ -156,6 +156,15 @@ module _ (s : State (Sliced Symbol TermRef)) where
           inl (o.1 v a (subst (λ m. reads s m ≡ Some v) (names_same n x here) read) h)
       go (inr there) rest = later (rest there)
 
+  pub order_has_arguments : (names : List Name) → InOrder s [] names → (n a : Name)
+      (v : Sliced Symbol TermRef) → has names n ≡ true → reads s n ≡ Some v
+      → has (arguments v) a ≡ true → has names a ≡ true
+  order_has_arguments names o n a v is read h = go (order_closed [] names o n a v is read h)
+    where
+      go : (has [] a ≡ true) ⊎ (has names a ≡ true) → has names a ≡ true
+      go (inl none) = absurd (cc)
+      go (inr there) = there
+
   -- no name comes twice
   not_before : (before names : List Name) → InOrder s before names → (b : Name)
       → has before b ≡ true → AllByRecursion (λ y. same_name b y ≡ false) names
@@ -228,11 +237,7 @@ module _ (listed : List Name) (s : State (Sliced Symbol TermRef)) where
     found_on (parent ∷ before) n p =
         let v = some_read (reads s parent) (there_on before parent p.2) in
         let child = sym (ap (λ xs. has xs n) (children_read declared_by s parent v.0 v.1)) ∙ p.1 in
-        go (order_closed s [] found w.order parent n v.0 (found_on before parent p.2) v.1 child)
-      where
-        go : (has [] n ≡ true) ⊎ (has found n ≡ true) → has found n ≡ true
-        go (inl none) = absurd (cc)
-        go (inr is) = is
+        order_has_arguments s found w.order parent n v.0 (found_on before parent p.2) v.1 child
 
     pub walk_reaches : IsReachedSet (begins_at listed s) (terms_of s) found
     walk_reaches = record {

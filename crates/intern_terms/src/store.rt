@@ -9,9 +9,10 @@ ghost use Rattle.ra_ap_intern.specs.Outcome.{Owes, OwesBack, MayWantBack, Become
 ghost use Rattle.ra_ap_intern.specs.Reach.{starts, starts_with};
 ghost use Rattle.ra_ap_intern.specs.Slices.{slice_of, slice_name_in, slice_in, slice_back, is_new_slice};
 ghost use Rattle.ra_ap_intern.specs.State.{new_state, name_of_value, reads, counts, counted_up, counted_down, due, full, zero_count, any_count};
+ghost use Rattle.ra_ap_intern.specs.Symbols.{symbol_name};
 ghost use Rattle.intern_terms.specs.Handle.{term_name, owned_name};
 ghost use Rattle.intern_terms.specs.Store.{IsTerms, names_in, same_node, due_arguments, due_term, terms_of};
-ghost use Rattle.intern_terms.specs.Tree.{Tree as TermTree, UnfoldsTo};
+ghost use Rattle.intern_terms.specs.Tree.{Tree as TermTree, Trees as TermTrees, tree as tree_of, UnfoldsTo, AllUnfold};
 
 use crate::handle::{Term, TermRef, Terms};
 use crate::iter::TermIter;
@@ -114,6 +115,11 @@ impl TermStore {
             (is_new_slice same_node self.old head args.now) head }
         ensures state { Becomes result self.old self.new
             (slice_in same_node self.old head args.now).state }
+        ensures tree { IfOk result (λ r. (trees : TermTrees) →
+            AllUnfold self.old (list_map term_name args.now) trees →
+            UnfoldsTo self.new (term_name r.0) (tree_of (symbol_name head) trees)) }
+        ensures trees { (name : TermName) (t : TermTree) →
+            UnfoldsTo self.old name t → UnfoldsTo self.new name t }
     {
         if let Some(why) = self.refusal(args) {
             return Err(Refused { why, back: head });
@@ -180,6 +186,8 @@ impl TermStore {
         ensures refused { Owes result (due self.old (term_name term) (full self.old.top)) }
         ensures state { Becomes result self.old self.new
             (counted_up self.old (term_name term).birth) }
+        ensures trees { (name : TermName) (t : TermTree) →
+            UnfoldsTo self.old name t → UnfoldsTo self.new name t }
     {
         let owned = term.reference.to_owned(&mut self.terms)?;
         Ok(Term { owned })
@@ -192,8 +200,8 @@ impl TermStore {
             × IsCollection (starts (terms_of self.old)) (terms_of self.old) names told
             × (self.new ≡ kept_named self.old (has names))) }
         ensures err { OnErr result (self.new ≡ self.old) }
-        ensures trees { (name : TermName) (tree : TermTree) → IsSome (reads self.new name) →
-            UnfoldsTo self.old name tree → UnfoldsTo self.new name tree }
+        ensures trees { (name : TermName) (t : TermTree) → IsSome (reads self.new name) →
+            UnfoldsTo self.old name t → UnfoldsTo self.new name t }
     {
         GarbageCollector::new(self.alloc).collect(&mut self.terms)
     }
@@ -206,8 +214,8 @@ impl TermStore {
             (terms_of self.old) names told
             × (self.new ≡ kept_named self.old (has names))) }
         ensures err { OnErr result (self.new ≡ self.old) }
-        ensures trees { (name : TermName) (tree : TermTree) → IsSome (reads self.new name) →
-            UnfoldsTo self.old name tree → UnfoldsTo self.new name tree }
+        ensures trees { (name : TermName) (t : TermTree) → IsSome (reads self.new name) →
+            UnfoldsTo self.old name t → UnfoldsTo self.new name t }
     {
         let names = names_of(self.alloc, roots)?;
         GarbageCollector::new(self.alloc).collect_keeping(&mut self.terms, &names)
@@ -262,6 +270,8 @@ impl Term {
         ensures refused { Owes result (due store.old (owned_name self.now) (full store.old.top)) }
         ensures state { Becomes result store.old store.new
             (counted_up store.old (owned_name self.now).birth) }
+        ensures trees { (name : TermName) (t : TermTree) →
+            UnfoldsTo store.old name t → UnfoldsTo store.new name t }
     {
         store.keep(self.as_ref())
     }
@@ -272,6 +282,8 @@ impl Term {
         ensures refused { OwesBack result (due store.old (owned_name self) zero_count) self }
         ensures state { Becomes result store.old store.new
             (counted_down store.old (owned_name self).birth) }
+        ensures trees { (name : TermName) (t : TermTree) →
+            UnfoldsTo store.old name t → UnfoldsTo store.new name t }
     {
         self.owned
             .release(&mut store.terms)

@@ -1,6 +1,7 @@
 -- Each step leaves later states.
 use Rattle.std.proofs.Common.{◌≡◌, ℕ, Bool, true, false, inl, inr, List, [], ◌∷◌, Option, Some, None, ap, ◌∙◌}
 use Rattle.std.specs.Str.{bytes_eq}
+use Rattle.ra_ap_intern.proofs.CallerLemmas.{Later, later_itself, later_later, counted_up_later, counted_down_later, kept_later, interned_later, interned_counted_later, released_later}
 use Rattle.ra_ap_intern.specs.Collector.{has}
 use Rattle.ra_ap_intern.specs.Families.{are_distinct}
 use Rattle.ra_ap_intern.specs.Name.{Name}
@@ -8,7 +9,7 @@ use Rattle.ra_ap_intern.specs.Presets.{place_of}
 use Rattle.ra_ap_intern.specs.Refusal.{Refusal}
 use Rattle.ra_ap_intern.specs.Slices.{slice_of}
 use Rattle.ra_ap_intern.specs.Sliced.{Sliced}
-use Rattle.ra_ap_intern.specs.State.{State, name_in, interned, counted_up, released}
+use Rattle.ra_ap_intern.specs.State.{State, name_in, counted_up, released}
 use Rattle.ra_ap_intern.specs.Symbols.{Named, symbol_at, symbol_in}
 use Rattle.ra_ap_intern.specs.Symbols.Named.{preset, entry}
 use Rattle.intern_calls.specs.Answer.{Answer, unless, up, down, given_up, at_text, answer, refers, clones, owns, releases, decrements, tells_birth, reads_counted, reads_value, reads_slice, reads_text, tells_count, tells_uint, stores_text}
@@ -21,12 +22,6 @@ use Rattle.intern_calls.specs.declared.call.Call.{Call}
 use Rattle.intern_calls.specs.declared.call.Call.TheVariants as call
 use Rattle.intern_calls.specs.declared.reply.Back.{Back}
 use Rattle.intern_calls.specs.declared.reply.Reply.{Reply}
-use Rattle.intern_world.proofs.Later.{Later, later_itself, later_later, counted_up_later, counted_down_later, kept_later, interned_later, released_later}
-
-interned_counted_later : {V : Type 0} (eq : V → V → Bool) (s : State V) (v : V)
-    → Later s (counted_up (interned eq s v).state (interned eq s v).birth)
-interned_counted_later eq s v = later_later s (interned eq s v).state _ (interned_later eq s v)
-    (counted_up_later (interned eq s v).state (interned eq s v).birth)
 
 symbol_later : (s : State (List ℕ)) (t : List ℕ) → Later s (symbol_in s t).table
 symbol_later s t = go (place_of t)

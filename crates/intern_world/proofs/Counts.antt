@@ -7,6 +7,7 @@ use Rattle.std.specs.List.{find}
 use Rattle.std.specs.Option.{option_eq, option_map, unwrap_or}
 use Rattle.std.specs.Ordering.{nat_cmp, eq_by_cmp}
 use Rattle.std.proofs.lemmas.Bool.{and_parts, eq-eqb, eqb-true}
+use Rattle.ra_ap_intern.proofs.CallerLemmas.{tied, get-inserted, get-removed, get-retained, is_there}
 use Rattle.ra_ap_intern.specs.Families.{kept_named}
 use Rattle.ra_ap_intern.specs.Kept.{Kept}
 use Rattle.ra_ap_intern.specs.Name.{Name}
@@ -14,7 +15,6 @@ use Rattle.ra_ap_intern.specs.Refusal.{Refusal}
 use Rattle.ra_ap_intern.specs.Refusal.TheVariants.{Foreign}
 use Rattle.ra_ap_intern.specs.Registry.{same_name}
 use Rattle.ra_ap_intern.specs.State.{State, IsState, name_in, entry_at, count_at, counts, with_count, counted_up, counted_down, taken, added, or_added, birth_of, interned, interned_name, interned_counted, due, due_at, zero_count, is_last, released}
-use Rattle.intern_world.proofs.Later.{tied, written, removed, retained}
 
 -- one where it is true
 abbrev pub flag : Bool → ℕ
@@ -39,29 +39,6 @@ module _ {V : Type 0} where
 
   abbrev tally : Option (Kept V) → ℕ
   tally o = count_where true o
-
-  -- a name has an entry, which this test of its count lets pass
-  pub record IsThere (s : State V) (n : Name) (test : ℕ → Option Refusal) : Type 0 where
-    pub kept : Kept V
-    pub home : n.storage ≡ s.number
-    pub at : entry_at s n.birth ≡ Some kept
-    pub passes : test kept.count ≡ None
-
-  -- where nothing is due
-  pub is_there : (s : State V) (n : Name) (test : ℕ → Option Refusal) → due s n test ≡ None
-      → IsThere s n test
-  is_there s n test free = go (n.storage == s.number) (entry_at s n.birth) refl refl free
-    where
-      go : (t : Bool) (o : Option (Kept V)) → (n.storage == s.number) ≡ t → entry_at s n.birth ≡ o
-          → cond t (due_at o test) (Some Foreign) ≡ None → IsThere s n test
-      go true (Some k) home at free = record {
-        kept = k;
-        home = eqb-true n.storage s.number home;
-        at = at;
-        passes = free;
-      }
-      go true None home at free = absurd (cc)
-      go false o home at free = absurd (cc)
 
   -- t is s with o at the birth of h, whose count is more and less by this much
   changed : (s t : State V) (h n : Name) (o : Option (Kept V)) (more less : ℕ)
@@ -98,7 +75,7 @@ module _ {V : Type 0} where
   recounts f s h n k more less home at sums =
       ap (λ o. count_of (with_count f s h.birth o) n + cond (same_name n h) less 0) at
       ∙ changed s (with_count f s h.birth (Some k)) h n (Some (record k { count = f k.count }))
-      more less refl home (written s h.birth n.birth _)
+      more less refl home (get-inserted s.map h.birth _ n.birth)
       (sums ∙ ap (λ o. tally o + more) (sym at))
 
   -- counted up, a name counts one more, and others what they did
@@ -132,7 +109,7 @@ module _ {V : Type 0} where
           let one : k.count ≡ 1 = eqb-true k.count 1 (sym (ap is_one counted)
           ∙ (and_parts (not stays) (is_one (count_at s h.birth)) last).1) in
           let here : tally (entry_at s h.birth) ≡ k.count = ap tally at in
-          changed s (taken s h.birth) h n None 0 1 refl home (removed s h.birth n.birth)
+          changed s (taken s h.birth) h n None 0 1 refl home (get-removed s.map h.birth n.birth)
           (omega arith)
           ∙ ap (λ x. count_of s n + x) (no_more (same_name n h))
       go false last = down_at s h n k home at some
@@ -171,7 +148,7 @@ module _ {V : Type 0} where
   added_counts eq s v n ok =
       let none = no_more (same_name n (name_in s s.next)) in
       let all = changed s (added s v) (name_in s s.next) n (Some (record { value = v; count = 0 }))
-      0 0 refl refl (written s s.next n.birth _)
+      0 0 refl refl (get-inserted s.map s.next _ n.birth)
       (ap (λ o. tally o + 0) (sym (unborn eq s ok))) in
       omega arith
 
@@ -232,7 +209,7 @@ module _ {V : Type 0} where
           let there = stored eq s v b is in up_at s (name_in s b) n there.0 refl there.1
       go None is =
           up_at (added s v) (name_in s s.next) n _ refl
-          (written s s.next s.next _
+          (get-inserted s.map s.next _ s.next
           ∙ ap (λ t. cond t (Some (record { value = v; count = 0 })) (map.get s.map s.next))
           (eq-eqb s.next s.next refl))
           ∙ ap (λ x. x + flag (same_name n (name_in s s.next))) (added_counts eq s v n ok)
@@ -243,7 +220,7 @@ module _ {V : Type 0} where
       → set n ≡ true)
       → count_of (kept_named s set) n ≡ count_of s n
   kept_counts s set n all =
-      ap (count_where (n.storage == s.number)) (retained s (λ b. set (name_in s b)) n.birth)
+      ap (count_where (n.storage == s.number)) (get-retained s.map (λ b. set (name_in s b)) n.birth)
       ∙ go (n.storage == s.number) (set (name_in s n.birth)) (entry_at s n.birth) refl refl refl
     where
       gone : (c : ℕ) → (0 < c → set n ≡ true) → set n ≡ false → 0 ≡ c

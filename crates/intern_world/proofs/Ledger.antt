@@ -30,8 +30,9 @@ use Rattle.intern_calls.specs.declared.reply.Reply.{Reply}
 use Rattle.intern_calls.specs.declared.reply.Reply.TheVariants.{Refused}
 use Rattle.intern_world.specs.Ledger.{is_part, names_entry, count_in_part, counts_handle, made, added, taken_by, taken, Balances}
 use Rattle.intern_world.specs.Run.{Turn, IsWorld, IsRun}
+use Rattle.ra_ap_intern.proofs.CallerLemmas.{is_there}
 use Rattle.intern_world.proofs.Swept.{swept_counts}
-use Rattle.intern_world.proofs.Counts.{flag, is_there, released_at, up_counts, down_counts, released_counts, interned_counts, interned_counted_counts}
+use Rattle.intern_world.proofs.Counts.{flag, released_at, up_counts, down_counts, released_counts, interned_counts, interned_counted_counts}
 
 held_last : (l : List Held) (h : Held) → held_at (l ++ h ∷ []) (length l) ≡ h
 held_last l h = get_or_push l h nothing (length l) refl

@@ -1,6 +1,5 @@
 pub mod Along
 pub mod Counts
-pub mod Later
 pub mod Ledger
 pub mod Runs
 pub mod Steps

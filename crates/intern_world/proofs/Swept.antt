@@ -2,6 +2,7 @@
 use Rattle.std.proofs.Common.{◌≡◌, ℕ, ◌<◌, Bool, true, false, cond, not, ◌==◌, ◌||◌, List, [], ◌∷◌, ◌++◌, Some, None, refl, sym, ap, ◌∙◌, arith}
 use Rattle.std.specs.Option.{option_map, option_or}
 use Rattle.std.proofs.lemmas.Bool.{and_parts, eq-eqb, eqb-true, ne_eqb}
+use Rattle.ra_ap_intern.proofs.CallerLemmas.{is_more, seen_there, seen_elsewhere}
 use Rattle.ra_ap_intern.specs.Collector.{has}
 use Rattle.ra_ap_intern.specs.Families.{entries_of, has_number}
 use Rattle.ra_ap_intern.specs.Kept.{Kept}
@@ -17,9 +18,6 @@ use Rattle.intern_world.specs.Ledger.{count_in_part}
 use Rattle.intern_world.specs.Run.{IsWorld}
 use Rattle.intern_world.proofs.Counts.{kept_counts}
 
-is_more : (c : ℕ) → 0 < c → is_counted c ≡ true
-is_more c some = ap not (ne_eqb c 0 (λ same. absurd (omega arith)))
-
 -- the entry of a name is the first list's, or the second's
 in_first : (xs ys : List Entry) (n : Name) (e : Entry) → entry_of xs n ≡ Some e
     → is_counted e.count ≡ true → starts (xs ++ ys) n ≡ true
@@ -31,22 +29,6 @@ in_second : (xs ys : List Entry) (n : Name) (e : Entry) → entry_of xs n ≡ No
 in_second xs ys n e none there some =
     ap counted_entry (entry_either xs ys n ∙ ap (λ o. option_or o (entry_of ys n)) none ∙ there)
     ∙ some
-
-module _ {V : Type 0} (children : V → List Name) (s : State V) (n : Name) where
-  -- as a collection sees it
-  seen_there : (k : Kept V) → n.storage ≡ s.number → entry_at s n.birth ≡ Some k
-      → entry_of (entries_of children s) n ≡ Some (as_entry children s n.birth k)
-  seen_there k home at =
-      entry_named children s n
-      ∙ ap (λ t. cond t (option_map (as_entry children s n.birth) (entry_at s n.birth)) None)
-      (eq-eqb n.storage s.number home)
-      ∙ ap (option_map (as_entry children s n.birth)) at
-
-  seen_elsewhere : (n.storage == s.number) ≡ false → entry_of (entries_of children s) n ≡ None
-  seen_elsewhere foreign =
-      entry_named children s n
-      ∙ ap (λ t. cond t (option_map (as_entry children s n.birth) (entry_at s n.birth)) None)
-      foreign
 
 module _ {C G H I : Type 0} where
   pub swept_counts : (kinds : Kinds C G H I) (w : WorldState C G H I) (names : List Name)

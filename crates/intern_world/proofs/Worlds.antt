@@ -1,11 +1,12 @@
 -- What holds at each world of a run, and at each later one.
-use Rattle.std.proofs.Common.{◌≡◌, inl, inr, ℕ, ◌-◌, ◌<◌, ◌≤◌, Bool, true, false, cond, ◌==◌, List, [], ◌∷◌, length, Option, Some, None, refl, sym, ap, ◌∙◌, arith}
+use Rattle.std.proofs.Common.{◌≡◌, inl, inr, ℕ, ◌-◌, ◌<◌, ◌≤◌, Bool, true, false, cond, ◌==◌, List, [], ◌∷◌, length, Option, Some, None, is_some, refl, sym, ap, ◌∙◌, arith}
 use Rattle.std.specs.List.{All, AllPairs}
 use Rattle.std.specs.Option.{option_map}
 use Rattle.std.specs.Str.{bytes_eq}
 use Rattle.std.proofs.lemmas.List.Elements.{All-nil, All-cons}
 use Rattle.std.proofs.lemmas.List.Kept.{AllPairs-cons}
 use Rattle.std.proofs.lemmas.List.Sums.{length-filter, count_by-le-length}
+use Rattle.ra_ap_intern.proofs.CallerLemmas.{read_below, Later, reads_later}
 use Rattle.ra_ap_intern.specs.Collector.{has}
 use Rattle.ra_ap_intern.specs.Families.{IsCollection}
 use Rattle.ra_ap_intern.specs.Kept.{Kept}
@@ -22,44 +23,19 @@ use Rattle.intern_calls.specs.World.{Kinds, WorldState, entries, swept}
 use Rattle.intern_world.specs.Along.{TellsValues, TellsTexts, TellsApart, KeepsReading, KeepsNames, Collects}
 use Rattle.intern_world.specs.Run.{Turn, IsWorld, IsRun, worlds}
 use Rattle.intern_world.proofs.Along.{Laters, laters, step_later}
-use Rattle.intern_world.proofs.Later.{Later, value_at}
 
 module _ {V : Type 0} where
-  -- the birth of what is read was given
-  is_given : (eq : V → V → Bool) (s : State V) → IsState eq s → (n : Name) (v : V)
-      → reads s n ≡ Some v → n.birth < s.next
-  is_given eq s ok n v is = go (n.storage == s.number) (entry_at s n.birth) refl is
-    where
-      go : (t : Bool) (o : Option (Kept V)) → entry_at s n.birth ≡ o
-          → cond t (option_map (λ k. k.value) o) None ≡ Some v → n.birth < s.next
-      go true (Some k) at h = ok.below n.birth (rw at refl)
-      go true None at h = absurd (cc)
-      go false o at h = absurd (cc)
-
-  no_value : (t : State V) (n : Name) → value_at t n.birth ≡ None → reads t n ≡ None
-  no_value t n h = ap (λ o. cond (n.storage == t.number) o None) h ∙ go (n.storage == t.number)
-    where
-      go : (b : Bool) → ◌≡◌ {A = Option V} (cond b None None) None
-      go true = refl
-      go false = refl
-
-  same_value : (s t : State V) (n : Name) → t.number ≡ s.number
-      → value_at t n.birth ≡ value_at s n.birth → reads t n ≡ reads s n
-  same_value s t n number same =
-      ap (λ k. cond (n.storage == k) (value_at t n.birth) None) number
-      ∙ ap (λ o. cond (n.storage == s.number) o None) same
-
   pub later_keeps : (eq : V → V → Bool) (s t : State V) → IsState eq s → Later s t
       → KeepsReading s t
   later_keeps eq s t ok later = record {
-    given = is_given eq s ok;
-    value = λ n v h. elim (later.values n.birth (is_given eq s ok n v h)) [
-      | inl same ↦ inl (same_value s t n later.number same ∙ h)
-      | inr none ↦ inr (no_value t n none)
+    given = λ n v h. read_below eq s ok n (ap is_some h);
+    value = λ n v h. elim (reads_later s t later n (read_below eq s ok n (ap is_some h))) [
+      | inl same ↦ inl (same ∙ h)
+      | inr none ↦ inr none
     ];
-    nothing = λ n given h. elim (later.values n.birth given) [
-      | inl same ↦ same_value s t n later.number same ∙ h
-      | inr none ↦ no_value t n none
+    nothing = λ n given h. elim (reads_later s t later n given) [
+      | inl same ↦ same ∙ h
+      | inr none ↦ none
     ];
     births = later.births;
   }

@@ -1,0 +1,22 @@
+//! Tests of terms: worked examples with their expected answers, each public call, each refusal, and
+//! thousands of calls beside plain trees.
+#![tactic(auto)]
+
+#[cfg(test)]
+mod calls;
+#[cfg(test)]
+mod mixed;
+#[cfg(test)]
+mod readme;
+#[cfg(test)]
+mod refused;
+#[cfg(test)]
+mod scene;
+#[cfg(test)]
+mod trees;
+#[cfg(test)]
+mod walks;
+#[cfg(test)]
+mod worked;
+#[cfg(test)]
+mod written;
