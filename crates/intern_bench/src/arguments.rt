@@ -4,8 +4,8 @@ use anyhow::{Result, bail, ensure};
 
 /// How the program is called.
 pub(crate) const USAGE: &str =
-    "usage: intern_bench NAME GROUP N, where GROUP is sym, val, churn, slice, chain, fan, dag or \
-     churned and N is a number of entries";
+    "usage: intern_bench NAME GROUP N, where GROUP is sym, val, churn, slice, chain, fan, dag, \
+     churned, terms or terms_plain and N is a number of entries";
 
 /// What is stored, and what happens to it.
 #[derive(Clone, Copy)]
@@ -26,6 +26,10 @@ pub(crate) enum Group {
     Dag,
     /// A chain, half of which was collected and is stored again.
     Churned,
+    /// Terms.
+    Terms,
+    /// Such terms as bare slices.
+    Bare,
 }
 
 impl Group {
@@ -39,6 +43,8 @@ impl Group {
             "fan" => Ok(Group::Fan),
             "dag" => Ok(Group::Dag),
             "churned" => Ok(Group::Churned),
+            "terms" => Ok(Group::Terms),
+            "terms_plain" => Ok(Group::Bare),
             _ => bail!("no group {name:?}"),
         }
     }

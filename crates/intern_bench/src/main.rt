@@ -4,6 +4,7 @@
 mod arguments;
 mod churn;
 mod collections;
+mod keepers;
 mod loops;
 mod memory;
 mod nodes;
@@ -13,11 +14,14 @@ mod shapes;
 mod slices;
 mod storage;
 mod symbols;
+mod terms;
 mod values;
 mod workload;
 
 use anyhow::Result;
 use arguments::{Group, Job, USAGE};
+use intern_terms::TermStore;
+use keepers::Bare;
 use memory::Memory;
 use ra_ap_intern::{InternSliceStorage, InternStorage, SymbolTable};
 use shapes::Shape;
@@ -26,6 +30,7 @@ use std::alloc::Global;
 use std::env;
 use std::process::ExitCode;
 use std::rt::Clock;
+use terms::{BARE, TERMS};
 use values::Number;
 use workload::{COUNTED, SLICES};
 
@@ -42,6 +47,8 @@ fn measure_group(rt: &(impl Clock + Memory + Print), alloc: Global, job: &Job<'_
         Group::Fan => collections::measure_all(rt, alloc, job, Shape::fan(job.entries)),
         Group::Dag => collections::measure_all(rt, alloc, job, Shape::dag(job.entries)),
         Group::Churned => collections::measure_churned(rt, alloc, job, Shape::chain(job.entries)),
+        Group::Terms => terms::measure_all::<TermStore>(rt, alloc, job, &TERMS),
+        Group::Bare => terms::measure_all::<InternSliceStorage<Bare>>(rt, alloc, job, &BARE),
     }
 }
 
