@@ -1,25 +1,23 @@
 -- Walks over terms: what was found, and what is open.
-use Rattle.std.proofs.Common.{◌≡◌, ◌⊎◌, inl, inr, ℕ, zero, suc, ◌+◌, ◌*◌, ◌<◌, ◌≤◌, Bool, true, false, cond, ◌||◌, ◌==◌, List, [], ◌∷◌, ◌++◌, map, length, Option, Some, None, IsSome, is_some, refl, sym, ap, subst, ◌∙◌, arith, lt_irrefl}
-use Rattle.std.specs.List.{list_any, slice_get, AllByRecursion, IsDistinct}
-use Rattle.std.proofs.lemmas.Bool.{and_parts, and_from, or_cases, or_left, or_right, eqb-true}
+use Rattle.std.proofs.Common.{◌≡◌, ◌⊎◌, inl, inr, Bool, true, false, cond, ◌||◌, List, [], ◌∷◌, ◌++◌, map, Some, IsSome, refl, sym, ap, subst, ◌∙◌}
+use Rattle.std.specs.List.{list_any, AllByRecursion, IsDistinct}
+use Rattle.std.proofs.lemmas.Bool.{and_parts, and_from, or_cases, or_left, or_right}
 use Rattle.std.proofs.lemmas.List.{map-append}
 use Rattle.std.proofs.lemmas.List.Folds.{list_any-append}
-use Rattle.std.proofs.Math.Nat.{mul-le-mul_right, suc-mul}
 use Rattle.indexmap.specs.IndexSet.{insert_key}
 use Rattle.ra_ap_intern.specs.Collector.{has}
 use Rattle.ra_ap_intern.specs.Name.{Name}
-use Rattle.ra_ap_intern.specs.Reach.{children_in, is_entry, IsPath, Reached, IsReachedSet}
+use Rattle.ra_ap_intern.specs.Reach.{IsPath, Reached, IsReachedSet}
 use Rattle.ra_ap_intern.specs.Registry.{same_name}
 use Rattle.ra_ap_intern.specs.Sliced.{Sliced}
-use Rattle.ra_ap_intern.specs.State.{State, name_in, reads}
+use Rattle.ra_ap_intern.specs.State.{State, reads}
 use Rattle.ra_ap_intern.specs.declared.symbol.Symbol.{Symbol}
-use Rattle.ra_ap_intern.proofs.CallerLemmas.{some_read, read_at, entry_read, children_read}
+use Rattle.ra_ap_intern.proofs.CallerLemmas.{some_read, entry_read, children_read}
 use Rattle.intern_terms.specs.Handle.{term_name}
-use Rattle.intern_terms.specs.Store.{arguments, IsBuilt, declared_by, terms_of}
-use Rattle.intern_terms.specs.Walk.{begins_at, items_at, items_of, InOrder, IsWalk, AreFound, with_name}
+use Rattle.intern_terms.specs.Store.{arguments, declared_by, terms_of}
+use Rattle.intern_terms.specs.Walk.{begins_at, InOrder, IsWalk, with_name}
 use Rattle.intern_terms.specs.declared.handle.TermRef.{TermRef}
-use Rattle.intern_terms.specs.declared.walk.Open.{Open}
-use Rattle.intern_terms.proofs.Names.{names_same, same_names, has_first, has_later}
+use Rattle.intern_terms.proofs.Names.{names_same, same_names, has_first}
 
 pub true_or_false : (t : Bool) → (t ≡ true) ⊎ (t ≡ false)
 true_or_false true = inl refl
