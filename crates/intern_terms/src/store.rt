@@ -87,6 +87,7 @@ impl TermStore {
         ensures len { result ≡ map.len self.now.map }
         ensures state { IsTerms self.now }
     {
+        // What `number` says of the state is said here too.
         let _number = self.number();
         self.terms.len()
     }
@@ -109,7 +110,8 @@ impl TermStore {
         head: Symbol,
         args: &[TermRef],
     ) -> Result<(TermRef, Option<Symbol>), Refused<Symbol>>
-        ensures name { IfOk result (λ r. term_name r.0 ≡ slice_name_in same_node self.old head args.now) }
+        ensures name { IfOk result (λ r.
+            term_name r.0 ≡ slice_name_in same_node self.old head args.now) }
         ensures back { IfOk result (λ r. r.1 ≡ slice_back same_node self.old head args.now) }
         ensures refused { MayWantBack result (due_term self.old head args.now)
             (is_new_slice same_node self.old head args.now) head }
@@ -130,7 +132,7 @@ impl TermStore {
 
     /// The term with this head over these arguments, where it is stored. It takes no memory.
     pub fn get(&self, head: &Symbol, args: &[TermRef]) -> Option<TermRef>
-        ensures term { option_map term_name result
+        ensures { option_map term_name result
             ≡ name_of_value same_node self.now (slice_of head.now args.now) }
     {
         let reference = self.terms.get(head, args)?;
@@ -143,6 +145,7 @@ impl TermStore {
         ensures there { result ≡ is_some (reads self.now (term_name term)) }
         ensures state { IsTerms self.now }
     {
+        // What `number` says of the state is said here too.
         let _number = self.number();
         self.terms.count(term.reference).is_some()
     }

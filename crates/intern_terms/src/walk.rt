@@ -36,6 +36,7 @@ impl TermStore {
             InOrder self.now [] (list_map term_name walk.items)) }
         ensures state { IsTerms self.now }
     {
+        // What `number` says of the state is said here too.
         let _number = self.number();
         let mut found = Found::new(self.alloc());
         for term in terms {

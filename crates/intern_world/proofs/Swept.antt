@@ -1,16 +1,13 @@
 -- A collection leaves each counted entry.
-use Rattle.std.proofs.Common.{◌≡◌, ℕ, ◌<◌, Bool, true, false, cond, not, ◌==◌, ◌||◌, List, [], ◌∷◌, ◌++◌, Some, None, refl, sym, ap, ◌∙◌, arith}
-use Rattle.std.specs.Option.{option_map, option_or}
-use Rattle.std.proofs.lemmas.Bool.{and_parts, eq-eqb, eqb-true, ne_eqb}
+use Rattle.std.proofs.Common.{◌≡◌, Bool, true, false, not, ◌==◌, ◌||◌, List, [], ◌∷◌, ◌++◌, Some, None, refl, sym, ap, ◌∙◌}
+use Rattle.std.specs.Option.{option_or}
+use Rattle.std.proofs.lemmas.Bool.{and_parts, eq-eqb, eqb-true}
 use Rattle.ra_ap_intern.proofs.CallerLemmas.{is_more, seen_there, seen_elsewhere}
 use Rattle.ra_ap_intern.specs.Collector.{has}
-use Rattle.ra_ap_intern.specs.Families.{entries_of, has_number}
-use Rattle.ra_ap_intern.specs.Kept.{Kept}
+use Rattle.ra_ap_intern.specs.Families.{has_number}
 use Rattle.ra_ap_intern.specs.Name.{Name}
 use Rattle.ra_ap_intern.specs.PairLaws.{entry_either}
 use Rattle.ra_ap_intern.specs.Reach.{Entry, entry_of, is_counted, counted_entry, starts, IsReachedSet}
-use Rattle.ra_ap_intern.specs.State.{State, entry_at}
-use Rattle.ra_ap_intern.specs.StorageLaws.{as_entry, entry_named}
 use Rattle.intern_calls.specs.World.{Kinds, WorldState, entries, swept}
 use Rattle.intern_calls.specs.declared.call.Which.{Which}
 use Rattle.intern_calls.specs.declared.call.Which.TheVariants as which

@@ -1,7 +1,6 @@
 -- What holds at each world of a run, and at each later one.
-use Rattle.std.proofs.Common.{◌≡◌, inl, inr, ℕ, ◌-◌, ◌<◌, ◌≤◌, Bool, true, false, cond, ◌==◌, List, [], ◌∷◌, length, Option, Some, None, is_some, refl, sym, ap, ◌∙◌, arith}
+use Rattle.std.proofs.Common.{◌≡◌, inl, inr, ℕ, ◌-◌, ◌≤◌, Bool, List, [], ◌∷◌, length, is_some, sym, ap, ◌∙◌, arith}
 use Rattle.std.specs.List.{All, AllPairs}
-use Rattle.std.specs.Option.{option_map}
 use Rattle.std.specs.Str.{bytes_eq}
 use Rattle.std.proofs.lemmas.List.Elements.{All-nil, All-cons}
 use Rattle.std.proofs.lemmas.List.Kept.{AllPairs-cons}
@@ -9,10 +8,9 @@ use Rattle.std.proofs.lemmas.List.Sums.{length-filter, count_by-le-length}
 use Rattle.ra_ap_intern.proofs.CallerLemmas.{read_below, Later, reads_later}
 use Rattle.ra_ap_intern.specs.Collector.{has}
 use Rattle.ra_ap_intern.specs.Families.{IsCollection}
-use Rattle.ra_ap_intern.specs.Kept.{Kept}
 use Rattle.ra_ap_intern.specs.Name.{Name}
 use Rattle.ra_ap_intern.specs.Reach.{Entry, starts, kept_entries}
-use Rattle.ra_ap_intern.specs.State.{State, IsState, entry_at, reads}
+use Rattle.ra_ap_intern.specs.State.{State, IsState}
 use Rattle.ra_ap_intern.specs.Symbols.{IsTable}
 use Rattle.intern_calls.specs.Answer.{told as tells_of}
 use Rattle.intern_calls.specs.Step.{Step}
