@@ -12,7 +12,6 @@ mod scene;
 mod slices;
 mod storage;
 mod symbols;
-mod terms;
 mod values;
 mod worlds;
 
@@ -21,7 +20,6 @@ use crate::fault::Fault;
 use crate::scene::check;
 use crate::slices::Row;
 use crate::symbols::{Call, Symbols};
-use crate::terms::{Sweep, Terms, check_refusals, check_sweep, check_walk, check_written};
 use crate::values::Term;
 use crate::worlds::{check_keeping, check_one_value, check_runs};
 use intern_fixtures::Unhashed;
@@ -38,15 +36,9 @@ fn check_all(rt: &(impl Print + Eprint), alloc: Global) -> Result<(), Fault> {
     check(rt, alloc, Symbols::new(alloc, Call::Intern))?;
     check(rt, alloc, Symbols::new(alloc, Call::Integer))?;
     check(rt, alloc, Symbols::new(alloc, Call::Generated))?;
-    check(rt, alloc, Terms::new(alloc)?)?;
     check_registration(rt, alloc)?;
     check_collection(rt, alloc, Collection::Plain)?;
     check_collection(rt, alloc, Collection::Keeping)?;
-    check_sweep(rt, alloc, Sweep::Plain)?;
-    check_sweep(rt, alloc, Sweep::Keeping)?;
-    check_walk(rt, alloc)?;
-    check_written(rt, alloc)?;
-    check_refusals(alloc)?;
     check_runs(rt, alloc)?;
     check_one_value(rt, alloc)?;
     check_keeping(rt, alloc)
