@@ -3,6 +3,8 @@
 #![tactic(auto)]
 
 #[cfg(test)]
+mod equalities;
+#[cfg(test)]
 mod families;
 #[cfg(test)]
 mod hostile;

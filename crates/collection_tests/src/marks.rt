@@ -6,10 +6,10 @@ use crate::nodes::{intern_leaf, intern_owned};
 use crate::outers::{Outers, a_value_over_a_slice};
 use crate::steps::{collects_by, has_len, own, registers};
 use crate::texts::intern_text;
-use intern_fixtures::{NodeSlice, StringSlice};
+use intern_fixtures::{GcString, NodeSlice, StringSlice};
 use ra_ap_intern::{
     GarbageCollector, GcInternedSliceVisit, GcInternedVisit, InternStorage, Internable,
-    InternedRef, InternedSliceRef,
+    InternedRef, InternedSliceRef, Name,
 };
 use std::alloc::Global;
 use std::ops::ControlFlow;
@@ -70,30 +70,53 @@ fn a_registered_value_over_a_slice(
 fn a_mark_call_marks_what_is_registered_and_not_counted(rt: HostRuntime) {
     let alloc = rt.alloc();
     let (mut gc, _, outer, inner) = a_registered_value_over_a_slice(&rt, alloc);
-    let mut outside = InternStorage::new(alloc, 9);
-    let text = intern_text(&rt, alloc, &mut outside, "abc", 0);
-
-    marks_slice(&rt, &mut gc, inner, MARKED);
-    marks_slice(&rt, &mut gc, inner, NOT_MARKED);
-    marks(&rt, &mut gc, outer, NOT_MARKED);
-    marks(&rt, &mut gc, text, NOT_MARKED);
-    has_tallies(&rt, &gc, (0, 4));
+    let text = a_text_outside(&rt, alloc);
+    marks_four_times(&rt, &mut gc, outer, inner, text);
     assert!(rt; gc.is_marked(inner.name()));
     assert!(rt; !gc.is_marked(outer.name()));
     assert!(rt; !gc.is_marked(text.name()));
+}
+
+/// A reference to a text of a storage outside.
+fn a_text_outside(rt: &impl Abort, alloc: Global) -> InternedRef<GcString> {
+    intern_text(rt, alloc, &mut InternStorage::new(alloc, 9), "abc", 0)
+}
+
+/// Marks the slice twice, the value over it, and a text of a storage outside. Only the first call
+/// marks.
+fn marks_four_times(
+    rt: &impl Abort,
+    gc: &mut GarbageCollector,
+    outer: InternedRef<Outer>,
+    inner: InternedSliceRef<StringSlice>,
+    text: InternedRef<GcString>,
+) {
+    marks_slice(rt, gc, inner, MARKED);
+    marks_slice(rt, gc, inner, NOT_MARKED);
+    marks(rt, gc, outer, NOT_MARKED);
+    marks(rt, gc, text, NOT_MARKED);
+    has_tallies(rt, gc, (0, 4));
 }
 
 #[test]
 fn a_registration_forgets_all_marks(rt: HostRuntime) {
     let alloc = rt.alloc();
     let (mut gc, family, outer, inner) = a_registered_value_over_a_slice(&rt, alloc);
-    marks_slice(&rt, &mut gc, inner, MARKED);
-    marks(&rt, &mut gc, outer, NOT_MARKED);
+    let text = a_text_outside(&rt, alloc);
+    marks_four_times(&rt, &mut gc, outer, inner, text);
     registers(&rt, &mut gc, &family);
-    assert!(rt; !gc.is_marked(inner.name()));
-    assert!(rt; !gc.is_marked(outer.name()));
+    none_is_marked(&rt, &gc, [inner.name(), outer.name(), text.name()]);
     has_tallies(&rt, &gc, (0, 0));
     marks_slice(&rt, &mut gc, inner, MARKED);
+    marks(&rt, &mut gc, text, NOT_MARKED);
+    assert!(rt; !gc.is_marked(text.name()));
+}
+
+/// No name is marked.
+fn none_is_marked(rt: &impl Abort, gc: &GarbageCollector, names: [Name; 3]) {
+    for name in names {
+        assert!(rt; !gc.is_marked(name));
+    }
 }
 
 #[test]

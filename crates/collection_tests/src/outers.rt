@@ -27,3 +27,8 @@ pub fn a_value_over_a_slice(
     let family = GarbageCollector::add_storage(family, outers);
     (family, outer, inner)
 }
+
+/// The storages have this many values and this many slices.
+pub fn outers_have_lens(rt: &impl Abort, outers: &Outers, lens: (usize, usize)) {
+    assert_eq!(rt; (outers.second.len(), outers.first.second.len()), lens);
+}

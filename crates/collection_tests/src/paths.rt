@@ -1,12 +1,13 @@
 //! What paths of declared children keep.
 use crate::kinds::{Link, LinkSlice};
 use crate::nodes::{Nodes, intern_leaf, intern_node, intern_owned};
-use crate::steps::{collects, intern, intern_slice, own, release};
+use crate::steps::{collects, has_count, intern, intern_slice, own, registers, release};
 use intern_fixtures::Node;
 use ra_ap_intern::{
     GarbageCollector, InternSliceStorage, InternStorage, InternedRef, NoStorages, Pair,
 };
 use std::alloc::Global;
+use std::ops::ControlFlow;
 use std::process::Abort;
 
 #[test]
@@ -28,7 +29,17 @@ fn a_child_that_is_declared_twice_is_visited_once(rt: HostRuntime) {
     let mut storage = InternStorage::new(alloc, 1);
     let child = intern_leaf(&rt, alloc, &mut storage, 0, 0);
     let _ = intern_owned(&rt, alloc, &mut storage, &[child, child], 1);
+    has_count(&rt, &storage, child, 0);
+    is_marked_once(&rt, alloc, &storage, child);
     collects(&rt, alloc, &mut storage, (2, 2, 0));
+}
+
+/// Of two mark calls of a node, the first one marks it.
+fn is_marked_once(rt: &impl Abort, alloc: Global, storage: &Nodes, node: InternedRef<Node>) {
+    let mut gc = GarbageCollector::new(alloc);
+    registers(rt, &mut gc, storage);
+    assert_eq!(rt; gc.mark_interned_alive(node), ControlFlow::Continue(()));
+    assert_eq!(rt; gc.mark_interned_alive(node), ControlFlow::Break(()));
 }
 
 #[test]

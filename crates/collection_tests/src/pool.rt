@@ -68,6 +68,9 @@ fn items_of_no_size_keep_their_lengths(rt: HostRuntime) {
     let none = intern_units(&rt, alloc, &mut storage, &[], 2);
     let _ = own_slice(&rt, &mut storage, three);
     let _ = own_slice(&rt, &mut storage, none);
+    has_length(&rt, &storage, three, Some(3));
+    has_length(&rt, &storage, two, Some(2));
+    has_length(&rt, &storage, none, Some(0));
     collects(&rt, alloc, &mut storage, (2, 0, 1));
     has_length(&rt, &storage, three, Some(3));
     has_length(&rt, &storage, two, None);

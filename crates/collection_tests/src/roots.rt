@@ -1,6 +1,6 @@
 //! Collections with a list of roots.
 use crate::outers::a_value_over_a_slice;
-use crate::steps::{collects, collects_keeping, has_len, release, release_slice};
+use crate::steps::{collects, collects_keeping, has_len, own, release, release_slice};
 use crate::texts::{have_lens, two_texts_and_a_slice};
 use ra_ap_intern::Name;
 
@@ -29,6 +29,8 @@ fn a_root_is_kept_as_if_it_were_counted(rt: HostRuntime) {
 fn a_root_keeps_what_it_declares(rt: HostRuntime) {
     let alloc = rt.alloc();
     let (mut family, outer, inner) = a_value_over_a_slice(&rt, alloc);
+    let owned = own(&rt, &mut family.second, outer);
+    release(&rt, &mut family.second, owned);
     collects_keeping(&rt, alloc, &mut family, &[outer.name()], (2, 1, 0));
     collects_keeping(&rt, alloc, &mut family, &[inner.name()], (1, 0, 1));
     has_len(&rt, &family.second, 0);

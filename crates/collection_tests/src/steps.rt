@@ -69,6 +69,26 @@ pub fn has_len<T: Internable>(rt: &impl Abort, storage: &InternStorage<T>, len: 
     assert_eq!(rt; storage.len(), len);
 }
 
+/// The entry that a reference names has this count.
+pub fn has_count<T: Internable>(
+    rt: &impl Abort,
+    storage: &InternStorage<T>,
+    reference: InternedRef<T>,
+    count: u64,
+) {
+    assert_eq!(rt; storage.count(reference), Some(count));
+}
+
+/// The entry that a reference to a slice names has this count.
+pub fn slice_has_count<K: SliceInternable>(
+    rt: &impl Abort,
+    storage: &InternSliceStorage<K>,
+    slice: InternedSliceRef<K>,
+    count: u64,
+) {
+    assert_eq!(rt; storage.count(slice), Some(count));
+}
+
 /// Interns a value that isn't stored: it gets this birth.
 pub fn intern<T: Internable + Drop>(
     rt: &impl Abort,

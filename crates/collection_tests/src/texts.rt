@@ -35,19 +35,21 @@ pub fn intern_numbers(
     intern_slice(rt, storage, header, numbers, birth)
 }
 
-/// Interns numbers behind a text that are stored under this name: the text comes back.
+/// Interns numbers behind a text that are stored under this name: the text comes back. It gives the
+/// second reference.
 pub fn intern_numbers_again(
     rt: &impl Abort,
     alloc: Global,
     storage: &mut InternSliceStorage<StringSlice>,
     (text, numbers): (&str, &[u32]),
     slice: InternedSliceRef<StringSlice>,
-) {
+) -> InternedSliceRef<StringSlice> {
     let header = String::from_str(alloc, text).expect(rt, "memory");
     let answer = InternedSlice::from_header_and_slice(storage, header, numbers);
     let (again, back) = allowed(answer).expect(rt, "interned");
     assert!(rt; again == slice);
     assert_eq!(rt; back.as_ref().map(String::as_str), Some(text));
+    again
 }
 
 /// Reads this text.
@@ -91,7 +93,7 @@ pub fn two_texts_and_a_slice(
     let mut slices = InternSliceStorage::new(alloc, 2);
     let pair = ("abc", [123, 456].as_slice());
     let slice = intern_numbers(rt, alloc, &mut slices, pair, 0);
-    intern_numbers_again(rt, alloc, &mut slices, pair, slice);
+    let _ = intern_numbers_again(rt, alloc, &mut slices, pair, slice);
     let slice = own_slice(rt, &mut slices, slice);
 
     let family = GarbageCollector::add_storage(NoStorages, texts);

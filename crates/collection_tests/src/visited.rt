@@ -1,34 +1,45 @@
 //! Values that count their visits, in a cell that equality and hash pass over.
 ghost use Rattle.std.specs.Prelude.{true};
 
-use crate::steps::{collects, intern, intern_slice, own, own_slice};
+use crate::steps::{collects, has_count, intern, intern_slice, own, own_slice};
 use ra_ap_intern::{
     GarbageCollector, GcInternedSliceVisit, GcInternedVisit, InternSliceStorage, InternStorage,
     Internable, InternedRef, InternedSliceRef, SliceInternable,
 };
 use std::alloc::Global;
 use std::cell::Cell;
+use std::ops::ControlFlow;
 use std::process::Abort;
 
-/// A tag, with how often it was visited.
+/// A tag, with how often it was visited, and whether the last mark call of its visits marked.
 #[derive(Drop)]
 #[derive_where(PartialEq, Eq, Hash)]
 struct Visits {
     tag: u64,
     #[derive_where(skip(EqHashOrd))]
     visits: Cell<u64>,
+    #[derive_where(skip(EqHashOrd))]
+    last_marked: Cell<bool>,
 }
 
 impl Visits {
     /// The tag, not visited.
     fn new(tag: u64) -> Visits {
-        let visits = Cell::new(0);
-        Visits { tag, visits }
+        Visits {
+            tag,
+            visits: Cell::new(0),
+            last_marked: Cell::new(false),
+        }
     }
 
     /// How often it was visited.
     fn get(&self) -> u64 {
         self.visits.get()
+    }
+
+    /// Notes what a mark call of its visit answered.
+    fn note(&self, answer: ControlFlow<()>) {
+        self.last_marked.set(answer.is_continue());
     }
 
     /// Counts one visit more.
@@ -60,7 +71,7 @@ impl GcInternedVisit for Visited {
     fn visit_with(&self, gc: &mut GarbageCollector) {
         self.visits.add_one();
         for child in &self.children {
-            let _ = gc.mark_interned_alive(*child);
+            self.visits.note(gc.mark_interned_alive(*child));
         }
     }
 }
@@ -104,6 +115,40 @@ fn were_visited(
         let read = node.get(storage).map(|node| node.visits.get());
         assert_eq!(rt; read, Some(visits));
     }
+}
+
+#[test]
+fn a_collection_marks_a_child_that_is_declared_twice_once(rt: HostRuntime) {
+    let alloc = rt.alloc();
+    let mut storage = InternStorage::new(alloc, 1);
+    let child = intern_visited(&rt, alloc, &mut storage, 0, &[]);
+    let node = intern_visited(&rt, alloc, &mut storage, 1, &[child, child]);
+    let _ = own(&rt, &mut storage, node);
+    has_count(&rt, &storage, child, 0);
+    collects(&rt, alloc, &mut storage, (2, 2, 0));
+    last_marked(&rt, &storage, node, false);
+}
+
+#[test]
+fn a_collection_marks_a_child_that_is_declared_once(rt: HostRuntime) {
+    let alloc = rt.alloc();
+    let mut storage = InternStorage::new(alloc, 1);
+    let child = intern_visited(&rt, alloc, &mut storage, 0, &[]);
+    let node = intern_visited(&rt, alloc, &mut storage, 1, &[child]);
+    let _ = own(&rt, &mut storage, node);
+    collects(&rt, alloc, &mut storage, (2, 1, 0));
+    last_marked(&rt, &storage, node, true);
+}
+
+/// The last mark call of the visit of a node marked, or didn't.
+fn last_marked(
+    rt: &impl Abort,
+    storage: &InternStorage<Visited>,
+    node: InternedRef<Visited>,
+    marked: bool,
+) {
+    let read = node.get(storage).map(|node| node.visits.last_marked.get());
+    assert_eq!(rt; read, Some(marked));
 }
 
 /// Nodes that are slices: each is a tag, which counts its visits, before its children.

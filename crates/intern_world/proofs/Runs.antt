@@ -20,6 +20,14 @@ module _ {C G S H I : Type 0} (kinds : Kinds C G H I) (w : WorldState C G H I) w
   run_more (t ∷ ts) start mid c r after run step ok =
       (run.0, run.1, run.2, run_more ts t.after mid c r after run.3 step ok)
 
+  -- a run, and one from the world in which it ends
+  pub joined_run : (first second : List (Turn C G S H I)) (start mid end : WorldState C G H I)
+      → IsRun kinds start first mid → IsRun kinds mid second end
+      → IsRun kinds start (first ++ second) end
+  joined_run [] second start mid end run more = rw run.0 more
+  joined_run (t ∷ ts) second start mid end run more =
+      (run.0, run.1, run.2, joined_run ts second t.after mid end run.3 more)
+
   -- a run, and a step from the world in which it ends
   pub one_more : (cs : List (Call C G S H I)) (rs : List (Reply C G H)) (c : Call C G S H I)
       (r : Reply C G H) (mid after : WorldState C G H I) → Runs kinds w cs rs mid

@@ -8,6 +8,20 @@ ghost use Rattle.intern_world.specs.Run.{Turn, IsRun, worlds};
 
 use ra_ap_intern::{GcInternedSliceVisit, GcInternedVisit, Internable, laws};
 
+/// Two runs, the second from the world in which the first ends, are one run.
+pub fn runs_one_after_the_other_are_one_run<
+    C: Internable,
+    G: Internable + GcInternedVisit,
+    S: GcInternedSliceVisit,
+>()
+    ensures { let kinds = kinds_of C.eq G.eq S.Header.eq S.SliceType.eq G.children
+        S.header_children S.slice_children in
+        (w middle end : WorldState C G S.Header S.SliceType)
+        (first second : List (Turn C G S S.Header S.SliceType)) →
+        IsRun kinds w first middle → IsRun kinds middle second end →
+        IsRun kinds w (first ++ second) end }
+{}
+
 /// At each world of a run handles of one kind that read something in their storage are equal
 /// exactly if the values are, and symbols that can be read exactly if their texts are.
 pub fn handles_tell_values_along_runs<

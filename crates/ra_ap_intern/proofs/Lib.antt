@@ -1,3 +1,5 @@
+mod Answered
+mod Births
 pub mod CallerLemmas
 mod Collections
 mod Entries

@@ -10,7 +10,7 @@ use Rattle.intern_presets.specs.Presets.{preset_text, place_of}
 use Rattle.intern_presets.proofs.Finding.{place_is}
 use Rattle.intern_presets.proofs.Standing.{one_place}
 use Rattle.intern_store.specs.Kept.{Kept}
-use Rattle.intern_store.specs.State.{State, IsState, IsGone, entry_at, name_in, reads, interned}
+use Rattle.intern_store.specs.State.{State, IsState, IsGone, entry_at, name_in, reads, birth_of, or_added, interned}
 use Rattle.intern_store.specs.declared.names.Name.{Name}
 use Rattle.intern_store.proofs.Later.{interned_gone, counted_up_gone}
 use Rattle.intern_store.proofs.Reading.{recounted_reads, interned_reads}
@@ -36,6 +36,17 @@ no_preset s table p n t u at read same =
     let k = (entry_of s n u read).1 in
     let none = ap place_of (sym k.2) ∙ table.others n.birth k.0 k.1 in
     none-some p (sym none ∙ ap place_of (sym same) ∙ (place_is t p).1 at)
+
+-- so none of a table's entries has a preset's text
+pub preset_is_absent : (s : State (List ℕ)) → IsTable s → (p : ℕ) (t : List ℕ) → preset_text p ≡ Some t → birth_of bytes_eq s t ≡ None
+preset_is_absent s table p t at = go (birth_of bytes_eq s t) refl
+  where
+    go : (o : Option ℕ) → birth_of bytes_eq s t ≡ o → o ≡ None
+    go None is = refl
+    go (Some b) is =
+        let read = interned_reads bytes_eq nat_list_eq_equiv s t in
+        let here = sym (ap (λ o. reads (or_added o s t).state (name_in s (or_added o s t).birth)) is) ∙ read.1 in
+        absurd (no_preset s table p (name_in s b) t read.0 at here ((bytes_eq-Decides t read.0).0 read.2))
 
 -- entries of one text are one
 one_entry : (s : State (List ℕ)) → IsState bytes_eq s → (n m : Name) (t u : List ℕ) → reads s n ≡ Some t → reads s m ≡ Some u → t ≡ u → n ≡ m

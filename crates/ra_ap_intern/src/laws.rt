@@ -1,20 +1,21 @@
 //! Laws of the definitions, each the contract of a function that does nothing.
-ghost use Rattle.std.specs.Prelude.{◌≡◌, ◌<◌, ◌^◌, ◌↔◌, ℕ, List, Bool, true, false, if◌then◌else◌, Some, None, decimal, option_and_then};
+ghost use Rattle.std.specs.Prelude.{◌≡◌, ◌<◌, ◌+◌, ◌^◌, ◌↔◌, ℕ, List, Bool, true, false, if◌then◌else◌, Some, None, decimal, option_and_then};
 ghost use Rattle.std.specs.List.{list_all};
 ghost use Rattle.std.specs.Str.{bytes_eq};
 ghost use Rattle.intern_presets.specs.Numbers.{number_value};
 ghost use Rattle.intern_presets.specs.Presets.{preset_text, place_of};
-ghost use Rattle.intern_store.specs.State.{State, Stored, IsState, IsGone, reads, counts, entry_at, count_at, birth_of, interned, interned_name, name_in, counted_up, counted_down, released, kept, due_interning, full, any_count};
+ghost use Rattle.intern_store.specs.State.{State, Stored, IsState, IsGone, reads, counts, entry_at, count_at, birth_of, is_new, interned, interned_name, name_in, counted_up, counted_down, released, kept, due_interning, full, any_count};
 ghost use Rattle.intern_store.specs.declared.names.Name.{Name};
 ghost use Rattle.intern_table.specs.Sliced.{Sliced, sliced_eq};
 ghost use Rattle.intern_trace.specs.Collector.{has};
-ghost use Rattle.intern_trace.specs.Reach.{Entry, IsReachedSet, IsClosed, starts_with};
+ghost use Rattle.intern_trace.specs.Reach.{Entry, entry_of, IsReachedSet, IsClosed, starts_with};
 ghost use Rattle.ra_ap_intern.specs.Constants.{constants};
-ghost use Rattle.ra_ap_intern.specs.Families.{kept_named};
+ghost use Rattle.ra_ap_intern.specs.Families.{IsCollection, kept_named};
 ghost use Rattle.ra_ap_intern.specs.Handle.{name_of, ref_name};
 ghost use Rattle.ra_ap_intern.specs.Slices.{slice_name, slice_ref_name};
-ghost use Rattle.ra_ap_intern.specs.Symbols.{IsTable, Named, Counted, symbol_name, symbol_ref_name, has_its_text, text_of, symbol_in, due_symbol, at_entry};
+ghost use Rattle.ra_ap_intern.specs.Symbols.{IsTable, Named, Counted, symbol_name, symbol_ref_name, has_its_text, text_of, symbol_in, due_symbol, at_entry, is_new_text};
 ghost use Rattle.ra_ap_intern.specs.Symbols.Named.{preset, entry};
+ghost use Rattle.ra_ap_intern.specs.declared.gc.Collected.{Collected as Told};
 ghost use Rattle.ra_ap_intern.specs.declared.intern.Interned.{Interned as Owned};
 ghost use Rattle.ra_ap_intern.specs.declared.intern.InternedRef.{InternedRef as Reference};
 ghost use Rattle.ra_ap_intern.specs.declared.intern_slice.InternedSlice.{InternedSlice as OwnedSlice};
@@ -38,9 +39,9 @@ pub fn names_tell_values<T: Eq>()
         reads s n ≡ Some v → reads s m ≡ Some w → (n ≡ m) ↔ (T.eq v w ≡ true) }
 {}
 
-/// A birth that was given and has no entry has none after any change of its storage: what is gone
-/// stays gone.
-pub fn a_birth_is_given_once<T: Eq>()
+/// What is gone stays gone: a birth that was given and has no entry has none after any change of
+/// its storage.
+pub fn what_is_gone_stays_gone<T: Eq>()
     ensures interned { (s : State T) (v : T) (b : ℕ) →
         IsGone s b → IsGone (interned T.eq s v).state b }
     ensures counted_up { (s : State T) (c b : ℕ) → IsGone s b → IsGone (counted_up s c) b }
@@ -49,6 +50,22 @@ pub fn a_birth_is_given_once<T: Eq>()
         IsGone s b → IsGone (released stays s c) b }
     ensures swept { (s : State T) (marked : ℕ → Bool) (b : ℕ) →
         IsGone s b → IsGone (kept s marked) b }
+{}
+
+/// A birth is given once: the birth of a new entry is the next one, which no change of a storage
+/// lowers, and which is past it then.
+pub fn a_birth_is_given_once<T: Eq>()
+    ensures fresh { (s : State T) (v : T) → birth_of T.eq s v ≡ None →
+        (interned T.eq s v).birth ≡ s.next }
+    ensures given { (s : State T) (v : T) → birth_of T.eq s v ≡ None →
+        (interned T.eq s v).state.next ≡ s.next + 1 }
+    ensures stored { (s : State T) (v : T) (b : ℕ) → birth_of T.eq s v ≡ Some b →
+        (interned T.eq s v).state.next ≡ s.next }
+    ensures counted_up { (s : State T) (c : ℕ) → (counted_up s c).next ≡ s.next }
+    ensures counted_down { (s : State T) (c : ℕ) → (counted_down s c).next ≡ s.next }
+    ensures released { (s : State T) (stays : Bool) (c : ℕ) →
+        (released stays s c).next ≡ s.next }
+    ensures swept { (s : State T) (marked : ℕ → Bool) → (kept s marked).next ≡ s.next }
 {}
 
 /// A sweep leaves each marked entry as it was, and no other.
@@ -63,9 +80,11 @@ pub fn what_is_interned_is_read<T: Eq>()
         × (reads (interned T.eq s v).state (interned_name T.eq s v) ≡ Some w) × (T.eq v w ≡ true) }
 {}
 
-/// Interning a value that is stored changes nothing but its count. In counted mode its count alone
-/// can refuse it, in collected mode nothing can.
+/// Interning a value that is stored changes nothing but its count, and wants no memory. In counted
+/// mode its count alone can refuse it, in collected mode nothing can.
 pub fn what_is_stored_is_found<T: Eq>()
+    ensures memory { (s : State T) (v : T) (b : ℕ) → birth_of T.eq s v ≡ Some b →
+        is_new T.eq s v ≡ false }
     ensures unchanged { (s : State T) (v : T) (b : ℕ) → birth_of T.eq s v ≡ Some b →
         interned T.eq s v ≡ record { birth = b; state = s } }
     ensures counted { (s : State T) (v : T) (b n : ℕ) → birth_of T.eq s v ≡ Some b →
@@ -107,8 +126,9 @@ pub fn a_slice_that_is_interned_is_read<T: SliceInternable>()
         × (reads (interned eq s v).state (interned_name eq s v) ≡ Some w) × (eq v w ≡ true) }
 {}
 
-/// A birth that was given and has no entry has none after any change of its storage of slices.
-pub fn a_slices_birth_is_given_once<T: SliceInternable>()
+/// A slice that is gone stays gone: a birth that was given and has no entry has none after any
+/// change of its storage.
+pub fn a_gone_slice_stays_gone<T: SliceInternable>()
     ensures interned { let eq = sliced_eq T.Header.eq T.SliceType.eq in
         (s : State (Sliced T.Header T.SliceType)) (v : Sliced T.Header T.SliceType) (b : ℕ) →
         IsGone s b → IsGone (interned eq s v).state b }
@@ -120,8 +140,31 @@ pub fn a_slices_birth_is_given_once<T: SliceInternable>()
         IsGone s b → IsGone (kept s marked) b }
 {}
 
-/// Interning a slice that is stored changes nothing, and nothing can refuse it.
+/// The birth of a new slice is given once: it is the next one, which no change of a storage lowers,
+/// and which is past it then.
+pub fn a_slices_birth_is_given_once<T: SliceInternable>()
+    ensures fresh { let eq = sliced_eq T.Header.eq T.SliceType.eq in
+        (s : State (Sliced T.Header T.SliceType)) (v : Sliced T.Header T.SliceType) →
+        birth_of eq s v ≡ None → (interned eq s v).birth ≡ s.next }
+    ensures given { let eq = sliced_eq T.Header.eq T.SliceType.eq in
+        (s : State (Sliced T.Header T.SliceType)) (v : Sliced T.Header T.SliceType) →
+        birth_of eq s v ≡ None → (interned eq s v).state.next ≡ s.next + 1 }
+    ensures stored { let eq = sliced_eq T.Header.eq T.SliceType.eq in
+        (s : State (Sliced T.Header T.SliceType)) (v : Sliced T.Header T.SliceType) (b : ℕ) →
+        birth_of eq s v ≡ Some b → (interned eq s v).state.next ≡ s.next }
+    ensures counted_up { (s : State (Sliced T.Header T.SliceType)) (c : ℕ) →
+        (counted_up s c).next ≡ s.next }
+    ensures counted_down { (s : State (Sliced T.Header T.SliceType)) (c : ℕ) →
+        (counted_down s c).next ≡ s.next }
+    ensures swept { (s : State (Sliced T.Header T.SliceType)) (marked : ℕ → Bool) →
+        (kept s marked).next ≡ s.next }
+{}
+
+/// Interning a slice that is stored changes nothing, wants no memory, and nothing can refuse it.
 pub fn a_stored_slice_is_found<T: SliceInternable>()
+    ensures memory { let eq = sliced_eq T.Header.eq T.SliceType.eq in
+        (s : State (Sliced T.Header T.SliceType)) (v : Sliced T.Header T.SliceType) (b : ℕ) →
+        birth_of eq s v ≡ Some b → is_new eq s v ≡ false }
     ensures unchanged { let eq = sliced_eq T.Header.eq T.SliceType.eq in
         (s : State (Sliced T.Header T.SliceType)) (v : Sliced T.Header T.SliceType) (b : ℕ) →
         birth_of eq s v ≡ Some b → interned eq s v ≡ record { birth = b; state = s } }
@@ -179,10 +222,16 @@ pub fn a_symbol_reads_its_text()
         text_of i.table i.symbol ≡ Some t }
 {}
 
-/// A preset's text gives the preset, in every table, and leaves the table as it is.
-pub fn presets_are_in_no_table()
+/// A preset's text gives the preset, with every table, and leaves the table as it is.
+pub fn a_presets_text_gives_the_preset()
     ensures { (s : State (List ℕ)) (p : ℕ) (t : List ℕ) → preset_text p ≡ Some t →
         symbol_in s t ≡ record { symbol = preset p; table = s } }
+{}
+
+/// No table has a preset's text: none of its entries reads one.
+pub fn presets_are_in_no_table()
+    ensures { (s : State (List ℕ)) → IsTable s → (p : ℕ) (t : List ℕ) →
+        preset_text p ≡ Some t → birth_of bytes_eq s t ≡ None }
 {}
 
 /// The symbol of a number's digits writes that number.
@@ -202,9 +251,28 @@ pub fn a_gone_text_stays_gone()
         IsGone s b → IsGone (at_entry (released false) s a) b }
 {}
 
-/// Interning a text that is stored gives a symbol of its entry and counts it once more. Its count
-/// alone can refuse it.
+/// The birth of a new text is given once: it is the next one, which no change of a table lowers, and
+/// which is past it then.
+pub fn a_texts_birth_is_given_once()
+    ensures fresh { (s : State (List ℕ)) (t : List ℕ) →
+        place_of t ≡ None → birth_of bytes_eq s t ≡ None →
+        (symbol_in s t).symbol ≡ entry (name_in s s.next) }
+    ensures given { (s : State (List ℕ)) (t : List ℕ) →
+        place_of t ≡ None → birth_of bytes_eq s t ≡ None →
+        (symbol_in s t).table.next ≡ s.next + 1 }
+    ensures stored { (s : State (List ℕ)) (t : List ℕ) (b : ℕ) →
+        birth_of bytes_eq s t ≡ Some b → (symbol_in s t).table.next ≡ s.next }
+    ensures cloned { (s : State (List ℕ)) (a : Named) →
+        (at_entry counted_up s a).next ≡ s.next }
+    ensures released { (s : State (List ℕ)) (a : Named) →
+        (at_entry (released false) s a).next ≡ s.next }
+{}
+
+/// Interning a text that is stored gives a symbol of its entry, counts it once more, and wants no
+/// memory. Its count alone can refuse it.
 pub fn a_stored_text_is_found()
+    ensures memory { (s : State (List ℕ)) (t : List ℕ) (b : ℕ) →
+        birth_of bytes_eq s t ≡ Some b → is_new_text s t ≡ false }
     ensures counted_up { (s : State (List ℕ)) (t : List ℕ) (b : ℕ) →
         place_of t ≡ None → birth_of bytes_eq s t ≡ Some b →
         symbol_in s t ≡ record { symbol = entry (name_in s b); table = counted_up s b } }
@@ -223,9 +291,14 @@ pub fn a_cut_family_is_cut_no_more<F: Family>()
     ensures { (f : F) (set : Name → Bool) → F.kept (F.kept f set) set ≡ F.kept f set }
 {}
 
-/// A second collection from the same roots, with no call between, removes nothing.
+/// A second collection from the same roots, with no call between, removes nothing, and says so.
 pub fn a_second_collection_removes_nothing<F: Family>()
-    ensures { (f : F) (listed names again : List Name) → let all = F.entries f in
+    ensures told { (f : F) (listed names again : List Name) (told : Told) →
+        let all = F.entries f in
+        IsReachedSet (starts_with listed all) all names →
+        let left = F.entries (F.kept f (has names)) in
+        IsCollection (starts_with listed left) left again told → told.removed ≡ 0 }
+    ensures left { (f : F) (listed names again : List Name) → let all = F.entries f in
         IsReachedSet (starts_with listed all) all names →
         let left = F.kept f (has names) in
         IsReachedSet (starts_with listed (F.entries left)) (F.entries left) again →
@@ -239,6 +312,28 @@ pub fn a_closed_family_stays_closed<F: Family>()
         IsClosed all → IsClosed (F.entries (F.kept f (has names))) }
 {}
 
+/// A collection leaves the entry of each name that paths reach as it was, and no other.
+pub fn a_collection_leaves_what_it_keeps<F: Family>()
+    ensures { (f : F) (listed names : List Name) → let all = F.entries f in
+        IsReachedSet (starts_with listed all) all names → (n : Name) →
+        entry_of (F.entries (F.kept f (has names))) n
+        ≡ (if has names n then entry_of all n else None) }
+{}
+
+/// What a collection answers and leaves depends on the family and the roots alone: two answers to
+/// collections of one family from the same roots are equal, and so is what they leave.
+pub fn a_collection_depends_on_the_family_and_the_roots_alone<F: Family>()
+    ensures told { (f : F) (listed names others : List Name) (told again : Told) →
+        let all = F.entries f in
+        IsCollection (starts_with listed all) all names told →
+        IsCollection (starts_with listed all) all others again → told ≡ again }
+    ensures left { (f : F) (listed names others : List Name) (told again : Told) →
+        let all = F.entries f in
+        IsCollection (starts_with listed all) all names told →
+        IsCollection (starts_with listed all) all others again →
+        F.kept f (has names) ≡ F.kept f (has others) }
+{}
+
 /// What is reached depends on the family and the roots alone.
 pub fn what_is_reached_is_one_set()
     ensures { (begins : Name → Bool) (family : List Entry) (names others : List Name) →
@@ -246,9 +341,9 @@ pub fn what_is_reached_is_one_set()
         has names ≡ has others }
 {}
 
-/// What a collection leaves of a storage: the reads and counts of the names that it keeps, and
-/// nothing of the others. Its number, limits and next birth stay.
-pub fn a_collection_leaves_what_it_keeps<T>()
+/// A storage that is cut to a set of names has their reads and counts, and nothing of the others.
+/// Its number, limits and next birth stay.
+pub fn a_cut_storage_reads_what_the_set_has<T>()
     ensures reads { (s : State T) (set : Name → Bool) (n : Name) →
         reads (kept_named s set) n ≡ (if set n then reads s n else None) }
     ensures counts { (s : State T) (set : Name → Bool) (n : Name) →

@@ -90,6 +90,7 @@ fn a_map_by_owned_handles(rt: HostRuntime) {
 fn laws_are_callable() {
     laws::names_tell_slices::<Numbers>();
     laws::a_slice_that_is_interned_is_read::<Numbers>();
+    laws::a_gone_slice_stays_gone::<Numbers>();
     laws::a_slices_birth_is_given_once::<Numbers>();
     laws::a_stored_slice_is_found::<Numbers>();
     laws::owned_slices_are_names::<Numbers>();

@@ -1,8 +1,12 @@
-//! Handles of another storage.
+//! Handles of another storage, and of slices that are gone.
 use crate::steps::{
-    has_count, has_len, intern_new, not_owned, own, reads, refused_in_each_way, release,
+    Numbered, decrement, has_count, has_len, intern_new, not_decremented, not_owned, own, reads,
+    refused_in_each_way, release,
 };
-use ra_ap_intern::{InternSliceStorage, Limits, Refusal};
+use intern_fixtures::told;
+use ra_ap_intern::{GarbageCollector, InternSliceStorage, Limits, Refusal};
+use std::alloc::Global;
+use std::process::Abort;
 
 #[test]
 fn a_handle_of_another_storage_is_refused(rt: HostRuntime) {
@@ -44,6 +48,44 @@ fn foreign_comes_before_full(rt: HostRuntime) {
     not_owned(&rt, &mut full, y, Refusal::CountFull);
     let _ = refused_in_each_way(&rt, &mut full, owned, Refusal::Foreign);
     has_count(&rt, &full, y, 1);
+}
+
+#[test]
+fn foreign_comes_before_zero(rt: HostRuntime) {
+    let alloc = rt.alloc();
+    let mut first = InternSliceStorage::new(alloc, 1);
+    let mut second = InternSliceStorage::new(alloc, 2);
+    let x = intern_new(&rt, alloc, &mut first, ("x", &[1]), 0);
+    let y = intern_new(&rt, alloc, &mut second, ("y", &[1]), 0);
+    let owned = own(&rt, &mut first, x, 1);
+    not_decremented(&rt, &mut second, y, Refusal::CountZero);
+    let _ = refused_in_each_way(&rt, &mut second, owned, Refusal::Foreign);
+    has_count(&rt, &second, y, 0);
+}
+
+#[test]
+fn a_slice_that_was_collected_is_gone(rt: HostRuntime) {
+    let alloc = rt.alloc();
+    let mut storage = InternSliceStorage::new(alloc, 1);
+    let mut other = InternSliceStorage::new(alloc, 2);
+    let x = intern_new(&rt, alloc, &mut storage, ("x", &[1]), 0);
+    let owned = own(&rt, &mut storage, x, 1);
+    decrement(&rt, &mut storage, x, 0);
+    collect_the_only_one(&rt, alloc, &mut storage);
+    let owned = refused_in_each_way(&rt, &mut storage, owned, Refusal::Gone);
+
+    // What is collected in another storage doesn't make it foreign any less.
+    let _ = intern_new(&rt, alloc, &mut other, ("y", &[1]), 0);
+    collect_the_only_one(&rt, alloc, &mut other);
+    let _ = refused_in_each_way(&rt, &mut other, owned, Refusal::Foreign);
+}
+
+/// Collects a storage of one slice that nothing counts: no entry is left.
+fn collect_the_only_one(rt: &impl Abort, alloc: Global, storage: &mut Numbered) {
+    assert!(rt; GarbageCollector::distinct(storage));
+    let answer = GarbageCollector::new(alloc).collect(storage);
+    assert_eq!(rt; told(answer), Some((0, 0, 1)));
+    has_len(rt, storage, 0);
 }
 
 #[test]

@@ -1,10 +1,10 @@
 //! The kinds of slices that the tests intern.
-ghost use Rattle.std.specs.Prelude.{true};
+ghost use Rattle.std.specs.Prelude.{true, []};
 
 use intern_fixtures::{Unhashed, Word};
-use ra_ap_intern::SliceInternable;
+use ra_ap_intern::{GarbageCollector, GcInternedSliceVisit, SliceInternable};
 
-/// Numbers behind a word.
+/// Numbers behind a word. They declare nothing.
 pub struct Numbers;
 
 impl SliceInternable for Numbers {
@@ -15,6 +15,16 @@ impl SliceInternable for Numbers {
     const USE_GC: bool = true;
 
     ghost USE_GC = { true };
+}
+
+impl GcInternedSliceVisit for Numbers {
+    ghost header_children = { λ _. [] };
+
+    ghost slice_children = { λ _. [] };
+
+    fn visit_header(_header: &Word, _gc: &mut GarbageCollector) {}
+
+    fn visit_slice(_slice: &[u64], _gc: &mut GarbageCollector) {}
 }
 
 /// Items of no size behind a word.

@@ -24,6 +24,16 @@ pub fn word_of(rt: &impl Abort, alloc: Global, text: &str) -> Word {
     make_word(alloc, text).expect(rt, "memory")
 }
 
+/// The call was refused for this reason.
+fn is_refused<A: Drop>(rt: &impl Abort, answer: Result<A, Refusal>, reason: Refusal) {
+    is_reason(rt, refusal(answer).expect(rt, "refused"), reason);
+}
+
+/// This is the reason of a refusal.
+fn is_reason(rt: &impl Abort, why: Refusal, reason: Refusal) {
+    assert_eq!(rt; why, reason);
+}
+
 /// Interns items behind a header, which get this birth. It gives the header that comes back, if one
 /// does.
 pub fn intern<K: SliceInternable>(
@@ -84,7 +94,7 @@ pub fn intern_in_vain(
     let header = word_of(rt, alloc, text);
     let answer = InternedSlice::from_header_and_slice(storage, header, items);
     let Refused { why, back } = answer.err().expect(rt, "refused");
-    assert_eq!(rt; why, Refusal::NumbersUsedUp);
+    is_reason(rt, why, Refusal::NumbersUsedUp);
     assert_eq!(rt; back.text(), text);
     has_len(rt, storage, len);
 }
@@ -188,7 +198,7 @@ pub fn not_owned(
     slice: InternedSliceRef<Numbers>,
     reason: Refusal,
 ) {
-    assert_eq!(rt; refusal(slice.to_owned(storage)), Some(reason));
+    is_refused(rt, slice.to_owned(storage), reason);
 }
 
 /// Is refused a second handle for this reason.
@@ -198,7 +208,7 @@ pub fn not_cloned(
     owned: &InternedSlice<Numbers>,
     reason: Refusal,
 ) {
-    assert_eq!(rt; refusal(owned.clone(storage)), Some(reason));
+    is_refused(rt, owned.clone(storage), reason);
 }
 
 /// Is refused to give a handle up for this reason: the handle comes back.
@@ -210,7 +220,7 @@ pub fn not_released(
 ) -> InternedSlice<Numbers> {
     let slice = owned.as_ref();
     let Refused { why, back } = owned.release(storage).err().expect(rt, "refused");
-    assert_eq!(rt; why, reason);
+    is_reason(rt, why, reason);
     assert!(rt; back.as_ref() == slice);
     back
 }
@@ -222,7 +232,7 @@ pub fn not_decremented(
     slice: InternedSliceRef<Numbers>,
     reason: Refusal,
 ) {
-    assert_eq!(rt; slice.decrement_refcount(storage), Err(reason));
+    is_refused(rt, slice.decrement_refcount(storage), reason);
 }
 
 /// Each call that takes a handle refuses this one, and a reference to its entry, for the same

@@ -62,7 +62,9 @@ fn laws_are_callable() {
     laws::symbols_are_what_they_name();
     laws::symbol_references_are_what_they_name();
     laws::a_symbol_reads_its_text();
+    laws::a_presets_text_gives_the_preset();
     laws::presets_are_in_no_table();
+    laws::a_texts_birth_is_given_once();
     laws::integers_are_read_back();
     laws::a_gone_text_stays_gone();
     laws::a_stored_text_is_found();

@@ -42,15 +42,21 @@ fn entries(rt: HostRuntime) {
 
 /// Among the entries is one of this symbol, with this text.
 fn gives(rt: &impl Abort, table: &SymbolTable, symbol: &Symbol, text: &str) {
+    let wanted = symbol.as_ref();
     let mut found = false;
     for (reference, kept) in table.iter() {
-        if reference == symbol.as_ref() {
-            assert!(rt; !found);
-            assert_eq!(rt; kept, text);
+        if reference == wanted {
+            is_first(rt, found, kept, text);
             found = true;
         }
     }
     assert!(rt; found);
+}
+
+/// No other entry was found before this one, which keeps this text.
+fn is_first(rt: &impl Abort, found: bool, kept: &str, text: &str) {
+    assert!(rt; !found);
+    assert_eq!(rt; kept, text);
 }
 
 #[test]

@@ -1,7 +1,8 @@
 //! Symbols of another table, and the order of refusals.
 use crate::steps::{
     clone, free, generated, integer, intern_new, is_stored, keeps, no_generated, no_integer,
-    not_cloned, not_decreased, not_interned, not_released, reads_nothing, release, writes,
+    not_cloned, not_decreased, not_interned, not_owned, not_released, reads_nothing, release,
+    writes,
 };
 use ra_ap_intern::{Limits, Refusal, Symbol, SymbolTable};
 use std::process::Abort;
@@ -42,6 +43,7 @@ fn foreign_comes_before_full(rt: HostRuntime) {
     let s = intern_new(&rt, &mut first, "x", 1);
     let x = intern_new(&rt, &mut full, "x", 1);
     not_cloned(&rt, &mut full, &x, Refusal::CountFull);
+    not_owned(&rt, &mut full, x.as_ref(), Refusal::CountFull);
     let _ = refused_in_each_way(&rt, &mut full, s, Refusal::Foreign);
     is_stored(&rt, &full, &x, "x", 1);
 }
@@ -97,6 +99,7 @@ fn refused_in_each_way(
     let len = table.len();
     reads_nothing(rt, table, &symbol);
     not_cloned(rt, table, &symbol, reason);
+    not_owned(rt, table, symbol.as_ref(), reason);
     not_decreased(rt, table, &mut symbol, reason);
     let back = not_released(rt, table, symbol, reason);
     keeps(rt, table, len);

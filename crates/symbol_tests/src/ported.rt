@@ -6,7 +6,8 @@ use std::process::Abort;
 
 #[test]
 fn smoke_test(rt: HostRuntime) {
-    let mut table = SymbolTable::new(rt.alloc(), 1);
+    let alloc = rt.alloc();
+    let mut table = SymbolTable::new(alloc, 1);
     let _ = intern_preset(&rt, &mut table, "isize", 0);
     let hello = intern_new(&rt, &mut table, "hello", 1);
     let world = intern_new(&rt, &mut table, "world", 2);
@@ -14,10 +15,10 @@ fn smoke_test(rt: HostRuntime) {
     let bang = intern_new(&rt, &mut table, "!", 3);
     two_marks_come_and_go(&rt, &mut table);
 
-    let third_world = clone(&rt, &mut table, &world, Some(3));
-    three_words_are_printed(&rt, rt.alloc(), &mut table, [&hello, &world, &bang]);
-    release(&rt, &mut table, second_world, 3);
+    let third_world = a_preset_comes_and_goes(&rt, alloc, &mut table, [&hello, &world, &bang]);
+    two_words_are_printed(&rt, alloc, &table, [&hello, &world, &bang]);
     release(&rt, &mut table, third_world, 3);
+    release(&rt, &mut table, second_world, 3);
     release(&rt, &mut table, hello, 2);
     release(&rt, &mut table, world, 1);
     release(&rt, &mut table, bang, 0);
@@ -31,27 +32,50 @@ fn two_marks_come_and_go(rt: &impl Abort, table: &mut SymbolTable) {
     release(rt, table, question, 3);
 }
 
-fn three_words_are_printed(
+/// Interns a preset, makes a third symbol of "world", prints a line, and releases the preset.
+fn a_preset_comes_and_goes(
     rt: &impl Abort,
     alloc: Global,
     table: &mut SymbolTable,
-    [hello, world, bang]: [&Symbol; 3],
-) {
-    let preset = intern_preset(rt, table, "default", 3);
-    let line = printed(rt, alloc, table, [hello, &preset, world, bang]);
-    assert_eq!(rt; line.as_str(), "hello default world!");
-    release(rt, table, preset, 3);
+    words: [&Symbol; 3],
+) -> Symbol {
+    let default = intern_preset(rt, table, "default", 3);
+    let third_world = clone(rt, table, words[1], Some(3));
+    keeps(rt, table, 3);
+    three_words_are_printed(rt, alloc, table, &default, words);
+    release(rt, table, default, 3);
+    third_world
 }
 
-fn printed(
+fn three_words_are_printed(
     rt: &impl Abort,
     alloc: Global,
     table: &SymbolTable,
-    [hello, default, world, bang]: [&Symbol; 4],
-) -> String {
-    let hello = hello.as_str(table).expect(rt, "hello is stored");
-    let default = default.as_str(table).expect(rt, "default is a preset");
-    let world = world.as_str(table).expect(rt, "world is stored");
-    let bang = bang.as_str(table).expect(rt, "! is stored");
-    format!(in alloc; "{hello} {default} {world}{bang}").expect(rt, "memory")
+    default: &Symbol,
+    [hello, world, bang]: [&Symbol; 3],
+) {
+    let default = text(rt, table, default);
+    let hello = text(rt, table, hello);
+    let world = text(rt, table, world);
+    let bang = text(rt, table, bang);
+    let line = format!(in alloc; "{hello} {default} {world}{bang}").expect(rt, "memory");
+    assert_eq!(rt; line.as_str(), "hello default world!");
+}
+
+fn two_words_are_printed(
+    rt: &impl Abort,
+    alloc: Global,
+    table: &SymbolTable,
+    [hello, world, bang]: [&Symbol; 3],
+) {
+    let hello = text(rt, table, hello);
+    let world = text(rt, table, world);
+    let bang = text(rt, table, bang);
+    let line = format!(in alloc; "{hello} {world}{bang}").expect(rt, "memory");
+    assert_eq!(rt; line.as_str(), "hello world!");
+}
+
+/// The symbol's text.
+fn text<'a>(rt: &impl Abort, table: &'a SymbolTable, symbol: &Symbol) -> &'a str {
+    symbol.as_str(table).expect(rt, "the symbol has a text")
 }

@@ -3,12 +3,22 @@
 //! A step that gets another answer ends the test.
 use intern_fixtures::{allowed, refusal};
 use ra_ap_intern::sym::{Integer, RaGeneratedName};
-use ra_ap_intern::{Refusal, Refused, Symbol, SymbolTable};
+use ra_ap_intern::{Refusal, Refused, Symbol, SymbolRef, SymbolTable};
 use std::process::Abort;
 
 /// The table keeps this many texts.
 pub fn keeps(rt: &impl Abort, table: &SymbolTable, len: usize) {
     assert_eq!(rt; table.len(), len);
+}
+
+/// The call was refused for this reason.
+fn is_refused<A: Drop>(rt: &impl Abort, answer: Result<A, Refusal>, reason: Refusal) {
+    is_reason(rt, refusal(answer).expect(rt, "refused"), reason);
+}
+
+/// This is the reason of a refusal.
+fn is_reason(rt: &impl Abort, why: Refusal, reason: Refusal) {
+    assert_eq!(rt; why, reason);
 }
 
 /// The symbol reads this text, of which the table has this count.
@@ -41,7 +51,7 @@ pub fn reads_nothing(rt: &impl Abort, table: &SymbolTable, symbol: &Symbol) {
 /// The symbol's text writes this number, or none.
 pub fn writes(rt: &impl Abort, table: &SymbolTable, symbol: &Symbol, number: Option<usize>) {
     let text = symbol.as_str(table);
-    assert_eq!(rt; Integer::as_uint(symbol, table), number, "{text:?}");
+    assert!(rt; Integer::as_uint(symbol, table) == number, "{text:?}");
 }
 
 /// Interns a text.
@@ -83,7 +93,7 @@ pub fn gives(rt: &impl Abort, table: &mut SymbolTable, text: &str, preset: &Symb
 
 /// Is refused the symbol of a text for this reason.
 pub fn not_interned(rt: &impl Abort, table: &mut SymbolTable, text: &str, reason: Refusal) {
-    assert_eq!(rt; refusal(Symbol::intern(table, text)), Some(reason));
+    is_refused(rt, Symbol::intern(table, text), reason);
 }
 
 /// The symbol of a number, whose text writes the number.
@@ -95,7 +105,7 @@ pub fn integer(rt: &impl Abort, table: &mut SymbolTable, n: usize) -> Symbol {
 
 /// Is refused the symbol of a number for this reason.
 pub fn no_integer(rt: &impl Abort, table: &mut SymbolTable, n: usize, reason: Refusal) {
-    assert_eq!(rt; refusal(Integer::get(table, n)), Some(reason));
+    is_refused(rt, Integer::get(table, n), reason);
 }
 
 /// The symbol of a number's generated name, whose text writes no number.
@@ -107,7 +117,7 @@ pub fn generated(rt: &impl Abort, table: &mut SymbolTable, n: usize) -> Symbol {
 
 /// Is refused the symbol of a generated name for this reason.
 pub fn no_generated(rt: &impl Abort, table: &mut SymbolTable, n: usize, reason: Refusal) {
-    assert_eq!(rt; refusal(RaGeneratedName::get(table, n)), Some(reason));
+    is_refused(rt, RaGeneratedName::get(table, n), reason);
 }
 
 /// Makes a second symbol, after which the text has this count.
@@ -125,7 +135,12 @@ pub fn clone(
 
 /// Is refused a second symbol for this reason.
 pub fn not_cloned(rt: &impl Abort, table: &mut SymbolTable, symbol: &Symbol, reason: Refusal) {
-    assert_eq!(rt; refusal(symbol.clone(table)), Some(reason));
+    is_refused(rt, symbol.clone(table), reason);
+}
+
+/// Is refused a symbol of a reference for this reason.
+pub fn not_owned(rt: &impl Abort, table: &mut SymbolTable, symbol: SymbolRef, reason: Refusal) {
+    is_refused(rt, symbol.to_owned(table), reason);
 }
 
 /// Releases a symbol, after which the table keeps this many texts.
@@ -134,17 +149,19 @@ pub fn release(rt: &impl Abort, table: &mut SymbolTable, symbol: Symbol, len: us
     keeps(rt, table, len);
 }
 
-/// Is refused the release of a symbol for this reason. It gets the symbol back.
+/// Is refused the release of a symbol for this reason. The same symbol comes back.
 pub fn not_released(
     rt: &impl Abort,
     table: &mut SymbolTable,
     symbol: Symbol,
     reason: Refusal,
 ) -> Symbol {
+    let reference = symbol.as_ref();
     let Refused { why, back } = symbol
         .release(table)
         .expect_err(rt, "the release is refused");
-    assert_eq!(rt; why, reason);
+    is_reason(rt, why, reason);
+    assert!(rt; back.as_ref() == reference);
     back
 }
 
@@ -168,5 +185,5 @@ pub fn not_decreased(
     symbol: &mut Symbol,
     reason: Refusal,
 ) {
-    assert_eq!(rt; symbol.decrease_refcount(table), Err(reason));
+    is_refused(rt, symbol.decrease_refcount(table), reason);
 }

@@ -13,6 +13,10 @@ mod refused;
 #[cfg(test)]
 mod scene;
 #[cfg(test)]
+mod sides;
+#[cfg(test)]
+mod texts;
+#[cfg(test)]
 mod trees;
 #[cfg(test)]
 mod walks;

@@ -71,7 +71,7 @@ impl Scene {
         let expected = head(rt, &mut self.table, text);
         let answer = self.store.term(given, args).err();
         let refused = answer.expect(rt, "the term is refused");
-        assert_eq!(rt; refused.why, why);
+        assert!(rt; refused.why == why);
         assert!(rt; refused.back == expected);
         assert_eq!(rt; self.store.len(), before);
     }
@@ -82,12 +82,23 @@ impl Scene {
         self.store.get(&head, args)
     }
 
+    /// Nothing is stored with this head over these arguments.
+    pub fn has_none(&mut self, rt: &impl Abort, text: &str, args: &[TermRef]) {
+        assert!(rt; self.get(rt, text, args).is_none());
+    }
+
+    /// The term has so many owners.
+    pub fn has_count(&self, rt: &impl Abort, term: TermRef, count: u64) {
+        let found = self.store.count(term).expect(rt, "a count");
+        assert_eq!(rt; found, count);
+    }
+
     /// The term reads this head and these arguments.
     pub fn reads(&mut self, rt: &impl Abort, term: TermRef, text: &str, args: &[TermRef]) {
         let head = head(rt, &mut self.table, text);
         assert!(rt; self.store.contains(term));
-        assert!(rt; self.store.head(term) == Some(&head));
-        assert!(rt; self.store.args(term) == Some(args));
+        assert!(rt; *self.store.head(term).expect(rt, "a head") == head);
+        assert!(rt; self.store.args(term).expect(rt, "arguments") == args);
     }
 
     /// The term reads nothing.
@@ -95,7 +106,7 @@ impl Scene {
         assert!(rt; !self.store.contains(term));
         assert!(rt; self.store.head(term).is_none());
         assert!(rt; self.store.args(term).is_none());
-        assert_eq!(rt; self.store.count(term), None);
+        assert!(rt; self.store.count(term).is_none());
     }
 
     pub fn keep(&mut self, rt: &impl Abort, term: TermRef) -> Term {
@@ -113,13 +124,13 @@ impl Scene {
     pub fn keeps_its_owner(&mut self, rt: &impl Abort, term: Term, why: Refusal) -> Term {
         let reference = term.as_ref();
         let refused = term.release(&mut self.store).err().expect(rt, "refused");
-        assert_eq!(rt; refused.why, why);
+        assert!(rt; refused.why == why);
         assert!(rt; refused.back.as_ref() == reference);
         refused.back
     }
 
     pub fn collects(&mut self, rt: &impl Abort, answer: (usize, u64, usize)) {
-        told(rt, self.store.collect(), answer);
+        told(rt, collected(&mut self.store), answer);
     }
 
     pub fn collects_keeping(
@@ -132,14 +143,14 @@ impl Scene {
     }
 }
 
+fn collected(store: &mut TermStore) -> Result<Collected, AllocError> {
+    store.collect()
+}
+
 /// The visits, the mark calls and the removed terms are these.
-fn told(
-    rt: &impl Abort,
-    collected: Result<Collected, AllocError>,
-    (visits, mark_calls, removed): (usize, u64, usize),
-) {
+fn told(rt: &impl Abort, collected: Result<Collected, AllocError>, expected: (usize, u64, usize)) {
     let did = collected.expect(rt, "the store is collected");
-    assert_eq!(rt; did.visits, visits);
-    assert_eq!(rt; did.mark_calls, mark_calls);
-    assert_eq!(rt; did.removed, removed);
+    assert_eq!(rt; did.visits, expected.0);
+    assert_eq!(rt; did.mark_calls, expected.1);
+    assert_eq!(rt; did.removed, expected.2);
 }

@@ -86,7 +86,14 @@ fn a_long_path_is_walked(rt: HostRuntime) {
 
 /// Each term comes after its arguments: here each has at most one, right before it.
 fn is_in_order(rt: &impl Abort, store: &TermStore, walk: &[TermRef]) {
-    for (term, next) in walk.iter().zip(walk.iter().skip(1)) {
-        assert!(rt; store.args(*next) == Some(&[*term][..]));
+    for place in 1..walk.len() {
+        is_over(rt, store, walk[place], walk[place - 1]);
     }
+}
+
+/// The term has this argument alone.
+fn is_over(rt: &impl Abort, store: &TermStore, term: TermRef, argument: TermRef) {
+    let args = store.args(term).expect(rt, "a term");
+    assert_eq!(rt; args.len(), 1);
+    assert!(rt; args.contains(&argument));
 }

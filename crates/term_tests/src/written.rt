@@ -7,7 +7,7 @@ use std::process::Abort;
 /// The term is written so, with at most so many terms.
 fn writes(rt: &impl Abort, scene: &Scene, term: TermRef, most: usize, text: &str) {
     let written = scene.store.written(term, &scene.table, most);
-    assert_eq!(rt; written.expect(rt, "memory").as_str(), text);
+    assert!(rt; written.expect(rt, "memory").as_str() == text);
 }
 
 /// Makes `f(x, g(y))`.

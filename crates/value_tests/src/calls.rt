@@ -1,10 +1,9 @@
 //! Each public call, where it succeeds.
-use crate::kinds::Term;
 use crate::steps::{
     count_down, has_count, has_len, has_name, is_empty, own, release, stored, take_over,
 };
-use crate::{terms, words};
-use intern_fixtures::{Word, a_map_tells_apart, a_set_tells_apart};
+use crate::{strings, words};
+use intern_fixtures::{GcString, Word, a_map_tells_apart, a_set_tells_apart};
 use ra_ap_intern::{InternStorage, Interned, Limits, Refusal, laws};
 use std::alloc::Global;
 use std::process::Abort;
@@ -24,7 +23,7 @@ fn limited_storages(rt: HostRuntime) {
     let alloc = rt.alloc();
     let mut limited = InternStorage::with_limits(alloc, 8, Limits { top: 1, numbers: 1 });
     is_empty(&rt, &limited, 8);
-    let y = terms::intern_new(&rt, alloc, &mut limited, "y", 0);
+    let y = strings::intern_new(&rt, alloc, &mut limited, "y", 0);
     has_len(&rt, &limited, 1);
     has_count(&rt, &limited, y, 0);
 }
@@ -49,12 +48,12 @@ fn owned_handles(rt: HostRuntime) {
 fn references(rt: HostRuntime) {
     let alloc = rt.alloc();
     let mut storage = InternStorage::new(alloc, 1);
-    let _ = terms::intern_new(&rt, alloc, &mut storage, "x", 0);
-    let y = terms::intern_new(&rt, alloc, &mut storage, "y", 1);
+    let _ = strings::intern_new(&rt, alloc, &mut storage, "x", 0);
+    let y = strings::intern_new(&rt, alloc, &mut storage, "y", 1);
     let copy = y;
     assert!(rt; copy == y);
     has_name(&rt, y, (1, 1));
-    assert_eq!(rt; y.get(&storage).map(Term::text), Some("y"));
+    assert_eq!(rt; y.get(&storage).map(GcString::text), Some("y"));
     assert!(rt; stored(&rt, &storage, 1) == y);
     let owned = own(&rt, &mut storage, y, 1);
     drop(owned);
@@ -117,6 +116,7 @@ fn is_printed(rt: &impl Abort, alloc: Global, why: Refusal, text: &str) {
 #[test]
 fn laws_are_callable() {
     laws::names_tell_values::<Word>();
+    laws::what_is_gone_stays_gone::<Word>();
     laws::a_birth_is_given_once::<Word>();
     laws::a_sweep_leaves_what_is_marked::<Word>();
     laws::what_is_interned_is_read::<Word>();

@@ -1,7 +1,10 @@
 //! Storages in collected mode.
 use crate::kinds::Node;
-use crate::steps::{has_count, has_len, intern_new_gc, not_found, not_owned, own, push, release};
-use crate::terms::{Terms, intern_again, intern_new, not_counted, not_interned};
+use crate::steps::{
+    count_down, has_count, has_len, intern_new_gc, not_counted_down, not_found, not_lowered,
+    not_raised, not_taken_over, own, push, refused_in_each_way, release,
+};
+use crate::strings::{Strings, collect_the_only_one, intern_again, intern_new, not_interned};
 use ra_ap_intern::{InternStorage, InternedRef, Limits, Refusal};
 use std::alloc::Global;
 use std::process::Abort;
@@ -17,7 +20,8 @@ fn an_entry_stays_when_nothing_counts_it(rt: HostRuntime) {
 
     let again = intern_again(&rt, alloc, &mut storage, "a", 0);
     assert!(rt; again == a);
-    not_counted(&rt, &mut storage, a);
+    not_counted_down(&rt, &mut storage, a, Refusal::CountZero);
+    not_taken_over(&rt, &storage, 0, Refusal::CountZero);
 }
 
 #[test]
@@ -26,8 +30,7 @@ fn a_stored_value_is_found_at_every_limit(rt: HostRuntime) {
     let mut storage = InternStorage::with_limits(alloc, 1, Limits { top: 1, numbers: 1 });
     let a = intern_new(&rt, alloc, &mut storage, "a", 0);
     let owned = own(&rt, &mut storage, a, 1);
-    assert!(rt; owned.as_ref() == a);
-    not_owned(&rt, &mut storage, a, Refusal::CountFull);
+    not_raised(&rt, &mut storage, &owned, 1);
     let again = intern_again(&rt, alloc, &mut storage, "a", 0);
     assert!(rt; again == a);
     not_interned(&rt, alloc, &mut storage, "b");
@@ -37,10 +40,33 @@ fn a_stored_value_is_found_at_every_limit(rt: HostRuntime) {
 #[test]
 fn a_storage_of_no_births_takes_nothing(rt: HostRuntime) {
     let alloc = rt.alloc();
-    let mut storage: Terms = InternStorage::with_limits(alloc, 1, Limits { top: 1, numbers: 0 });
+    let mut storage: Strings = InternStorage::with_limits(alloc, 1, Limits { top: 1, numbers: 0 });
     not_interned(&rt, alloc, &mut storage, "a");
     not_interned(&rt, alloc, &mut storage, "");
     has_len(&rt, &storage, 0);
+    not_found(&rt, &storage, 0);
+}
+
+#[test]
+fn a_count_of_zero_is_not_lowered(rt: HostRuntime) {
+    let alloc = rt.alloc();
+    let mut storage = InternStorage::new(alloc, 1);
+    let a = intern_new(&rt, alloc, &mut storage, "a", 0);
+    let owned = own(&rt, &mut storage, a, 1);
+    count_down(&rt, &mut storage, a, 0);
+    let _ = not_lowered(&rt, &mut storage, owned);
+    has_len(&rt, &storage, 1);
+}
+
+#[test]
+fn a_handle_of_a_value_that_was_collected_is_refused(rt: HostRuntime) {
+    let alloc = rt.alloc();
+    let mut storage = InternStorage::new(alloc, 1);
+    let a = intern_new(&rt, alloc, &mut storage, "a", 0);
+    let owned = own(&rt, &mut storage, a, 1);
+    count_down(&rt, &mut storage, a, 0);
+    collect_the_only_one(&rt, alloc, &mut storage);
+    let _ = refused_in_each_way(&rt, &mut storage, owned, Refusal::Gone);
     not_found(&rt, &storage, 0);
 }
 

@@ -1,11 +1,9 @@
 //! Storages in counted mode.
 use crate::steps::{
-    count_down, has_len, has_name, not_counted_down, not_found, not_owned, not_released,
-    not_taken_over, reads_nothing, stored, take_over,
+    count_down, has_len, has_name, not_found, not_lowered, not_owned, not_raised, not_released,
+    not_taken_over, reads_nothing, refused_in_each_way, stored, take_over,
 };
-use crate::words::{
-    Words, frees, intern_again, intern_new, not_cloned, not_interned, owner_reads_nothing,
-};
+use crate::words::{Words, frees, intern_again, intern_new, not_interned, reads};
 use ra_ap_intern::{InternStorage, Limits, Refusal};
 
 #[test]
@@ -83,10 +81,28 @@ fn a_handle_of_a_freed_value_is_refused(rt: HostRuntime) {
     let a = intern_new(&rt, alloc, &mut storage, "k", 0);
     let b = take_over(&rt, &storage, (0, 1));
     frees(&rt, &mut storage, a, "k");
-
-    let b = not_released(&rt, &mut storage, b, Refusal::Gone);
+    let b = refused_in_each_way(&rt, &mut storage, b, Refusal::Gone);
     has_name(&rt, b.as_ref(), (1, 0));
-    not_cloned(&rt, &mut storage, &b, Refusal::Gone);
-    owner_reads_nothing(&rt, &storage, &b);
-    not_counted_down(&rt, &mut storage, b.as_ref(), Refusal::Gone);
+    not_found(&rt, &storage, 0);
+}
+
+#[test]
+fn a_count_of_zero_is_not_lowered(rt: HostRuntime) {
+    let alloc = rt.alloc();
+    let mut storage = InternStorage::new(alloc, 1);
+    let x = intern_new(&rt, alloc, &mut storage, "x", 0);
+    count_down(&rt, &mut storage, x.as_ref(), 0);
+    let x = not_lowered(&rt, &mut storage, x);
+    reads(&rt, &storage, &x, "x");
+}
+
+#[test]
+fn a_full_count_is_not_raised_though_births_are_used_up(rt: HostRuntime) {
+    let alloc = rt.alloc();
+    let mut storage = InternStorage::with_limits(alloc, 1, Limits { top: 1, numbers: 1 });
+    let a = intern_new(&rt, alloc, &mut storage, "a", 0);
+    not_interned(&rt, alloc, &mut storage, "b", Refusal::NumbersUsedUp);
+    not_interned(&rt, alloc, &mut storage, "a", Refusal::CountFull);
+    not_raised(&rt, &mut storage, &a, 1);
+    reads(&rt, &storage, &a, "a");
 }

@@ -3,30 +3,7 @@ ghost use Rattle.std.specs.Prelude.{true, false};
 
 use intern_fixtures::Unhashed;
 use ra_ap_intern::{Internable, Interned, InternedRef};
-use std::alloc::{AllocError, Global};
 use std::fmt::Debug;
-
-/// A text, collected.
-#[derive(Debug, Drop, PartialEq, Eq, Hash)]
-pub struct Term(String);
-
-impl Internable for Term {
-    const USE_GC: bool = true;
-
-    ghost USE_GC = { true };
-}
-
-impl Term {
-    /// The text.
-    pub fn text(&self) -> &str {
-        self.0.as_str()
-    }
-}
-
-/// The term of a text.
-pub fn make_term(alloc: Global, text: &str) -> Result<Term, AllocError> {
-    Ok(Term(String::from_str(alloc, text)?))
-}
 
 /// Values that are numbers, however they are hashed.
 pub trait Numeral: Internable + Copy + Debug {

@@ -27,7 +27,7 @@ mod readme;
 #[cfg(test)]
 mod steps;
 #[cfg(test)]
-mod terms;
+mod strings;
 #[cfg(test)]
 mod texts;
 #[cfg(test)]

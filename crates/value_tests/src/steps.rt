@@ -11,6 +11,16 @@ pub fn push<V: Drop>(rt: &impl Abort, list: &mut Vec<V>, value: V) {
     pushed.expect(rt, "memory");
 }
 
+/// The call was refused for this reason.
+fn is_refused<A: Drop>(rt: &impl Abort, answer: Result<A, Refusal>, reason: Refusal) {
+    is_reason(rt, refusal(answer).expect(rt, "refused"), reason);
+}
+
+/// This is the reason of a refusal.
+pub fn is_reason(rt: &impl Abort, why: Refusal, reason: Refusal) {
+    assert_eq!(rt; why, reason);
+}
+
 /// The reference names this birth.
 pub fn has_birth<T>(rt: &impl Abort, reference: InternedRef<T>, birth: u64) {
     assert_eq!(rt; reference.as_raw(), birth);
@@ -89,7 +99,7 @@ pub fn not_interned<T: Internable + Drop>(
 {
     let len = storage.len();
     let Refused { why, back } = Interned::new(storage, value).err().expect(rt, "refused");
-    assert_eq!(rt; why, reason);
+    is_reason(rt, why, reason);
     has_len(rt, storage, len);
     back
 }
@@ -132,8 +142,7 @@ pub fn stored<T: Internable>(
 
 /// Finds no entry of a birth.
 pub fn not_found<T: Internable + Drop>(rt: &impl Abort, storage: &InternStorage<T>, birth: u64) {
-    let gone = Some(Refusal::Gone);
-    assert_eq!(rt; refusal(InternedRef::from_raw(storage, birth)), gone);
+    is_refused(rt, InternedRef::from_raw(storage, birth), Refusal::Gone);
     not_taken_over(rt, storage, birth, Refusal::Gone);
 }
 
@@ -144,7 +153,7 @@ pub fn not_taken_over<T: Internable + Drop>(
     birth: u64,
     reason: Refusal,
 ) {
-    assert_eq!(rt; refusal(Interned::from_raw(storage, birth)), Some(reason));
+    is_refused(rt, Interned::from_raw(storage, birth), reason);
 }
 
 /// Takes over a count of the entry of this birth, which stays as it is.
@@ -172,6 +181,16 @@ pub fn own<T: Internable>(
     owned
 }
 
+/// Is refused a second handle for this reason.
+pub fn not_cloned<T: Internable + Drop>(
+    rt: &impl Abort,
+    storage: &mut InternStorage<T>,
+    handle: &Interned<T>,
+    reason: Refusal,
+) {
+    is_refused(rt, handle.clone(storage), reason);
+}
+
 /// Is refused an owned handle of a reference for this reason.
 pub fn not_owned<T: Internable + Drop>(
     rt: &impl Abort,
@@ -179,7 +198,7 @@ pub fn not_owned<T: Internable + Drop>(
     reference: InternedRef<T>,
     reason: Refusal,
 ) {
-    assert_eq!(rt; refusal(reference.to_owned(storage)), Some(reason));
+    is_refused(rt, reference.to_owned(storage), reason);
 }
 
 /// Takes one count back, after which the entry has this count.
@@ -200,7 +219,7 @@ pub fn not_counted_down<T: Internable>(
     reference: InternedRef<T>,
     reason: Refusal,
 ) {
-    assert_eq!(rt; reference.decrement_refcount(storage), Err(reason));
+    is_refused(rt, reference.decrement_refcount(storage), reason);
 }
 
 /// Releases a handle that frees nothing, after which the entry has this count.
@@ -237,8 +256,53 @@ pub fn not_released<T: Internable + Drop>(
 ) -> Interned<T> {
     let (len, name) = (storage.len(), handle.as_ref().name());
     let Refused { why, back } = handle.release(storage).err().expect(rt, "refused");
-    assert_eq!(rt; why, reason);
-    assert_eq!(rt; back.as_ref().name(), name);
+    is_reason(rt, why, reason);
+    assert!(rt; back.as_ref().name() == name);
     has_len(rt, storage, len);
     back
+}
+
+/// Each call that takes a handle refuses this one, and a reference to its entry, for the same
+/// reason. Nothing is read by them. The handle comes back, and no entry goes.
+pub fn refused_in_each_way<T: Internable + Drop>(
+    rt: &impl Abort,
+    storage: &mut InternStorage<T>,
+    handle: Interned<T>,
+    reason: Refusal,
+) -> Interned<T> {
+    let reference = handle.as_ref();
+    assert!(rt; handle.get(storage).is_none());
+    reads_nothing(rt, storage, reference);
+    not_cloned(rt, storage, &handle, reason);
+    not_owned(rt, storage, reference, reason);
+    not_counted_down(rt, storage, reference, reason);
+    not_released(rt, storage, handle, reason)
+}
+
+/// Each call that takes a count back, or over, is refused it, since there is none. The handle comes
+/// back, and its entry stays.
+pub fn not_lowered<T: Internable + Drop>(
+    rt: &impl Abort,
+    storage: &mut InternStorage<T>,
+    handle: Interned<T>,
+) -> Interned<T> {
+    let reference = handle.as_ref();
+    not_counted_down(rt, storage, reference, Refusal::CountZero);
+    not_taken_over(rt, storage, reference.as_raw(), Refusal::CountZero);
+    let back = not_released(rt, storage, handle, Refusal::CountZero);
+    has_count(rt, storage, reference, 0);
+    back
+}
+
+/// Each call that counts a handle's entry once more is refused, since this count is the greatest.
+pub fn not_raised<T: Internable + Drop>(
+    rt: &impl Abort,
+    storage: &mut InternStorage<T>,
+    handle: &Interned<T>,
+    count: u64,
+) {
+    let reference = handle.as_ref();
+    not_cloned(rt, storage, handle, Refusal::CountFull);
+    not_owned(rt, storage, reference, Refusal::CountFull);
+    has_count(rt, storage, reference, count);
 }

@@ -1,6 +1,6 @@
 //! Steps of tests over words, which are counted, each with the answer that it must get.
-use crate::steps::{self, has_count, reads_nothing, release_last};
-use intern_fixtures::{Word, make_word, refusal};
+use crate::steps::{self, has_count, release_last};
+use intern_fixtures::{Word, make_word};
 use ra_ap_intern::{InternStorage, Interned, Refusal};
 use std::alloc::Global;
 use std::process::Abort;
@@ -67,12 +67,6 @@ pub fn reads(rt: &impl Abort, storage: &Words, word: &Interned<Word>, text: &str
     assert_eq!(rt; word.as_ref().get(storage).map(Word::text), Some(text));
 }
 
-/// Reads nothing, by the handle and by a reference, and there is no count.
-pub fn owner_reads_nothing(rt: &impl Abort, storage: &Words, word: &Interned<Word>) {
-    assert!(rt; word.get(storage).is_none());
-    reads_nothing(rt, storage, word.as_ref());
-}
-
 /// Makes a second handle, after which the entry has this count.
 pub fn clone(
     rt: &impl Abort,
@@ -90,9 +84,4 @@ pub fn clone(
 pub fn frees(rt: &impl Abort, storage: &mut Words, word: Interned<Word>, text: &str) {
     let freed = release_last(rt, storage, word);
     assert_eq!(rt; freed.text(), text);
-}
-
-/// Is refused a second handle for this reason.
-pub fn not_cloned(rt: &impl Abort, storage: &mut Words, word: &Interned<Word>, reason: Refusal) {
-    assert_eq!(rt; refusal(word.clone(storage)), Some(reason));
 }

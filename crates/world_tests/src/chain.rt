@@ -11,18 +11,14 @@ type Nodes = World<Word, Node, StringSlice>;
 type NodeReply = Reply<Word, Node, String>;
 
 #[test]
-fn a_chain(rt: HostRuntime) {
+fn a_chain_of_a_thousand_nodes(rt: HostRuntime) {
     let alloc = rt.alloc();
-    a_chain_of_a_thousand_nodes(&rt, alloc);
-}
-
-fn a_chain_of_a_thousand_nodes(rt: &impl Abort, alloc: Global) {
     let mut world: Nodes = World::new(alloc, NUMBERS);
     for slot in 0..1_000 {
-        add_node(rt, alloc, &mut world, slot);
+        add_node(&rt, alloc, &mut world, slot);
     }
-    is_kept(rt, alloc, &mut world);
-    is_removed(rt, alloc, &mut world);
+    is_kept(&rt, alloc, &mut world);
+    is_removed(&rt, alloc, &mut world);
 }
 
 /// Interns a node over the one of the birth before, if there is one: its reference is put into this

@@ -9,6 +9,8 @@ mod chain;
 #[cfg(test)]
 mod foreign;
 #[cfg(test)]
+mod gone;
+#[cfg(test)]
 mod mixed;
 #[cfg(test)]
 mod model;
@@ -18,6 +20,8 @@ mod refused;
 mod replies;
 #[cfg(test)]
 mod rows;
+#[cfg(test)]
+mod uncounted;
 #[cfg(test)]
 mod worlds;
 #[cfg(test)]

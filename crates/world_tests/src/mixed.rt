@@ -10,16 +10,11 @@ use std::process::Abort;
 #[test]
 fn ten_thousand_calls(rt: HostRuntime) {
     let alloc = rt.alloc();
-    a_run_is_as_told(&rt, alloc);
-}
-
-/// Makes the calls in one run: each has the model's reply, and at the end the world is as the model.
-fn a_run_is_as_told(rt: &impl Abort, alloc: Global) {
     let mut world = new_world(alloc);
     let mut model = Model::new(alloc);
-    let rows = draw_all(rt, alloc, &mut model);
-    replies(rt, &mut world, rows);
-    is_as_told(rt, alloc, &mut world, &model);
+    let rows = draw_all(&rt, alloc, &mut model);
+    replies(&rt, &mut world, rows);
+    is_as_told(&rt, alloc, &mut world, &model);
 }
 
 /// Draws 10,000 calls, each with the model's reply.

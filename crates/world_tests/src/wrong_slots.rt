@@ -42,56 +42,42 @@ enum Taking {
     AsUint,
 }
 
+/// The calls, each with the slots of eight that it takes.
+const TAKEN: [(Taking, &[usize]); 12] = [
+    (Taking::AsRef, &[COUNTED, VALUE, SLICE]),
+    (Taking::Clone, &[COUNTED, VALUE, SLICE, SYMBOL]),
+    (Taking::ToOwned, &[COUNTED_REF, VALUE_REF, SLICE_REF]),
+    (Taking::Release, &[COUNTED, VALUE, SLICE, SYMBOL]),
+    (
+        Taking::Decrement,
+        &[COUNTED_REF, VALUE_REF, SLICE_REF, SYMBOL],
+    ),
+    (Taking::AsRaw, &[COUNTED_REF, VALUE_REF]),
+    (Taking::ReadsCounted, &[COUNTED, COUNTED_REF]),
+    (Taking::ReadsValue, &[VALUE, VALUE_REF]),
+    (Taking::ReadsSlice, &[SLICE, SLICE_REF]),
+    (Taking::ReadsText, &[SYMBOL]),
+    (
+        Taking::Count,
+        &[
+            COUNTED,
+            COUNTED_REF,
+            VALUE_REF,
+            VALUE,
+            SLICE_REF,
+            SLICE,
+            SYMBOL,
+        ],
+    ),
+    (Taking::AsUint, &[SYMBOL]),
+];
+
 #[test]
 fn calls_that_take_a_slot(rt: HostRuntime) {
     let alloc = rt.alloc();
-    calls_that_make_handles(&rt, alloc);
-    calls_that_give_counts_up(&rt, alloc);
-    calls_that_read_values(&rt, alloc);
-    calls_that_tell_numbers(&rt, alloc);
-}
-
-fn calls_that_make_handles(rt: &impl Abort, alloc: Global) {
-    takes(rt, alloc, Taking::AsRef, &[COUNTED, VALUE, SLICE]);
-    takes(rt, alloc, Taking::Clone, &[COUNTED, VALUE, SLICE, SYMBOL]);
-    takes(
-        rt,
-        alloc,
-        Taking::ToOwned,
-        &[COUNTED_REF, VALUE_REF, SLICE_REF],
-    );
-}
-
-fn calls_that_give_counts_up(rt: &impl Abort, alloc: Global) {
-    takes(rt, alloc, Taking::Release, &[COUNTED, VALUE, SLICE, SYMBOL]);
-    takes(
-        rt,
-        alloc,
-        Taking::Decrement,
-        &[COUNTED_REF, VALUE_REF, SLICE_REF, SYMBOL],
-    );
-}
-
-fn calls_that_read_values(rt: &impl Abort, alloc: Global) {
-    takes(rt, alloc, Taking::ReadsCounted, &[COUNTED, COUNTED_REF]);
-    takes(rt, alloc, Taking::ReadsValue, &[VALUE, VALUE_REF]);
-    takes(rt, alloc, Taking::ReadsSlice, &[SLICE, SLICE_REF]);
-    takes(rt, alloc, Taking::ReadsText, &[SYMBOL]);
-}
-
-fn calls_that_tell_numbers(rt: &impl Abort, alloc: Global) {
-    takes(rt, alloc, Taking::AsRaw, &[COUNTED_REF, VALUE_REF]);
-    takes(rt, alloc, Taking::AsUint, &[SYMBOL]);
-    let all = [
-        COUNTED,
-        COUNTED_REF,
-        VALUE_REF,
-        VALUE,
-        SLICE_REF,
-        SLICE,
-        SYMBOL,
-    ];
-    takes(rt, alloc, Taking::Count, &all);
+    for (call, slots) in TAKEN {
+        takes(&rt, alloc, call, slots);
+    }
 }
 
 #[test]

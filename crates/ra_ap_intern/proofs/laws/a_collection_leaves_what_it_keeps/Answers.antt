@@ -1,8 +1,9 @@
-use Rattle.ra_ap_intern.proofs.Collections.{of_kept}
+use Rattle.std.proofs.Common.{◌∙◌, ap}
+use Rattle.intern_trace.specs.Collector.{has}
+use Rattle.intern_trace.specs.Reach.{entry_of}
+use Rattle.ra_ap_intern.proofs.Collections.{entry_kept}
 use Rattle.ra_ap_intern.proofs.laws.a_collection_leaves_what_it_keeps.Goals as goal
 
-pub returns-clause-reads : goal.returns-clause-reads
-returns-clause-reads g c = λ s set n. of_kept (λ k. k.value) s set n
-
-pub returns-clause-counts : goal.returns-clause-counts
-returns-clause-counts g c = λ s set n. of_kept (λ k. k.count) s set n
+pub returns : goal.returns
+returns g c = λ f listed names is n.
+    ap (λ es. entry_of es n) (g.met.F.Family.kept_entries f (has names)) ∙ entry_kept (has names) (g.F.Family.entries f) n

@@ -1,15 +1,18 @@
 use Rattle.intern_table.specs.Sliced.{sliced_eq}
-use Rattle.intern_store.proofs.Later.{interned_gone, counted_up_gone, counted_down_gone, kept_gone}
+use Rattle.ra_ap_intern.proofs.Births.{birth-fresh, next-given, next-stored, next-counted_up, next-counted_down}
 use Rattle.ra_ap_intern.proofs.laws.a_slices_birth_is_given_once.Goals as goal
 
-pub returns-clause-interned : goal.returns-clause-interned
-returns-clause-interned g c = interned_gone (sliced_eq g.T.Header.PartialEq.eq g.T.SliceType.PartialEq.eq)
+pub returns-clause-fresh : goal.returns-clause-fresh
+returns-clause-fresh g c = birth-fresh (sliced_eq g.T.Header.PartialEq.eq g.T.SliceType.PartialEq.eq)
+
+pub returns-clause-given : goal.returns-clause-given
+returns-clause-given g c = next-given (sliced_eq g.T.Header.PartialEq.eq g.T.SliceType.PartialEq.eq)
+
+pub returns-clause-stored : goal.returns-clause-stored
+returns-clause-stored g c = next-stored (sliced_eq g.T.Header.PartialEq.eq g.T.SliceType.PartialEq.eq)
 
 pub returns-clause-counted_up : goal.returns-clause-counted_up
-returns-clause-counted_up g c = counted_up_gone
+returns-clause-counted_up g c = next-counted_up
 
 pub returns-clause-counted_down : goal.returns-clause-counted_down
-returns-clause-counted_down g c = counted_down_gone
-
-pub returns-clause-swept : goal.returns-clause-swept
-returns-clause-swept g c = kept_gone
+returns-clause-counted_down g c = next-counted_down

@@ -1,0 +1,61 @@
+//! Steps of tests over texts that are collected, each with the answer that it must get.
+use crate::steps::{self, has_birth, has_len, is_reason};
+use intern_fixtures::{GcString, make_gc_string, told};
+use ra_ap_intern::{GarbageCollector, InternStorage, Interned, InternedRef, Refusal, Refused};
+use std::alloc::Global;
+use std::process::Abort;
+
+/// A storage of texts that are collected.
+pub type Strings = InternStorage<GcString>;
+
+/// The collected text.
+fn string_of(rt: &impl Abort, alloc: Global, text: &str) -> GcString {
+    make_gc_string(alloc, text).expect(rt, "memory")
+}
+
+/// Interns a text that isn't stored: it gets this birth and count 0, and nothing comes back.
+pub fn intern_new(
+    rt: &impl Abort,
+    alloc: Global,
+    storage: &mut Strings,
+    text: &str,
+    birth: u64,
+) -> InternedRef<GcString> {
+    steps::intern_new_gc(rt, storage, string_of(rt, alloc, text), birth)
+}
+
+/// Interns a text that is stored under this birth: it comes back, and no entry is added.
+pub fn intern_again(
+    rt: &impl Abort,
+    alloc: Global,
+    storage: &mut Strings,
+    text: &str,
+    birth: u64,
+) -> InternedRef<GcString> {
+    let len = storage.len();
+    let answer = Interned::new_gc(storage, string_of(rt, alloc, text));
+    let (string, back) = answer.expect(rt, "interned");
+    has_birth(rt, string, birth);
+    assert_eq!(rt; back.as_ref().map(GcString::text), Some(text));
+    has_len(rt, storage, len);
+    string
+}
+
+/// Interns a text that isn't stored where all births are given: it comes back, and no entry is
+/// added.
+pub fn not_interned(rt: &impl Abort, alloc: Global, storage: &mut Strings, text: &str) {
+    let len = storage.len();
+    let answer = Interned::new_gc(storage, string_of(rt, alloc, text));
+    let Refused { why, back } = answer.err().expect(rt, "refused");
+    is_reason(rt, why, Refusal::NumbersUsedUp);
+    assert_eq!(rt; back.text(), text);
+    has_len(rt, storage, len);
+}
+
+/// Collects a storage of one text that nothing counts: no entry is left.
+pub fn collect_the_only_one(rt: &impl Abort, alloc: Global, storage: &mut Strings) {
+    assert!(rt; GarbageCollector::distinct(storage));
+    let answer = GarbageCollector::new(alloc).collect(storage);
+    assert_eq!(rt; told(answer), Some((0, 0, 1)));
+    has_len(rt, storage, 0);
+}
