@@ -3,6 +3,7 @@ mod grove;
 pub(crate) mod node;
 
 use crate::fault::{Fault, ensure};
+use crate::marks;
 use grove::{Grove, Left, owns_branch, owns_node};
 use ra_ap_intern::{Collected, GarbageCollector};
 use std::alloc::Global;
@@ -53,12 +54,18 @@ impl Collection {
     }
 
     // Makes the call, with a new collector.
-    fn collect(self, alloc: Global, grove: &mut Grove) -> Result<Collected, Fault> {
+    fn collect(
+        self,
+        rt: &impl Eprint,
+        alloc: Global,
+        grove: &mut Grove,
+    ) -> Result<Collected, Fault> {
         let storages = &mut grove.storages;
         if !GarbageCollector::distinct(storages) {
             return Err(Fault::Wrong("two storages of a family have one number"));
         }
         let gc = GarbageCollector::new(alloc);
+        marks::asks(rt, self.name());
         let collected = match self {
             Collection::Plain => gc.collect(storages),
             Collection::Keeping => gc.collect_keeping(storages, grove.listed.as_slice()),
@@ -66,7 +73,8 @@ impl Collection {
         collected.map_err(|_| Fault::NoMemory)
     }
 
-    // Makes the call. Where it is refused, the family is as it was, and the call is made once more.
+    // Makes the call on a family of all entries, and once more on what is left, where many places
+    // are vacant.
     fn check_on(
         self,
         rt: &impl Eprint,
@@ -74,18 +82,38 @@ impl Collection {
         grove: &mut Grove,
         wanted: Collected,
     ) -> Result<(), Fault> {
-        grove.check(Left::All)?;
-        let collected = match self.collect(alloc, grove) {
+        self.check_once(rt, alloc, grove, Left::All, wanted)?;
+        let nothing_removed = Collected {
+            removed: 0,
+            ..wanted
+        };
+        self.check_once(rt, alloc, grove, self.left(), nothing_removed)?;
+        marks::prepares(rt);
+        grove.store_again(self.left())
+    }
+
+    // Makes the call. Where it is refused, the family is as it was, and the call is made once more.
+    fn check_once(
+        self,
+        rt: &impl Eprint,
+        alloc: Global,
+        grove: &mut Grove,
+        before: Left,
+        wanted: Collected,
+    ) -> Result<(), Fault> {
+        marks::takes_none(rt, "reads");
+        grove.check(before)?;
+        let collected = match self.collect(rt, alloc, grove) {
             Err(Fault::NoMemory) => {
-                rt.eprintln(self.name())?;
-                grove.check(Left::All)?;
-                self.collect(alloc, grove)?
+                marks::refused(rt, self.name());
+                grove.check(before)?;
+                self.collect(rt, alloc, grove)?
             }
             collected => collected?,
         };
+        marks::takes_none(rt, "reads");
         ensure(collected == wanted, "a collection tells something else")?;
-        grove.check(self.left())?;
-        grove.store_again(self.left())
+        grove.check(self.left())
     }
 }
 
@@ -103,8 +131,10 @@ pub(crate) fn check_collection(
     alloc: Global,
     call: Collection,
 ) -> Result<(), Fault> {
+    marks::prepares(rt);
     let mut small = Grove::make(alloc, 2, 1)?;
     call.check_on(rt, alloc, &mut small, call.small())?;
+    marks::prepares(rt);
     let mut large = Grove::make(alloc, LARGE, LARGE)?;
     call.check_on(rt, alloc, &mut large, call.large())?;
     println!(rt; "{}: {}", call.name(), call.large().visits)?;
@@ -113,8 +143,10 @@ pub(crate) fn check_collection(
 
 /// Checks `register`, and the calls of a collector that take no memory.
 pub(crate) fn check_registration(rt: &(impl Print + Eprint), alloc: Global) -> Result<(), Fault> {
+    marks::prepares(rt);
     let small = Grove::make(alloc, 2, 1)?;
     Registration::check_on(rt, alloc, &small)?;
+    marks::prepares(rt);
     let large = Grove::make(alloc, LARGE, LARGE)?;
     Registration::check_on(rt, alloc, &large)?;
     println!(rt; "GarbageCollector::register: {}", large.len())?;
@@ -140,11 +172,11 @@ impl Registration<'_> {
             is_registered: false,
             is_marked: false,
         };
-        registration.mark_all()?;
+        registration.mark_all(rt)?;
         registration.register(rt)?;
-        registration.mark_all()?;
+        registration.mark_all(rt)?;
         registration.register(rt)?;
-        registration.mark_all()
+        registration.mark_all(rt)
     }
 
     // Registers the family. Where that is refused, all is as it was, and it is tried once more.
@@ -153,13 +185,15 @@ impl Registration<'_> {
         if !GarbageCollector::distinct(storages) {
             return Err(Fault::Wrong("two storages of a family have one number"));
         }
+        marks::asks(rt, "GarbageCollector::register");
         if self.gc.register(storages).is_err() {
-            rt.eprintln("GarbageCollector::register")?;
+            marks::refused(rt, "GarbageCollector::register");
             self.is_as_it_was()?;
             self.gc.register(storages)?;
         }
         self.is_registered = true;
         self.is_marked = false;
+        marks::takes_none(rt, "reads");
         self.is_as_it_was()
     }
 
@@ -170,16 +204,16 @@ impl Registration<'_> {
 
     // Fails unless exactly the entries without owners are marked that had a mark call.
     fn check_marks(&self) -> Result<(), Fault> {
-        let marks = self.is_registered && self.is_marked;
+        let has_marks = self.is_registered && self.is_marked;
         for (reference, number) in self.grove.nodes.iter().zip(0..) {
             ensure(
-                self.gc.is_marked(reference.name()) == (marks && !owns_node(number)),
+                self.gc.is_marked(reference.name()) == (has_marks && !owns_node(number)),
                 "the mark of a node is wrong",
             )?;
         }
         for (reference, number) in self.grove.branches.iter().zip(0..) {
             ensure(
-                self.gc.is_marked(reference.name()) == (marks && !owns_branch(number)),
+                self.gc.is_marked(reference.name()) == (has_marks && !owns_branch(number)),
                 "the mark of a slice is wrong",
             )?;
         }
@@ -191,19 +225,20 @@ impl Registration<'_> {
     }
 
     // Makes a mark call for each entry.
-    fn mark_all(&mut self) -> Result<(), Fault> {
-        let marks = self.is_registered;
+    fn mark_all(&mut self, rt: &impl Eprint) -> Result<(), Fault> {
+        marks::takes_none(rt, "mark calls");
+        let is_known = self.is_registered;
         for (reference, number) in self.grove.nodes.iter().zip(0..) {
             let answer = self.gc.mark_interned_alive(*reference);
             ensure(
-                answer == flow(marks && !owns_node(number)),
+                answer == flow(is_known && !owns_node(number)),
                 "a mark call for a node answers something else",
             )?;
         }
         for (reference, number) in self.grove.branches.iter().zip(0..) {
             let answer = self.gc.mark_interned_slice_alive(*reference);
             ensure(
-                answer == flow(marks && !owns_branch(number)),
+                answer == flow(is_known && !owns_branch(number)),
                 "a mark call for a slice answers something else",
             )?;
         }

@@ -1,5 +1,6 @@
 //! A storage, and what it has to answer.
 use crate::fault::{Fault, ensure};
+use crate::marks;
 use crate::storage::{Storage, input_of, offer_of};
 use std::alloc::{AllocError, Global};
 
@@ -24,6 +25,7 @@ pub(crate) fn check<S: Storage>(
     alloc: Global,
     storage: S,
 ) -> Result<(), Fault> {
+    marks::prepares(rt);
     let mut scene = Scene {
         storage,
         first: 0,
@@ -32,7 +34,7 @@ pub(crate) fn check<S: Storage>(
     };
     scene.fill(rt, alloc)?;
     if !scene.storage.keeps() {
-        scene.free_all()?;
+        scene.free_all(rt)?;
         scene.fill(rt, alloc)?;
     }
     println!(rt; "{}: {}", scene.storage.call(), scene.storage.lengths().0)?;
@@ -44,20 +46,23 @@ impl<S: Storage> Scene<S> {
         for number in 0..INPUTS {
             self.add(rt, alloc, self.first.saturating_add(number as u64))?;
         }
+        marks::takes_none(rt, "reads");
         self.is_as_it_was()?;
-        self.pass_all(alloc)?;
+        self.pass_all(rt, alloc)?;
+        marks::takes_none(rt, "reads");
         self.is_as_it_was()
     }
 
     // Stores the input of a number. Where that is refused, all that was stored before is as it was,
     // and the call is made once more.
     fn add(&mut self, rt: &impl Eprint, alloc: Global, number: u64) -> Result<(), Fault> {
+        marks::prepares(rt);
         let input = input_of(&self.storage, alloc, number)?;
-        let reference = match self.store(alloc, &input) {
+        let reference = match self.store(rt, alloc, &input) {
             Err(Fault::NoMemory) => {
-                rt.eprintln(self.storage.call())?;
+                marks::refused(rt, self.storage.call());
                 self.is_as_it_was()?;
-                self.store(alloc, &input)?
+                self.store(rt, alloc, &input)?
             }
             stored => stored?,
         };
@@ -66,8 +71,14 @@ impl<S: Storage> Scene<S> {
         Ok(())
     }
 
-    fn store(&mut self, alloc: Global, input: &S::Input) -> Result<S::Reference, Fault> {
+    fn store(
+        &mut self,
+        rt: &impl Eprint,
+        alloc: Global,
+        input: &S::Input,
+    ) -> Result<S::Reference, Fault> {
         let offer = offer_of(&self.storage, alloc, input)?;
+        marks::asks(rt, self.storage.call());
         self.storage.store(offer, input)
     }
 
@@ -90,16 +101,19 @@ impl<S: Storage> Scene<S> {
     }
 
     // Makes the calls that take no memory, on each entry.
-    fn pass_all(&mut self, alloc: Global) -> Result<(), Fault> {
+    fn pass_all(&mut self, rt: &impl Eprint, alloc: Global) -> Result<(), Fault> {
         for (reference, input) in self.references.iter().zip(self.inputs.iter()) {
+            marks::prepares(rt);
             let offer = offer_of(&self.storage, alloc, input)?;
+            marks::takes_none(rt, "calls on what is stored");
             self.storage.pass(*reference, offer, input)?;
         }
         Ok(())
     }
 
     // Gives up the last count of each entry.
-    fn free_all(&mut self) -> Result<(), Fault> {
+    fn free_all(&mut self, rt: &impl Eprint) -> Result<(), Fault> {
+        marks::takes_none(rt, "last releases");
         for (reference, input) in self.references.iter().zip(self.inputs.iter()) {
             self.storage.free(*reference, input)?;
         }

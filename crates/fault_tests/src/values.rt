@@ -1,11 +1,14 @@
 //! Storages of values, in both modes.
-ghost use Rattle.std.specs.Prelude.{true};
+ghost use Rattle.std.specs.Prelude.{true, false};
+ghost use Rattle.std.specs.Cmp.Rules.{hashing};
+ghost use Rattle.std.specs.Hash as fed;
+ghost use Rattle.std.proofs.Common.{rules};
 
 use crate::fault::{Fault, ensure, refused};
 use crate::storage::Storage;
-use intern_fixtures::Unhashed;
 use ra_ap_intern::{InternStorage, Internable, Interned, InternedRef, Refused, Text};
 use std::alloc::{AllocError, Global};
+use std::hash::{Hash, Hasher};
 
 /// A text, collected.
 #[derive(Drop, PartialEq, Eq, Hash)]
@@ -15,6 +18,27 @@ impl Internable for Term {
     const USE_GC: bool = true;
 
     ghost USE_GC = { true };
+}
+
+/// A number, counted. All numbers have one hash, which is among the greatest: so a table soon has no
+/// bucket left for them, before it is built anew and also while that is done.
+#[derive(Clone, Copy, PartialEq, Eq)]
+pub(crate) struct OneHash(u64);
+
+impl Hash for OneHash {
+    ghost hash_input = { λ _. fed.u8 116 };
+
+    ghost respects_eq = { Prim.search (hashing, rules) };
+
+    fn hash<H: Hasher>(&self, state: &mut H) {
+        state.write_u8(116);
+    }
+}
+
+impl Internable for OneHash {
+    const USE_GC: bool = false;
+
+    ghost USE_GC = { false };
 }
 
 // What an interning answers: a reference, and what came back.
@@ -77,23 +101,23 @@ impl Value for Text {
     }
 }
 
-impl Value for Unhashed {
+impl Value for OneHash {
     fn call() -> &'static str {
         "Interned::new, where all values have one hash"
     }
 
-    fn make(_alloc: Global, number: u64) -> Result<Unhashed, AllocError> {
-        Ok(Unhashed(number))
+    fn make(_alloc: Global, number: u64) -> Result<OneHash, AllocError> {
+        Ok(OneHash(number))
     }
 
-    fn copy(&self, _alloc: Global) -> Result<Unhashed, AllocError> {
+    fn copy(&self, _alloc: Global) -> Result<OneHash, AllocError> {
         Ok(*self)
     }
 
     fn intern(
-        storage: &mut InternStorage<Unhashed>,
-        value: Unhashed,
-    ) -> Result<Answer<Unhashed>, Refused<Unhashed>> {
+        storage: &mut InternStorage<OneHash>,
+        value: OneHash,
+    ) -> Result<Answer<OneHash>, Refused<OneHash>> {
         let (handle, back) = Interned::new(storage, value)?;
         Ok((handle.as_ref(), back))
     }

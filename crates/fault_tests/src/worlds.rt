@@ -4,10 +4,11 @@ mod one_value;
 
 use crate::collections::node::{Branch, Node};
 use crate::fault::{Fault, ensure};
+use crate::marks;
 use crate::scene::room;
 use input::{ALL, CallKind, FOUNDERS, Input};
 use intern_world::{Back, Call, Numbers, Reply, Slot, World, run};
-pub(crate) use one_value::check_one_value;
+pub(crate) use one_value::{check_new, check_one_value};
 use ra_ap_intern::{Collected, Refusal, Text};
 use std::alloc::Global;
 
@@ -19,6 +20,10 @@ const LISTED: usize = 16;
 
 /// How many slots the world of a `Watched` has at its beginning.
 const FIRST: usize = 3;
+
+/// What a run asks for is asked by the run itself, or by one of its calls.
+const ASKED: &str =
+    "run | Call::New | Call::NewGc | Call::FromHeaderAndSlice | Call::Intern | Call::IntegerGet | Call::GeneratedGet | Call::Collect";
 
 type TestWorld = World<Text, Node, Branch>;
 
@@ -63,15 +68,18 @@ pub(crate) fn check_keeping(rt: &(impl Print + Eprint), alloc: Global) -> Result
 }
 
 fn run_rounds(rt: &impl Eprint, alloc: Global) -> Result<(), Fault> {
+    marks::prepares(rt);
     let mut watched = Watched::new(alloc)?;
     for number in 0..ROUNDS {
         watched.run_round(rt, alloc, number)?;
     }
+    marks::takes_none(rt, "reads of a world");
     watched.is_as_it_was()
 }
 
 // Tells the visits.
 fn keep_some(rt: &impl Eprint, alloc: Global) -> Result<usize, Fault> {
+    marks::prepares(rt);
     let mut watched = Watched::new(alloc)?;
     for number in 0..LISTED {
         watched.store(rt, alloc, number)?;
@@ -79,15 +87,17 @@ fn keep_some(rt: &impl Eprint, alloc: Global) -> Result<usize, Fault> {
     watched.keep_listed(rt, alloc)
 }
 
+// The numbers of a world.
+const NUMBERS: Numbers = Numbers {
+    counted: 7,
+    values: 8,
+    slices: 9,
+    table: 10,
+};
+
 // A world with nothing in it.
 fn new_world(alloc: Global) -> TestWorld {
-    let numbers = Numbers {
-        counted: 7,
-        values: 8,
-        slices: 9,
-        table: 10,
-    };
-    World::new(alloc, numbers)
+    World::new(alloc, NUMBERS)
 }
 
 // A world with two nodes, the second of which is owned and declares the first.
@@ -145,6 +155,7 @@ impl Watched {
     // Makes all calls, the last of which collects what they stored, and collects what was stored
     // only at a second try.
     fn run_round(&mut self, rt: &impl Eprint, alloc: Global, number: usize) -> Result<(), Fault> {
+        marks::prepares(rt);
         self.inputs.push(Input::make(alloc, number)?)?;
         self.make_all(rt, alloc, &ALL)?;
         if self.uncounted() > 0 {
@@ -155,6 +166,7 @@ impl Watched {
 
     // Stores a node and a slice.
     fn store(&mut self, rt: &impl Eprint, alloc: Global, number: usize) -> Result<(), Fault> {
+        marks::prepares(rt);
         self.inputs.push(Input::make(alloc, number)?)?;
         self.make_all(rt, alloc, &[CallKind::NewGc, CallKind::FromHeaderAndSlice])
     }
@@ -174,7 +186,7 @@ impl Watched {
         let Some(refused) = self.make(rt, alloc, kinds)? else {
             return Ok(());
         };
-        rt.eprintln(refused.name())?;
+        marks::refused(rt, refused.name());
         self.is_as_it_was()?;
         match self.make(rt, alloc, &[refused])? {
             None => Ok(()),
@@ -191,10 +203,11 @@ impl Watched {
         kinds: &[CallKind],
     ) -> Result<Option<CallKind>, Fault> {
         let calls = self.calls(alloc, kinds)?;
+        marks::asks(rt, ASKED);
         let replies = match run(&mut self.world, calls) {
             Ok(replies) => replies,
             Err(back) => {
-                rt.eprintln("run")?;
+                marks::refused(rt, "run");
                 self.are_back(&back, kinds)?;
                 self.is_as_it_was()?;
                 run(&mut self.world, back).map_err(|_| Fault::NoMemory)?
@@ -287,15 +300,17 @@ impl Watched {
     // refused, all is as it was, and it is made once more. Tells the visits.
     fn keep_listed(&mut self, rt: &impl Eprint, alloc: Global) -> Result<usize, Fault> {
         let listed = LISTED / 2;
+        marks::prepares(rt);
         let mut slots = room(alloc, self.held.len())?;
         for (held, n) in self.held.iter().zip(0..) {
             if held.number < listed {
                 slots.push(slot_of(n))?;
             }
         }
+        marks::asks(rt, "World::collect_keeping");
         let reply = match self.world.collect_keeping(&slots) {
             Reply::Refused(Refusal::OutOfMemory, Back::Nothing) => {
-                rt.eprintln("World::collect_keeping")?;
+                marks::refused(rt, "World::collect_keeping");
                 self.is_as_it_was()?;
                 self.world.collect_keeping(&slots)
             }
@@ -307,6 +322,7 @@ impl Watched {
             "a collection that keeps slots tells something else",
         )?;
         self.sweep(listed);
+        marks::takes_none(rt, "reads of a world");
         self.is_as_it_was()?;
         Ok(wanted.visits)
     }

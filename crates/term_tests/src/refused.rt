@@ -180,3 +180,29 @@ fn an_owner_that_nothing_counts_is_refused(rt: HostRuntime) {
     given.is_as_it_was(&rt);
     same.release(&rt, kept);
 }
+
+#[test]
+fn foreign_comes_before_full(rt: HostRuntime) {
+    let mut full = Scene::small(rt.alloc(), 1);
+    let mut other = Scene::new(rt.alloc(), 4);
+    let x = full.make(&rt, "x", &[], 0);
+    let z = other.make(&rt, "z", &[], 0);
+    let _x = full.keep(&rt, x);
+    let z = other.keep(&rt, z);
+    let answer = full.store.keep(z.as_ref()).err();
+    assert_eq!(rt; answer, Some(Refusal::Foreign));
+    let answer = z.clone(&mut full.store).err();
+    assert_eq!(rt; answer, Some(Refusal::Foreign));
+    full.has_count(&rt, x, 1);
+}
+
+#[test]
+fn foreign_comes_before_zero(rt: HostRuntime) {
+    let mut scene = Scene::new(rt.alloc(), 3);
+    let mut other = Scene::new(rt.alloc(), 4);
+    let x = scene.make(&rt, "x", &[], 0);
+    let z = other.make(&rt, "z", &[], 0);
+    let z = other.keep(&rt, z);
+    let _z = scene.keeps_its_owner(&rt, z, Refusal::Foreign);
+    scene.has_count(&rt, x, 0);
+}

@@ -1,9 +1,10 @@
 //! A run that interns one value twice, on a new world. Where its first call is refused for want of
 //! memory, its third gives the first handle.
-use super::{Calls, Replies, TestReply, TestWorld, new_world};
+use super::{Calls, NUMBERS, Replies, TestReply, TestWorld, new_world};
 use crate::fault::{Fault, ensure};
-use intern_world::{Back, Call, Reply, run};
-use ra_ap_intern::{Refusal, Text};
+use crate::marks;
+use intern_world::{Back, Call, Reply, World, run};
+use ra_ap_intern::{Limits, Refusal, Text};
 use std::alloc::{AllocError, Global};
 
 /// The value. It takes no memory beside its entry.
@@ -11,6 +12,20 @@ const VALUE: &str = "x";
 
 /// How many calls the run has.
 const CALLS: usize = 8;
+
+/// What the run asks for is asked by the run itself, or by its first call.
+const ASKED: &str = "run, on one value | Call::New, first of a run on one value";
+
+/// Checks the making of worlds, which takes no memory, and reads of them.
+pub(crate) fn check_new(rt: &impl Eprint, alloc: Global) -> Result<(), Fault> {
+    marks::takes_none(
+        rt,
+        "World::new, World::with_limits and reads of a new world",
+    );
+    check_nothing(&new_world(alloc))?;
+    let limits = Limits { top: 1, numbers: 1 };
+    check_nothing(&World::with_limits(alloc, NUMBERS, limits))
+}
 
 /// Checks its replies, and that at the end the world has no entry.
 pub(crate) fn check_one_value(rt: &(impl Print + Eprint), alloc: Global) -> Result<(), Fault> {
@@ -21,15 +36,17 @@ pub(crate) fn check_one_value(rt: &(impl Print + Eprint), alloc: Global) -> Resu
 }
 
 fn run_one_value(rt: &impl Eprint, alloc: Global) -> Result<(), Fault> {
+    marks::prepares(rt);
     let mut world = new_world(alloc);
     let replies = run_calls(rt, &mut world, calls(alloc)?)?;
+    marks::takes_none(rt, "reads of a world");
     check_replies(rt, &replies)?;
     check_empty(&world)
 }
 
 fn check_replies(rt: &impl Eprint, replies: &Replies) -> Result<(), Fault> {
     if is_first_refused(replies) {
-        rt.eprintln("Call::New, first of a run on one value")?;
+        marks::refused(rt, "Call::New, first of a run on one value");
         return Ok(());
     }
     ensure(
@@ -67,10 +84,11 @@ fn try_calls(alloc: Global) -> Result<Calls, AllocError> {
 // Where the room for replies and slots is refused, the calls are back and the world is as it was,
 // and the run is made once more.
 fn run_calls(rt: &impl Eprint, world: &mut TestWorld, calls: Calls) -> Result<Replies, Fault> {
+    marks::asks(rt, ASKED);
     match run(world, calls) {
         Ok(replies) => Ok(replies),
         Err(back) => {
-            rt.eprintln("run, on one value")?;
+            marks::refused(rt, "run, on one value");
             check_back(world, &back)?;
             run(world, back).map_err(|_| Fault::NoMemory)
         }
@@ -79,6 +97,11 @@ fn run_calls(rt: &impl Eprint, world: &mut TestWorld, calls: Calls) -> Result<Re
 
 fn check_back(world: &TestWorld, back: &Calls) -> Result<(), Fault> {
     ensure(are_calls(back), "other calls came back")?;
+    check_nothing(world)
+}
+
+// Fails unless there is no slot, and no storage has an entry.
+fn check_nothing(world: &TestWorld) -> Result<(), Fault> {
     ensure(world.slot(0).is_none(), "a world has a slot too many")?;
     check_empty(world)
 }

@@ -1,0 +1,194 @@
+//! The collector, and calls in collected mode.
+use crate::fault::{Fault, ensure, gives_back};
+use crate::marks::{prepares, takes_none};
+use intern_fixtures::{Node, NodeSlice, make_node};
+use ra_ap_intern::{
+    GarbageCollector, InternSliceStorage, InternStorage, Interned, InternedRef, InternedSlice,
+    InternedSliceRef, Limits, NoStorages, Pair, Refusal,
+};
+use std::alloc::{AllocError, Global};
+use std::ops::ControlFlow;
+
+/// What tells the node that isn't owned from all others.
+const TAG: u64 = 7;
+
+/// The limits of the storage of nodes, which gives all its births.
+const LIMITS: Limits = Limits { top: 9, numbers: 3 };
+
+type Storages = Pair<Pair<NoStorages, InternStorage<Node>>, InternSliceStorage<NodeSlice>>;
+
+/// References to entries.
+#[derive(Clone, Copy)]
+struct Known {
+    /// A node without an owner, and its child, which has one.
+    node: InternedRef<Node>,
+    owned: InternedRef<Node>,
+    /// A node that is gone, and one of another storage.
+    gone: InternedRef<Node>,
+    foreign: InternedRef<Node>,
+    /// A slice without an owner.
+    slice: InternedSliceRef<NodeSlice>,
+}
+
+/// Checks each call.
+pub(crate) fn check(rt: &impl Eprint, alloc: Global) -> Result<(), Fault> {
+    takes_none(
+        rt,
+        "GarbageCollector::add_storage, GarbageCollector::add_slice_storage, GarbageCollector::distinct",
+    );
+    ensure(GarbageCollector::distinct(&make_storages(alloc)))?;
+    prepares(rt);
+    let mut storages = make_storages(alloc);
+    let known = match fill(alloc, &mut storages) {
+        Ok(known) => known,
+        Err(_) => {
+            storages = make_storages(alloc);
+            fill(alloc, &mut storages)?
+        }
+    };
+    check_collector(rt, alloc, &storages, known)?;
+    check_interning(rt, alloc, &mut storages.first.second, known)?;
+    check_release(rt, &mut storages.first.second, known)
+}
+
+fn make_storages(alloc: Global) -> Storages {
+    let nodes = InternStorage::with_limits(alloc, 1, LIMITS);
+    let family = GarbageCollector::add_storage(NoStorages, nodes);
+    GarbageCollector::add_slice_storage(family, InternSliceStorage::new(alloc, 2))
+}
+
+// Stores three nodes and a slice. A collection removes the first node.
+fn fill(alloc: Global, storages: &mut Storages) -> Result<Known, Fault> {
+    let nodes = &mut storages.first.second;
+    let gone = intern(alloc, nodes, 0, &[])?;
+    let owned = intern(alloc, nodes, 1, &[])?;
+    drop(owned.to_owned(nodes)?);
+    let node = intern(alloc, nodes, TAG, &[owned])?;
+    let (slice, _) = InternedSlice::from_header_and_slice(&mut storages.second, 5, &[node])?;
+    let foreign = intern(alloc, &mut InternStorage::new(alloc, 3), 0, &[])?;
+    collect(alloc, storages, slice)?;
+    Ok(Known {
+        node,
+        owned,
+        gone,
+        foreign,
+        slice,
+    })
+}
+
+// Keeps what the slice reaches, and what is owned.
+fn collect(
+    alloc: Global,
+    storages: &mut Storages,
+    slice: InternedSliceRef<NodeSlice>,
+) -> Result<(), Fault> {
+    if !GarbageCollector::distinct(storages) {
+        return Err(Fault::Wrong);
+    }
+    GarbageCollector::new(alloc).collect_keeping(storages, &[slice.name()])?;
+    Ok(())
+}
+
+fn intern(
+    alloc: Global,
+    nodes: &mut InternStorage<Node>,
+    tag: u64,
+    children: &[InternedRef<Node>],
+) -> Result<InternedRef<Node>, Fault> {
+    let (reference, _) = Interned::new_gc(nodes, make_node(alloc, tag, children)?)?;
+    Ok(reference)
+}
+
+// A collector before and after it registers the storages.
+fn check_collector(
+    rt: &impl Eprint,
+    alloc: Global,
+    storages: &Storages,
+    known: Known,
+) -> Result<(), Fault> {
+    takes_none(rt, "GarbageCollector::new");
+    let mut gc = GarbageCollector::new(alloc);
+    check_marks(rt, &mut gc, known, false)?;
+    prepares(rt);
+    register(&mut gc, storages)?;
+    check_marks(rt, &mut gc, known, true)
+}
+
+// Registers the storages, at the second try where the first is refused.
+fn register(gc: &mut GarbageCollector, storages: &Storages) -> Result<(), Fault> {
+    if !GarbageCollector::distinct(storages) {
+        return Err(Fault::Wrong);
+    }
+    if gc.register(storages).is_err() {
+        gc.register(storages)?;
+    }
+    Ok(())
+}
+
+// Makes mark calls, after each of which the entry is marked if it joins.
+fn check_marks(
+    rt: &impl Eprint,
+    gc: &mut GarbageCollector,
+    known: Known,
+    joins: bool,
+) -> Result<(), Fault> {
+    takes_none(rt, "GarbageCollector::mark_interned_alive");
+    ensure(has_joined(gc.mark_interned_alive(known.node)) == joins)?;
+    ensure(!has_joined(gc.mark_interned_alive(known.node)))?;
+    ensure(!has_joined(gc.mark_interned_alive(known.owned)))?;
+    ensure(!has_joined(gc.mark_interned_alive(known.gone)))?;
+    ensure(!has_joined(gc.mark_interned_alive(known.foreign)))?;
+    takes_none(rt, "GarbageCollector::mark_interned_slice_alive");
+    ensure(has_joined(gc.mark_interned_slice_alive(known.slice)) == joins)?;
+    ensure(!has_joined(gc.mark_interned_slice_alive(known.slice)))?;
+    takes_none(rt, "GarbageCollector::is_marked");
+    ensure(gc.is_marked(known.node.name()) == joins)?;
+    ensure(gc.is_marked(known.slice.name()) == joins)?;
+    ensure(!gc.is_marked(known.gone.name()) && !gc.is_marked(known.foreign.name()))?;
+    takes_none(rt, "GarbageCollector::visits, GarbageCollector::mark_calls");
+    ensure(gc.visits() == 0 && gc.mark_calls() == 7)
+}
+
+// Whether a mark call marked an entry.
+fn has_joined(answer: ControlFlow<()>) -> bool {
+    answer == ControlFlow::Continue(())
+}
+
+// A node to offer, at the second try where the first is refused.
+fn offer(alloc: Global, tag: u64, child: InternedRef<Node>) -> Result<Node, AllocError> {
+    match make_node(alloc, tag, &[child]) {
+        Ok(node) => Ok(node),
+        Err(_) => make_node(alloc, tag, &[child]),
+    }
+}
+
+// A node that is stored, and one that isn't, while all births are given.
+fn check_interning(
+    rt: &impl Eprint,
+    alloc: Global,
+    nodes: &mut InternStorage<Node>,
+    known: Known,
+) -> Result<(), Fault> {
+    prepares(rt);
+    let stored = offer(alloc, TAG, known.owned)?;
+    takes_none(rt, "Interned::new_gc");
+    let (again, back) = Interned::new_gc(nodes, stored)?;
+    ensure(again == known.node)?;
+    ensure(matches!(&back, Some(node) if node.tag == TAG))?;
+    prepares(rt);
+    let new = offer(alloc, TAG + 1, known.owned)?;
+    takes_none(rt, "Interned::new_gc");
+    let back = gives_back(Interned::new_gc(nodes, new), Refusal::NumbersUsedUp)?;
+    ensure(back.tag == TAG + 1)
+}
+
+// The last release of a node, which stays.
+fn check_release(
+    rt: &impl Eprint,
+    nodes: &mut InternStorage<Node>,
+    known: Known,
+) -> Result<(), Fault> {
+    takes_none(rt, "Interned::release, in collected mode");
+    let last = Interned::from_raw(nodes, known.owned.as_raw())?;
+    ensure(last.release(nodes)?.is_none() && known.owned.get(nodes).is_some())
+}

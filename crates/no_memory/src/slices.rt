@@ -1,0 +1,242 @@
+//! Storages of slices.
+use crate::fault::{Fault, ensure, gives_back, is_refused};
+use crate::marks::{prepares, takes_none};
+use intern_fixtures::StringSlice;
+use ra_ap_intern::{
+    GarbageCollector, HeaderSlice, InternSliceStorage, InternedSlice, InternedSliceRef, Limits,
+    NoStorages, Pair, Refusal,
+};
+use std::alloc::{AllocError, Global};
+
+/// The items of each slice. Their headers are the texts below.
+const ITEMS: &[u32] = &[1, 2, 3];
+
+/// The header of a slice that is stored, and counted once.
+const LIVE: &str = "counted once";
+
+/// Of one whose count is at its limit.
+const FULL: &str = "at its limit";
+
+/// Of one that is stored, and that nothing counts.
+const ZERO: &str = "not counted";
+
+/// Of one that was stored, and is gone.
+const GONE: &str = "gone";
+
+/// The limits of the storage, which gives its last birth to the last of these.
+const LIMITS: Limits = Limits { top: 2, numbers: 4 };
+
+type Storage = InternSliceStorage<StringSlice>;
+
+type Handle = InternedSlice<StringSlice>;
+
+type Reference = InternedSliceRef<StringSlice>;
+
+/// A handle of each slice, and one of another storage.
+#[derive(Drop)]
+struct Handles {
+    live: Handle,
+    full: Handle,
+    zero: Handle,
+    gone: Handle,
+    foreign: Handle,
+}
+
+/// Checks each call.
+pub(crate) fn check(rt: &impl Eprint, alloc: Global) -> Result<(), Fault> {
+    check_making(rt, alloc)?;
+    prepares(rt);
+    let (mut storage, handles) = match make(alloc) {
+        Ok(made) => made,
+        Err(_) => make(alloc)?,
+    };
+    check_storage(rt, alloc, &storage, &handles)?;
+    check_reads(rt, &storage, &handles)?;
+    check_interning(rt, alloc, &mut storage, &handles)?;
+    check_owning(rt, &mut storage, &handles)?;
+    check_lowering(rt, &mut storage, &handles)?;
+    check_release(rt, &mut storage, handles)
+}
+
+// A storage in which the slices were stored, and from which a collection removed one.
+fn make(alloc: Global) -> Result<(Storage, Handles), Fault> {
+    let storage = InternSliceStorage::with_limits(alloc, 1, LIMITS);
+    let mut family = GarbageCollector::add_slice_storage(NoStorages, storage);
+    let handles = fill(alloc, &mut family.second)?;
+    if !GarbageCollector::distinct(&family) {
+        return Err(Fault::Wrong);
+    }
+    GarbageCollector::new(alloc).collect(&mut family)?;
+    let Pair {
+        first: _,
+        second: mut storage,
+    } = family;
+    handles.zero.as_ref().decrement_refcount(&mut storage)?;
+    Ok((storage, handles))
+}
+
+fn fill(alloc: Global, storage: &mut Storage) -> Result<Handles, Fault> {
+    let live = intern(alloc, storage, LIVE)?.to_owned(storage)?;
+    let full = intern(alloc, storage, FULL)?.to_owned(storage)?;
+    drop(full.clone(storage)?);
+    let zero = intern(alloc, storage, ZERO)?.to_owned(storage)?;
+    let gone = intern(alloc, storage, GONE)?.to_owned(storage)?;
+    gone.as_ref().decrement_refcount(storage)?;
+    let mut other = InternSliceStorage::new(alloc, 2);
+    let foreign = intern(alloc, &mut other, LIVE)?.to_owned(&mut other)?;
+    Ok(Handles {
+        live,
+        full,
+        zero,
+        gone,
+        foreign,
+    })
+}
+
+fn intern(alloc: Global, storage: &mut Storage, text: &str) -> Result<Reference, Fault> {
+    let header = String::from_str(alloc, text)?;
+    let (reference, _) = InternedSlice::from_header_and_slice(storage, header, ITEMS)?;
+    Ok(reference)
+}
+
+fn check_making(rt: &impl Eprint, alloc: Global) -> Result<(), Fault> {
+    takes_none(rt, "InternSliceStorage::new");
+    ensure(InternSliceStorage::<StringSlice>::new(alloc, 1).is_empty())?;
+    takes_none(rt, "InternSliceStorage::with_limits");
+    ensure(InternSliceStorage::<StringSlice>::with_limits(alloc, 1, LIMITS).is_empty())
+}
+
+// A header to offer, at the second try where the first is refused.
+fn offer(alloc: Global, text: &str) -> Result<String, AllocError> {
+    match String::from_str(alloc, text) {
+        Ok(text) => Ok(text),
+        Err(_) => String::from_str(alloc, text),
+    }
+}
+
+fn check_storage(
+    rt: &impl Eprint,
+    alloc: Global,
+    storage: &Storage,
+    handles: &Handles,
+) -> Result<(), Fault> {
+    prepares(rt);
+    let live = offer(alloc, LIVE)?;
+    takes_none(
+        rt,
+        "InternSliceStorage::number, InternSliceStorage::len, InternSliceStorage::is_empty",
+    );
+    ensure(storage.number() == 1 && storage.len() == 3 && !storage.is_empty())?;
+    takes_none(rt, "InternSliceStorage::get");
+    ensure(
+        storage.get(&live, ITEMS) == Some(handles.live.as_ref()) && storage.get(&live, &[]) == None,
+    )?;
+    takes_none(rt, "InternSliceStorage::iter");
+    ensure(storage.iter().count() == 3)?;
+    takes_none(rt, "InternSliceStorage::count");
+    ensure(
+        storage.count(handles.full.as_ref()) == Some(2)
+            && storage.count(handles.gone.as_ref()) == None
+            && storage.count(handles.foreign.as_ref()) == None,
+    )
+}
+
+// Whether a slice was read that has this header.
+fn is_slice(read: Option<HeaderSlice<'_, String, u32>>, text: &str) -> bool {
+    match read {
+        Some(read) => {
+            read.header.header.as_str() == text
+                && read.header.length == ITEMS.len()
+                && read.slice == ITEMS
+        }
+        None => false,
+    }
+}
+
+fn check_reads(rt: &impl Eprint, storage: &Storage, handles: &Handles) -> Result<(), Fault> {
+    takes_none(rt, "InternedSlice::get");
+    ensure(
+        is_slice(handles.live.get(storage), LIVE)
+            && handles.gone.get(storage).is_none()
+            && handles.foreign.get(storage).is_none(),
+    )?;
+    takes_none(rt, "InternedSlice::as_ref, InternedSliceRef::get");
+    ensure(
+        is_slice(handles.zero.as_ref().get(storage), ZERO)
+            && handles.gone.as_ref().get(storage).is_none()
+            && handles.foreign.as_ref().get(storage).is_none(),
+    )?;
+    takes_none(rt, "InternedSliceRef::name");
+    let (gone, foreign) = (handles.gone.as_ref(), handles.foreign.as_ref());
+    ensure(gone.name().birth == 3 && foreign.name().storage == 2)?;
+    takes_none(rt, "comparisons of handles of slices");
+    ensure(handles.live != handles.foreign && gone < foreign)
+}
+
+// A slice that is stored, and one that isn't, while all births are given.
+fn check_interning(
+    rt: &impl Eprint,
+    alloc: Global,
+    storage: &mut Storage,
+    handles: &Handles,
+) -> Result<(), Fault> {
+    prepares(rt);
+    let zero = offer(alloc, ZERO)?;
+    takes_none(rt, "InternedSlice::from_header_and_slice");
+    let (again, back) = InternedSlice::from_header_and_slice(storage, zero, ITEMS)?;
+    ensure(again == handles.zero.as_ref())?;
+    ensure(matches!(&back, Some(header) if header.as_str() == ZERO))?;
+    prepares(rt);
+    let gone = offer(alloc, GONE)?;
+    takes_none(rt, "InternedSlice::from_header_and_slice");
+    let answer = InternedSlice::from_header_and_slice(storage, gone, ITEMS);
+    ensure(gives_back(answer, Refusal::NumbersUsedUp)?.as_str() == GONE)
+}
+
+fn check_owning(rt: &impl Eprint, storage: &mut Storage, handles: &Handles) -> Result<(), Fault> {
+    takes_none(rt, "InternedSlice::clone");
+    ensure(handles.live.clone(storage)? == handles.live)?;
+    is_refused(handles.foreign.clone(storage), Refusal::Foreign)?;
+    is_refused(handles.gone.clone(storage), Refusal::Gone)?;
+    is_refused(handles.full.clone(storage), Refusal::CountFull)?;
+    takes_none(rt, "InternedSliceRef::to_owned");
+    ensure(handles.zero.as_ref().to_owned(storage)? == handles.zero)?;
+    is_refused(handles.foreign.as_ref().to_owned(storage), Refusal::Foreign)?;
+    is_refused(handles.gone.as_ref().to_owned(storage), Refusal::Gone)?;
+    is_refused(handles.full.as_ref().to_owned(storage), Refusal::CountFull)
+}
+
+// Takes back what `check_owning` counted.
+fn check_lowering(rt: &impl Eprint, storage: &mut Storage, handles: &Handles) -> Result<(), Fault> {
+    takes_none(rt, "InternedSliceRef::decrement_refcount");
+    handles.live.as_ref().decrement_refcount(storage)?;
+    handles.zero.as_ref().decrement_refcount(storage)?;
+    is_refused(
+        handles.foreign.as_ref().decrement_refcount(storage),
+        Refusal::Foreign,
+    )?;
+    is_refused(
+        handles.gone.as_ref().decrement_refcount(storage),
+        Refusal::Gone,
+    )?;
+    is_refused(
+        handles.zero.as_ref().decrement_refcount(storage),
+        Refusal::CountZero,
+    )
+}
+
+fn check_release(rt: &impl Eprint, storage: &mut Storage, handles: Handles) -> Result<(), Fault> {
+    let Handles {
+        live,
+        full: _,
+        zero,
+        gone,
+        foreign,
+    } = handles;
+    takes_none(rt, "InternedSlice::release");
+    live.release(storage)?;
+    gives_back(foreign.release(storage), Refusal::Foreign)?;
+    gives_back(gone.release(storage), Refusal::Gone)?;
+    gives_back(zero.release(storage), Refusal::CountZero)?;
+    Ok(())
+}

@@ -1,0 +1,234 @@
+//! Tables of texts, symbols, and the numbered lists.
+use crate::fault::{Fault, ensure, gives_back, is_refused};
+use crate::marks::{prepares, takes_none};
+use ra_ap_intern::sym::{Integer, RaGeneratedName};
+use ra_ap_intern::{Limits, Refusal, Symbol, SymbolTable, sym};
+use std::alloc::Global;
+
+/// A text that is stored, and counted once. Like the next two it is longer than lies in an entry.
+const LIVE: &str = "a text of more than 24 bytes that is counted once";
+
+/// One whose count is at its limit.
+const FULL: &str = "a text of more than 24 bytes whose count is at its limit";
+
+/// One that was stored, and is gone.
+const GONE: &str = "a text of more than 24 bytes that is gone";
+
+/// A number whose digits and whose generated name are stored, and counted once.
+const NUMBER: usize = 300;
+
+/// A number of which neither is stored.
+const NEW: usize = 301;
+
+/// The limits of the table, which gives its last birth to the last of these.
+const LIMITS: Limits = Limits { top: 2, numbers: 5 };
+
+/// A symbol of each text, and one of another table.
+#[derive(Drop)]
+struct Symbols {
+    live: Symbol,
+    full: Symbol,
+    gone: Symbol,
+    integer: Symbol,
+    generated: Symbol,
+    foreign: Symbol,
+}
+
+/// Checks each call.
+pub(crate) fn check(rt: &impl Eprint, alloc: Global) -> Result<(), Fault> {
+    check_making(rt, alloc)?;
+    prepares(rt);
+    let mut table = SymbolTable::with_limits(alloc, 1, LIMITS);
+    let mut symbols = match fill(alloc, &mut table) {
+        Ok(symbols) => symbols,
+        Err(_) => {
+            table = SymbolTable::with_limits(alloc, 1, LIMITS);
+            fill(alloc, &mut table)?
+        }
+    };
+    check_table(rt, &table, &symbols)?;
+    check_reads(rt, &table, &symbols)?;
+    check_presets(rt, &mut table)?;
+    check_interning(rt, &mut table, &symbols)?;
+    check_integers(rt, &mut table, &symbols)?;
+    check_generated(rt, &mut table, &symbols)?;
+    check_owning(rt, &mut table, &symbols)?;
+    check_lowering(rt, &mut table, &mut symbols)?;
+    check_release(rt, &mut table, symbols)
+}
+
+// Stores the texts.
+fn fill(alloc: Global, table: &mut SymbolTable) -> Result<Symbols, Fault> {
+    let live = Symbol::intern(table, LIVE)?;
+    let full = Symbol::intern(table, FULL)?;
+    drop(full.clone(table)?);
+    let integer = Integer::get(table, NUMBER)?;
+    let generated = RaGeneratedName::get(table, NUMBER)?;
+    let mut gone = Symbol::intern(table, GONE)?;
+    gone.decrease_refcount(table)?;
+    let foreign = Symbol::intern(&mut SymbolTable::new(alloc, 2), LIVE)?;
+    Ok(Symbols {
+        live,
+        full,
+        gone,
+        integer,
+        generated,
+        foreign,
+    })
+}
+
+fn check_making(rt: &impl Eprint, alloc: Global) -> Result<(), Fault> {
+    takes_none(rt, "SymbolTable::new");
+    ensure(SymbolTable::new(alloc, 1).is_empty())?;
+    takes_none(rt, "SymbolTable::with_limits");
+    ensure(SymbolTable::with_limits(alloc, 1, LIMITS).is_empty())
+}
+
+fn check_table(rt: &impl Eprint, table: &SymbolTable, symbols: &Symbols) -> Result<(), Fault> {
+    takes_none(
+        rt,
+        "SymbolTable::number, SymbolTable::len, SymbolTable::is_empty",
+    );
+    ensure(table.number() == 1 && table.len() == 4 && !table.is_empty())?;
+    takes_none(rt, "SymbolTable::get");
+    ensure(
+        table.get(LIVE) == Some(symbols.live.as_ref())
+            && table.get("Clone") == Some(sym::Clone.as_ref())
+            && table.get(GONE) == None,
+    )?;
+    takes_none(rt, "SymbolTable::iter");
+    ensure(table.iter().count() == 4)?;
+    takes_none(rt, "SymbolTable::count");
+    ensure(
+        table.count(&symbols.full) == Some(2)
+            && table.count(&sym::Clone) == None
+            && table.count(&symbols.gone) == None
+            && table.count(&symbols.foreign) == None,
+    )
+}
+
+fn check_reads(rt: &impl Eprint, table: &SymbolTable, symbols: &Symbols) -> Result<(), Fault> {
+    takes_none(rt, "Symbol::as_str");
+    ensure(
+        symbols.live.as_str(table) == Some(LIVE)
+            && symbols.gone.as_str(table) == None
+            && symbols.foreign.as_str(table) == None,
+    )?;
+    takes_none(rt, "Symbol::as_ref, SymbolRef::as_str");
+    ensure(
+        symbols.full.as_ref().as_str(table) == Some(FULL)
+            && symbols.gone.as_ref().as_str(table) == None
+            && symbols.foreign.as_ref().as_str(table) == None,
+    )?;
+    takes_none(rt, "Symbol::name, SymbolRef::name");
+    ensure(symbols.foreign.name() == symbols.foreign.as_ref().name() && sym::Clone.name() == None)?;
+    takes_none(rt, "comparisons of symbols");
+    ensure(symbols.live != symbols.foreign && symbols.live != symbols.full)?;
+    takes_none(rt, "Integer::as_uint");
+    ensure(
+        Integer::as_uint(&symbols.integer, table) == Some(NUMBER)
+            && Integer::as_uint(&symbols.generated, table) == None
+            && Integer::as_uint(&symbols.gone, table) == None,
+    )
+}
+
+// Presets, of which no table keeps anything.
+fn check_presets(rt: &impl Eprint, table: &mut SymbolTable) -> Result<(), Fault> {
+    takes_none(rt, "calls on presets");
+    ensure(Symbol::empty() == sym::_empty_sym)?;
+    let mut symbol = Symbol::intern(table, "Clone")?;
+    ensure(symbol == sym::Clone && symbol.as_str(table) == Some("Clone"))?;
+    ensure(symbol.clone(table)? == sym::Clone)?;
+    ensure(symbol.as_ref().to_owned(table)? == sym::Clone)?;
+    symbol.decrease_refcount(table)?;
+    symbol.release(table)?;
+    takes_none(rt, "Integer::get and RaGeneratedName::get, up to 255");
+    for number in 0..256 {
+        ensure(Integer::as_uint(&Integer::get(table, number)?, table) == Some(number))?;
+        ensure(RaGeneratedName::get(table, number)?.name() == None)?;
+    }
+    Ok(())
+}
+
+// Texts that are stored, and one that isn't, while all births are given.
+fn check_interning(
+    rt: &impl Eprint,
+    table: &mut SymbolTable,
+    symbols: &Symbols,
+) -> Result<(), Fault> {
+    takes_none(rt, "Symbol::intern");
+    let mut again = Symbol::intern(table, LIVE)?;
+    ensure(again == symbols.live)?;
+    again.decrease_refcount(table)?;
+    is_refused(Symbol::intern(table, FULL), Refusal::CountFull)?;
+    is_refused(Symbol::intern(table, GONE), Refusal::NumbersUsedUp)
+}
+
+// The same of digits. At the end their count is at its limit.
+fn check_integers(
+    rt: &impl Eprint,
+    table: &mut SymbolTable,
+    symbols: &Symbols,
+) -> Result<(), Fault> {
+    takes_none(rt, "Integer::get");
+    ensure(Integer::get(table, NUMBER)? == symbols.integer)?;
+    is_refused(Integer::get(table, NUMBER), Refusal::CountFull)?;
+    is_refused(Integer::get(table, NEW), Refusal::NumbersUsedUp)
+}
+
+// The same of generated names.
+fn check_generated(
+    rt: &impl Eprint,
+    table: &mut SymbolTable,
+    symbols: &Symbols,
+) -> Result<(), Fault> {
+    takes_none(rt, "RaGeneratedName::get");
+    ensure(RaGeneratedName::get(table, NUMBER)? == symbols.generated)?;
+    is_refused(RaGeneratedName::get(table, NUMBER), Refusal::CountFull)?;
+    is_refused(RaGeneratedName::get(table, NEW), Refusal::NumbersUsedUp)
+}
+
+fn check_owning(rt: &impl Eprint, table: &mut SymbolTable, symbols: &Symbols) -> Result<(), Fault> {
+    takes_none(rt, "Symbol::clone");
+    ensure(symbols.live.clone(table)? == symbols.live)?;
+    is_refused(symbols.foreign.clone(table), Refusal::Foreign)?;
+    is_refused(symbols.gone.clone(table), Refusal::Gone)?;
+    is_refused(symbols.full.clone(table), Refusal::CountFull)?;
+    takes_none(rt, "SymbolRef::to_owned");
+    is_refused(symbols.live.as_ref().to_owned(table), Refusal::CountFull)?;
+    is_refused(symbols.foreign.as_ref().to_owned(table), Refusal::Foreign)?;
+    is_refused(symbols.gone.as_ref().to_owned(table), Refusal::Gone)
+}
+
+// Takes back what `check_owning` counted, and what interning the number counted.
+fn check_lowering(
+    rt: &impl Eprint,
+    table: &mut SymbolTable,
+    symbols: &mut Symbols,
+) -> Result<(), Fault> {
+    takes_none(rt, "Symbol::decrease_refcount");
+    symbols.live.decrease_refcount(table)?;
+    symbols.integer.decrease_refcount(table)?;
+    is_refused(symbols.foreign.decrease_refcount(table), Refusal::Foreign)?;
+    is_refused(symbols.gone.decrease_refcount(table), Refusal::Gone)?;
+    takes_none(rt, "SymbolRef::to_owned");
+    ensure(symbols.integer.as_ref().to_owned(table)? == symbols.integer)
+}
+
+fn check_release(rt: &impl Eprint, table: &mut SymbolTable, symbols: Symbols) -> Result<(), Fault> {
+    let Symbols {
+        live,
+        full,
+        gone,
+        integer: _,
+        generated: _,
+        foreign,
+    } = symbols;
+    takes_none(rt, "Symbol::release");
+    full.release(table)?;
+    live.release(table)?;
+    ensure(table.get(LIVE) == None)?;
+    gives_back(foreign.release(table), Refusal::Foreign)?;
+    gives_back(gone.release(table), Refusal::Gone)?;
+    Ok(())
+}

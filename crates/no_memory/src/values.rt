@@ -1,0 +1,243 @@
+//! Storages of values, in counted mode.
+use crate::fault::{Fault, ensure, gives_back, is_refused};
+use crate::marks::{prepares, takes_none};
+use ra_ap_intern::{InternStorage, Interned, InternedRef, Limits, Refusal, Text};
+use std::alloc::{AllocError, Global};
+
+/// A text that is stored, and counted once. Like the others it is longer than lies in an entry.
+const LIVE: &str = "a text of more than 24 bytes that is counted once";
+
+/// One whose count is at its limit.
+const FULL: &str = "a text of more than 24 bytes whose count is at its limit";
+
+/// One that is stored, and that nothing counts.
+const ZERO: &str = "a text of more than 24 bytes that is not counted";
+
+/// One that was stored, and is gone.
+const GONE: &str = "a text of more than 24 bytes that is gone";
+
+/// The limits of the storage, which gives its last birth to the last of these.
+const LIMITS: Limits = Limits { top: 2, numbers: 4 };
+
+type Storage = InternStorage<Text>;
+
+type Handle = Interned<Text>;
+
+/// A handle of each text, and one of another storage.
+#[derive(Drop)]
+struct Handles {
+    live: Handle,
+    full: Handle,
+    zero: Handle,
+    gone: Handle,
+    foreign: Handle,
+}
+
+/// Checks each call.
+pub(crate) fn check(rt: &impl Eprint, alloc: Global) -> Result<(), Fault> {
+    check_making(rt, alloc)?;
+    prepares(rt);
+    let mut storage = InternStorage::with_limits(alloc, 1, LIMITS);
+    let handles = match fill(alloc, &mut storage) {
+        Ok(handles) => handles,
+        Err(_) => {
+            storage = InternStorage::with_limits(alloc, 1, LIMITS);
+            fill(alloc, &mut storage)?
+        }
+    };
+    check_storage(rt, alloc, &storage, &handles)?;
+    check_reads(rt, &storage, &handles)?;
+    check_births(rt, &storage, &handles)?;
+    check_interning(rt, alloc, &mut storage, &handles)?;
+    check_owning(rt, &mut storage, &handles)?;
+    check_lowering(rt, &mut storage, &handles)?;
+    check_release(rt, &mut storage, handles)
+}
+
+// Stores the texts.
+fn fill(alloc: Global, storage: &mut Storage) -> Result<Handles, Fault> {
+    let live = intern(alloc, storage, LIVE)?;
+    let full = intern(alloc, storage, FULL)?;
+    drop(full.clone(storage)?);
+    let zero = intern(alloc, storage, ZERO)?;
+    zero.as_ref().decrement_refcount(storage)?;
+    let gone = intern(alloc, storage, GONE)?;
+    drop(Interned::from_raw(storage, 3)?.release(storage)?);
+    let foreign = intern(alloc, &mut InternStorage::new(alloc, 2), LIVE)?;
+    Ok(Handles {
+        live,
+        full,
+        zero,
+        gone,
+        foreign,
+    })
+}
+
+fn intern(alloc: Global, storage: &mut Storage, text: &str) -> Result<Handle, Fault> {
+    let (handle, _) = Interned::new(storage, Text::new(alloc, text)?)?;
+    Ok(handle)
+}
+
+fn check_making(rt: &impl Eprint, alloc: Global) -> Result<(), Fault> {
+    takes_none(rt, "InternStorage::new");
+    ensure(InternStorage::<Text>::new(alloc, 1).is_empty())?;
+    takes_none(rt, "InternStorage::with_limits");
+    ensure(InternStorage::<Text>::with_limits(alloc, 1, LIMITS).is_empty())?;
+    takes_none(rt, "Text::new of a short text, Text::as_str");
+    ensure(Text::new(alloc, "short")?.as_str() == "short")?;
+    takes_none(rt, "Refusal::number");
+    ensure(Refusal::Foreign.number() == 1 && Refusal::OutOfMemory.number() == 6)
+}
+
+// A text to offer, at the second try where the first is refused.
+fn offer(alloc: Global, text: &str) -> Result<Text, AllocError> {
+    match Text::new(alloc, text) {
+        Ok(text) => Ok(text),
+        Err(_) => Text::new(alloc, text),
+    }
+}
+
+fn check_storage(
+    rt: &impl Eprint,
+    alloc: Global,
+    storage: &Storage,
+    handles: &Handles,
+) -> Result<(), Fault> {
+    prepares(rt);
+    let live = offer(alloc, LIVE)?;
+    let gone = offer(alloc, GONE)?;
+    takes_none(
+        rt,
+        "InternStorage::number, InternStorage::len, InternStorage::is_empty",
+    );
+    ensure(storage.number() == 1 && storage.len() == 3 && !storage.is_empty())?;
+    takes_none(rt, "InternStorage::get");
+    ensure(storage.get(&live) == Some(handles.live.as_ref()) && storage.get(&gone) == None)?;
+    takes_none(rt, "InternStorage::iter");
+    ensure(storage.iter().count() == 3)?;
+    takes_none(rt, "InternStorage::count");
+    ensure(
+        storage.count(handles.full.as_ref()) == Some(2)
+            && storage.count(handles.gone.as_ref()) == None
+            && storage.count(handles.foreign.as_ref()) == None,
+    )
+}
+
+// Whether a text was read, if one is to be.
+fn is_text(read: Option<&Text>, text: Option<&str>) -> bool {
+    match (read, text) {
+        (Some(read), Some(text)) => read.as_str() == text,
+        (None, None) => true,
+        _ => false,
+    }
+}
+
+fn check_reads(rt: &impl Eprint, storage: &Storage, handles: &Handles) -> Result<(), Fault> {
+    takes_none(rt, "Interned::get");
+    ensure(
+        is_text(handles.live.get(storage), Some(LIVE))
+            && is_text(handles.gone.get(storage), None)
+            && is_text(handles.foreign.get(storage), None),
+    )?;
+    takes_none(rt, "Interned::as_ref, InternedRef::get");
+    ensure(
+        is_text(handles.zero.as_ref().get(storage), Some(ZERO))
+            && is_text(handles.gone.as_ref().get(storage), None)
+            && is_text(handles.foreign.as_ref().get(storage), None),
+    )?;
+    takes_none(rt, "InternedRef::as_raw, InternedRef::name");
+    let (gone, foreign) = (handles.gone.as_ref(), handles.foreign.as_ref());
+    ensure(gone.as_raw() == 3 && gone.name().birth == 3 && foreign.name().storage == 2)?;
+    takes_none(rt, "comparisons of handles");
+    ensure(handles.live != handles.foreign && gone < foreign)
+}
+
+fn check_births(rt: &impl Eprint, storage: &Storage, handles: &Handles) -> Result<(), Fault> {
+    takes_none(rt, "Interned::from_raw");
+    ensure(Interned::from_raw(storage, 0)? == handles.live)?;
+    is_refused(Interned::from_raw(storage, 2), Refusal::CountZero)?;
+    is_refused(Interned::from_raw(storage, 3), Refusal::Gone)?;
+    takes_none(rt, "InternedRef::from_raw");
+    ensure(InternedRef::from_raw(storage, 2)? == handles.zero.as_ref())?;
+    is_refused(InternedRef::from_raw(storage, 3), Refusal::Gone)
+}
+
+// Texts that are stored, and one that isn't, while all births are given.
+fn check_interning(
+    rt: &impl Eprint,
+    alloc: Global,
+    storage: &mut Storage,
+    handles: &Handles,
+) -> Result<(), Fault> {
+    prepares(rt);
+    let live = offer(alloc, LIVE)?;
+    takes_none(rt, "Interned::new");
+    let (again, back) = Interned::new(storage, live)?;
+    ensure(again == handles.live && is_text(back.as_ref(), Some(LIVE)))?;
+    again.as_ref().decrement_refcount(storage)?;
+    check_no_interning(rt, alloc, storage, FULL, Refusal::CountFull)?;
+    check_no_interning(rt, alloc, storage, GONE, Refusal::NumbersUsedUp)
+}
+
+fn check_no_interning(
+    rt: &impl Eprint,
+    alloc: Global,
+    storage: &mut Storage,
+    text: &'static str,
+    why: Refusal,
+) -> Result<(), Fault> {
+    prepares(rt);
+    let offered = offer(alloc, text)?;
+    takes_none(rt, "Interned::new");
+    let back = gives_back(Interned::new(storage, offered), why)?;
+    ensure(back.as_str() == text)
+}
+
+fn check_owning(rt: &impl Eprint, storage: &mut Storage, handles: &Handles) -> Result<(), Fault> {
+    takes_none(rt, "Interned::clone");
+    ensure(handles.live.clone(storage)? == handles.live)?;
+    is_refused(handles.foreign.clone(storage), Refusal::Foreign)?;
+    is_refused(handles.gone.clone(storage), Refusal::Gone)?;
+    is_refused(handles.full.clone(storage), Refusal::CountFull)?;
+    takes_none(rt, "InternedRef::to_owned");
+    ensure(handles.zero.as_ref().to_owned(storage)? == handles.zero)?;
+    is_refused(handles.foreign.as_ref().to_owned(storage), Refusal::Foreign)?;
+    is_refused(handles.gone.as_ref().to_owned(storage), Refusal::Gone)?;
+    is_refused(handles.full.as_ref().to_owned(storage), Refusal::CountFull)
+}
+
+// Takes back what `check_owning` counted.
+fn check_lowering(rt: &impl Eprint, storage: &mut Storage, handles: &Handles) -> Result<(), Fault> {
+    takes_none(rt, "InternedRef::decrement_refcount");
+    handles.live.as_ref().decrement_refcount(storage)?;
+    handles.zero.as_ref().decrement_refcount(storage)?;
+    is_refused(
+        handles.foreign.as_ref().decrement_refcount(storage),
+        Refusal::Foreign,
+    )?;
+    is_refused(
+        handles.gone.as_ref().decrement_refcount(storage),
+        Refusal::Gone,
+    )?;
+    is_refused(
+        handles.zero.as_ref().decrement_refcount(storage),
+        Refusal::CountZero,
+    )
+}
+
+fn check_release(rt: &impl Eprint, storage: &mut Storage, handles: Handles) -> Result<(), Fault> {
+    let Handles {
+        live,
+        full,
+        zero,
+        gone,
+        foreign,
+    } = handles;
+    takes_none(rt, "Interned::release");
+    ensure(full.release(storage)?.is_none())?;
+    ensure(is_text(live.release(storage)?.as_ref(), Some(LIVE)))?;
+    gives_back(foreign.release(storage), Refusal::Foreign)?;
+    gives_back(gone.release(storage), Refusal::Gone)?;
+    gives_back(zero.release(storage), Refusal::CountZero)?;
+    Ok(())
+}
