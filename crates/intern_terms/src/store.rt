@@ -262,7 +262,11 @@ impl TermStore {
 fn names_of(alloc: Global, terms: &[TermRef]) -> Result<Vec<Name>, AllocError>
     ensures { IfOk result (λ names. names.items ≡ list_map term_name terms.now) }
 {
-    terms.iter().map(|term| term.name()).collect(alloc)
+    let mut names = Vec::with_capacity(alloc, terms.len())?;
+    for term in terms {
+        names.push(term.name())?;
+    }
+    Ok(names)
 }
 
 impl Term {
