@@ -22,9 +22,9 @@ impl Internable for Outer {
 
 impl GcInternedVisit for Outer {
     ghost use Rattle.std.specs.Prelude.{◌∷◌};
-    ghost use Rattle.ra_ap_intern.specs.Slices.{slice_ref_name};
+    ghost use Rattle.ra_ap_intern.specs.Handle.{ref_name};
 
-    ghost children = { λ outer. slice_ref_name outer.0 ∷ [] };
+    ghost children = { λ outer. ref_name outer.0 ∷ [] };
 
     fn visit_with(&self, gc: &mut GarbageCollector) {
         let _ = gc.mark_interned_slice_alive(self.0);
@@ -43,9 +43,9 @@ impl Internable for Link {
 
 impl GcInternedVisit for Link {
     ghost use Rattle.std.specs.Prelude.{map, option_to_list};
-    ghost use Rattle.ra_ap_intern.specs.Slices.{slice_ref_name};
+    ghost use Rattle.ra_ap_intern.specs.Handle.{ref_name};
 
-    ghost children = { λ link. map slice_ref_name (option_to_list link.0) };
+    ghost children = { λ link. map ref_name (option_to_list link.0) };
 
     fn visit_with(&self, gc: &mut GarbageCollector) {
         if let Some(slice) = self.0 {

@@ -166,11 +166,11 @@ impl SliceInternable for VisitedSlice {
 
 impl GcInternedSliceVisit for VisitedSlice {
     ghost use Rattle.std.specs.Prelude.{map, []};
-    ghost use Rattle.ra_ap_intern.specs.Slices.{slice_ref_name};
+    ghost use Rattle.ra_ap_intern.specs.Handle.{ref_name};
 
     ghost header_children = { λ _. [] };
 
-    ghost slice_children = { λ items. map slice_ref_name items };
+    ghost slice_children = { λ items. map ref_name items };
 
     fn visit_header(header: &Visits, _gc: &mut GarbageCollector) {
         header.add_one();

@@ -132,11 +132,11 @@ impl SliceInternable for Bare {
 
 impl GcInternedSliceVisit for Bare {
     ghost use Rattle.std.specs.Prelude.{[], map};
-    ghost use Rattle.ra_ap_intern.specs.Slices.{slice_ref_name};
+    ghost use Rattle.ra_ap_intern.specs.Handle.{ref_name};
 
     ghost header_children = { λ _. [] };
 
-    ghost slice_children = { λ items. map (λ item. slice_ref_name item.slice) items };
+    ghost slice_children = { λ items. map (λ item. ref_name item.slice) items };
 
     fn visit_header(_header: &Symbol, _gc: &mut GarbageCollector) {}
 

@@ -3,10 +3,9 @@ use Rattle.std.specs.Prelude.{◌≡◌, ℕ, ◌+◌, Bool, true, false, ◌==�
 use Rattle.std.specs.Coded.{Coded, code_by, coded×, coded_ℕ}
 use Rattle.std.specs.List.{slice_index_or}
 use Rattle.ra_ap_intern.specs.Name.{Name}
-use Rattle.ra_ap_intern.specs.Registry.{same_name}
+use Rattle.ra_ap_intern.specs.Named.{same_name}
 use Rattle.ra_ap_intern.specs.Handle.{name_of, ref_name}
-use Rattle.ra_ap_intern.specs.Slices.{slice_name, slice_ref_name}
-use Rattle.ra_ap_intern.specs.Symbols.{Named, symbol_name}
+use Rattle.ra_ap_intern.specs.Symbols.{Named, same_named, symbol_name}
 use Rattle.ra_ap_intern.specs.Symbols.Named.{preset, entry}
 use Rattle.intern_calls.specs.declared.slot.Slot.{Slot}
 use Rattle.intern_calls.specs.declared.slot.Slot.TheVariants as slot
@@ -30,8 +29,8 @@ seen (slot.Counted h) = owned counted (name_of h)
 seen (slot.CountedRef r) = reference counted (ref_name r)
 seen (slot.Value h) = owned values (name_of h)
 seen (slot.ValueRef r) = reference values (ref_name r)
-seen (slot.Slice h) = owned slices (slice_name h)
-seen (slot.SliceRef r) = reference slices (slice_ref_name r)
+seen (slot.Slice h) = owned slices (name_of h)
+seen (slot.SliceRef r) = reference slices (ref_name r)
 seen (slot.Symbol s) = symbol (symbol_name s)
 
 -- what the slot of a number holds; one that isn't there holds nothing
@@ -43,11 +42,6 @@ same_home counted counted = true
 same_home values values = true
 same_home slices slices = true
 same_home _ _ = false
-
-abbrev pub same_named : Named → Named → Bool
-same_named (preset p) (preset q) = p == q
-same_named (entry n) (entry m) = same_name n m
-same_named _ _ = false
 
 -- whether two handles are equal, where they are of one kind
 abbrev pub same_in : Bool → Name → Name → Option Bool

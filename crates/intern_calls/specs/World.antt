@@ -4,7 +4,7 @@ use Rattle.std.specs.Coded.{Coded, code_by, coded×, coded_list, coded_ℕ}
 use Rattle.ra_ap_intern.specs.Families.{entries_of, kept_named, sliced_children}
 use Rattle.ra_ap_intern.specs.Name.{Name}
 use Rattle.ra_ap_intern.specs.Reach.{Entry}
-use Rattle.ra_ap_intern.specs.Collector.{has}
+use Rattle.ra_ap_intern.specs.Names.{has}
 use Rattle.ra_ap_intern.specs.Sliced.{Sliced, sliced_eq, sliced_code}
 use Rattle.ra_ap_intern.specs.State.{State, state_code}
 use Rattle.intern_calls.specs.Held.{Held, held_code}

@@ -10,7 +10,7 @@ use Rattle.slab.specs.Slab.{Slab, get, Updates}
 use Rattle.intern_store.proofs.Compared.{get-inserted, get-removed}
 use Rattle.intern_buckets.specs.Leading.{leads}
 use Rattle.intern_buckets.specs.declared.buckets.Buckets.{Buckets}
-use Rattle.intern_index.specs.IndexEntry.{IndexEntry}
+use Rattle.intern_index.specs.IndexEntry.{IndexEntry, with_payload}
 use Rattle.intern_index.specs.Entries.{seen, held, birth_at, IsTied}
 use Rattle.intern_index.specs.declared.entry.Entry.{Entry}
 use Rattle.intern_index.proofs.Held.{entry_there, birth_there, updated, seen_at}
@@ -117,6 +117,16 @@ module _ {T N : Type 0} (s new : Slab (Entry T N)) (t : Buckets) (IsFor : (ℕ �
         updated s new key b (Some e) (insert (held s.slots) b (seen key e)) tied.apart updates alone was
         (λ d is. ap (λ (e : Entry T N). e.birth) (sym (same_Some _ _ is)) ∙ birth) (get-inserted (held s.slots) b (seen key e))
         ∙ ap (λ n. insert n b (seen key e)) view
+
+    -- the map with another payload of the entry at a place
+    pub repaid_seen : (f : N → N) (d e : Entry T N) → get s key ≡ Some d → d.birth ≡ b → e ≡ record d { payload = f d.payload } → Updates s new key (Some e) → held new.slots ≡ with_payload f m b (map_get m b)
+    repaid_seen f d e there birth is updates =
+        let at = birth_there s key b d there birth in
+        let entry = ap (option_map (seen key)) (sym there) ∙ seen_at s m view tied.apart key b at in
+        written_seen e (ap (λ (e : Entry T N). e.birth) is ∙ birth) (λ p had. tied.apart p key b had at)
+        (λ x had. ap (λ (e : Entry T N). e.birth) (same_Some _ _ (sym had ∙ there)) ∙ birth) updates
+        ∙ ap (λ x. insert m b (seen key x)) is
+        ∙ ap (with_payload f m b) entry
 
 -- a birth that isn't there is not missed
 pub unremoved : {X : Type 0} (m : FinMap nat_cmp X) (b : ℕ) → map_get m b ≡ None → m ≡ remove m b

@@ -7,7 +7,6 @@ use Rattle.std.proofs.lemmas.Bool.{eq-eqb}
 use Rattle.std.proofs.lemmas.Option.{same_Some}
 use Rattle.intern_store.specs.Kept.{Kept, is_at, recounted}
 use Rattle.intern_store.proofs.Compared.{get-inserted, get-removed, get-retained}
-use Rattle.intern_store.specs.declared.names.Spot.{Spot}
 use Rattle.intern_index.specs.IndexEntry.{IndexEntry, has_hash, is_sought, with_payload}
 use Rattle.intern_store.specs.Maps.{map_values}
 use Rattle.intern_index.specs.Seen.{IsHashed}
@@ -21,6 +20,10 @@ settled false listed up down = refl
 pub ok_then : {X E Q : Type 0} {P : X → Type 0} (r : Result X E) → ((x : X) → P x → Q) → IfOk r P → OnOk r Q
 ok_then (Ok x) f p = f x p
 ok_then (Err e) f p = p
+
+pub some_then : {X E : Type 0} {P Q : X → Type 0} (o : Option X) (e : E) → ((x : X) → P x → Q x) → IfSome o P → IfOk (ok_or o e) Q
+some_then None e f p = p
+some_then (Some x) e f p = f x p
 
 module _ {T N V : Type 0} (entry : IndexEntry T N → Kept V) where
   module _ (m : FinMap nat_cmp (IndexEntry T N)) (k : FinMap nat_cmp (Kept V)) (view : map_values entry m ≡ k) where
@@ -84,6 +87,12 @@ module _ {T N V : Type 0} (entry : IndexEntry T N → Kept V) where
                 ∙ ap (λ x. insert x b (entry (record r { payload = f r.payload }))) view
                 ∙ ap (insert k b) (counts r)
 
+    -- the same, where it is changed only if there is one to change
+    pub found_hashed : {X : Type 0} (f : N → N) (g : ℕ → ℕ) (counts : (r : IndexEntry T N) → entry (record r { payload = f r.payload }) ≡ record (entry r) { count = g (entry r).count }) (m n : FinMap nat_cmp (IndexEntry T N)) (k : FinMap nat_cmp (Kept V)) → map_values entry m ≡ k
+        → (birth : X → ℕ) (o : Option X) → IfSome o (λ x. n ≡ with_payload f m (birth x) (get m (birth x))) → IfNone o (n ≡ m) → IsHashed entry hash m → IsHashed entry hash n
+    found_hashed f g counts m n k view birth None changed same is = subst (IsHashed entry hash) (sym same) is
+    found_hashed f g counts m n k view birth (Some x) changed same is = changed_hashed f g counts m n k (birth x) view changed is
+
     -- a search among the rows of a hash, seen as one among all entries
     module _ (fits : T → N → Bool) (eq : V → V → Bool) (v : V) (same : (r : IndexEntry T N) → fits r.value r.payload ≡ eq v (entry r).value) (alike : (x : V) → eq v x ≡ true → hash v ≡ hash x)
         (m : FinMap nat_cmp (IndexEntry T N)) (k : FinMap nat_cmp (Kept V)) (is : IsHashed entry hash m) (view : map_values entry m ≡ k)
@@ -104,10 +113,9 @@ module _ {T N V : Type 0} (entry : IndexEntry T N → Kept V) where
             go None at e = absurd (cc)
             go (Some r) at e = eq-eqb (hash v) r.hash (alike (entry r).value e ∙ sym (is.hashed b r at))
 
-        pub finds : (o : Option Spot) (h : ℕ) → IfSome o (λ s. is_sought fits (get m s.birth) ≡ true) → IfOk (ok_or o h) (λ s. is_at eq v (get k s.birth) ≡ true)
-        finds None h has = has
-        finds (Some s) h has = sym (sought_seen s.birth) ∙ has
+        pub finds : {X : Type 0} (birth : X → ℕ) (o : Option X) (h : ℕ) → IfSome o (λ x. is_sought fits (get m (birth x)) ≡ true) → IfOk (ok_or o h) (λ x. is_at eq v (get k (birth x)) ≡ true)
+        finds birth o h = some_then o h (λ x has. sym (sought_seen (birth x)) ∙ has)
 
-        pub finds_none : (o : Option Spot) (h : ℕ) → h ≡ hash v → IfNone o ((b : ℕ) → has_hash h (get m b) ≡ true → is_sought fits (get m b) ≡ false) → OnErr (ok_or o h) ((b : ℕ) → is_at eq v (get k b) ≡ false)
+        pub finds_none : {X : Type 0} (o : Option X) (h : ℕ) → h ≡ hash v → IfNone o ((b : ℕ) → has_hash h (get m b) ≡ true → is_sought fits (get m b) ≡ false) → OnErr (ok_or o h) ((b : ℕ) → is_at eq v (get k b) ≡ false)
         finds_none None h hashes apart = λ b. settled _ _ (λ equal. ap (λ x. has_hash x (get m b)) hashes ∙ candidate b equal) (λ has. sym (sought_seen b) ∙ apart b has)
-        finds_none (Some s) h hashes apart = apart
+        finds_none (Some x) h hashes apart = apart

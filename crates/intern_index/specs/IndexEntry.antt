@@ -1,8 +1,9 @@
 -- What an index has under a birth.
 use Rattle.std.specs.Prelude.{ℕ, Bool, false, Option, Some, None, refl, nat_eq}
 use Rattle.std.specs.Ordering.{nat_cmp}
-use Rattle.std.specs.FinMap.{FinMap, insert}
+use Rattle.std.specs.FinMap.{FinMap}
 use Rattle.std.specs.Coded.{Coded, code_by, coded×, coded_ℕ}
+use Rattle.intern_store.specs.Maps.{modify}
 
 -- a place, a hash and a value, which never change, and a payload, which may
 pub record IndexEntry (T N : Type 0) : Type 0 where
@@ -30,5 +31,4 @@ is_sought fits (Some e) = fits e.value e.payload
 -- with another payload of a birth that has an entry
 abbrev pub with_payload : {T N : Type 0} → (N → N) → FinMap nat_cmp (IndexEntry T N) → ℕ
     → Option (IndexEntry T N) → FinMap nat_cmp (IndexEntry T N)
-with_payload f m b None = m
-with_payload f m b (Some e) = insert m b (record e { payload = f e.payload })
+with_payload f = modify (λ e. record e { payload = f e.payload })

@@ -18,7 +18,7 @@ use crate::query::{OfHash, Query};
 use crate::sweep::keep_marked;
 use crate::tables::Tables;
 use intern_buckets::{PLACES, search};
-use intern_store::{Marks, Spot};
+use intern_store::{Keeps, Spot};
 use slab::Slab;
 use std::alloc::Global;
 use std::marker::Model;
@@ -205,6 +205,41 @@ impl<T, N: Copy, B: Births> Index<T, N, B> {
         Some(Spot { birth, place })
     }
 
+    /// Changes the payload of an entry of a hash that fits a query, and answers where the entry
+    /// lies, and the payload before. Only entries of that hash are looked at.
+    pub fn find_and_change<Q: Query<T, N>, C: Change<N>>(
+        &mut self,
+        hash: u64,
+        query: &Q,
+        change: &C,
+    ) -> Option<(Spot, N)>
+        ensures found { IfSome result (λ r.
+            is_sought (Q.fits query.now) (map.get self.old r.0.birth) ≡ true) }
+        ensures place { IfSome result (λ r.
+            option_map (λ e. e.place) (map.get self.old r.0.birth) ≡ Some r.0.place) }
+        ensures hash { IfSome result (λ r.
+            has_hash hash (map.get self.old r.0.birth) ≡ true) }
+        ensures payload { IfSome result (λ r.
+            option_map (λ e. e.payload) (map.get self.old r.0.birth) ≡ Some r.1) }
+        ensures state { IfSome result (λ r. let entry = map.get self.old r.0.birth in
+            self.new ≡ with_payload (C.changed change.now) self.old r.0.birth entry) }
+        ensures none { IfNone result ((b : ℕ) → has_hash hash (map.get self.old b) ≡ true →
+            is_sought (Q.fits query.now) (map.get self.old b) ≡ false) }
+        ensures same { IfNone result (self.new ≡ self.old) }
+    {
+        let test = OfHash {
+            slots: &self.slots,
+            hash,
+            query,
+        };
+        let place = search(&self.tables.by_hash, hash, &test)?;
+        let entry = &mut self.slots[place];
+        let birth = entry.birth;
+        let payload = entry.payload;
+        entry.payload = change.changed(payload);
+        Some((Spot { birth, place }, payload))
+    }
+
     /// The entries, in the order of their places.
     pub fn iter(&self) -> Iter<'_, T, N>
         ensures { IsPermutation result (listed self.now) }
@@ -215,7 +250,7 @@ impl<T, N: Copy, B: Births> Index<T, N, B> {
     }
 
     /// Drops every entry that isn't marked. It takes no memory.
-    pub fn keep<M: Marks>(&mut self, marks: &M)
+    pub fn keep<M: Keeps>(&mut self, marks: &M)
     where
         T: Drop,
         ensures { self.new ≡ map.retain_keys self.old (M.marked marks.now) }

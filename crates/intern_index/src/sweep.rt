@@ -4,11 +4,11 @@ ghost use Rattle.slab.specs.Slab.{get};
 ghost use Rattle.intern_index.specs.Swept.{if_marked};
 
 use crate::entry::Entry;
-use intern_store::{Marks, Spot};
+use intern_store::{Keeps, Spot};
 use slab::Slab;
 
 /// Keeps the entries of marked births, each at its place. It takes no memory.
-pub(crate) fn keep_marked<T: Drop, N: Copy, M: Marks>(slots: &mut Slab<Entry<T, N>>, marks: &M)
+pub(crate) fn keep_marked<T: Drop, N: Copy, M: Keeps>(slots: &mut Slab<Entry<T, N>>, marks: &M)
     ensures { (p : ℕ) → get slots.new p ≡ if_marked (M.marked marks.now) (get slots.old p) }
 {
     for place in 0..slots.capacity() {

@@ -3,7 +3,7 @@ ghost use Rattle.std.specs.Prelude.{ℕ, ◌<◌, ◌==◌, nat_lt, true, IsSome
 ghost use Rattle.std.specs.FinMap as map;
 
 use crate::{BirthOrder, BirthTable, Births, Index, Offer, Query};
-use intern_store::{Marks, Spot};
+use intern_store::{Keeps, Spot};
 use std::alloc::Global;
 use std::cell::Cell;
 use std::process::Abort;
@@ -32,7 +32,7 @@ impl Query<u64, u64> for Number {
 #[derive(Clone, Copy)]
 struct Below(u64);
 
-impl Marks for Below {
+impl Keeps for Below {
     ghost marked = { λ m b. nat_lt b m.0 };
 
     fn is_marked(&self, spot: Spot) -> bool {
@@ -47,7 +47,7 @@ struct Placed<'a> {
     asked: Cell<usize>,
 }
 
-impl Marks for Placed<'_> {
+impl Keeps for Placed<'_> {
     ghost marked = { λ m b. true };
 
     fn is_marked(&self, spot: Spot) -> bool {
@@ -115,7 +115,7 @@ impl<B: Births> Numbers<B> {
     }
 
     // Keeps the numbers that are marked.
-    fn keep<M: Marks>(&mut self, marks: &M) {
+    fn keep<M: Keeps>(&mut self, marks: &M) {
         self.index.keep(marks);
     }
 

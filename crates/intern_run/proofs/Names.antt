@@ -4,10 +4,10 @@ use Rattle.std.specs.Prelude.{slice_set}
 use Rattle.std.specs.Option.{option_map}
 use Rattle.std.proofs.lemmas.List.{map-set}
 use Rattle.ra_ap_intern.specs.Handle.{name_of}
-use Rattle.ra_ap_intern.specs.declared.intern.Interned.{Interned}
+use Rattle.ra_ap_intern.specs.declared.storage.Owned.{Owned}
 use Rattle.intern_run.specs.Slots.{names, handle_at}
 
-pub names-set : {V : Type 0} (slots more : List (Option (Interned V))) (n : ℕ) (o : Option (Interned V)) → more ≡ slice_set slots n o
+pub names-set : {K : Type 0} (slots more : List (Option (Owned K))) (n : ℕ) (o : Option (Owned K)) → more ≡ slice_set slots n o
     → names more ≡ slice_set (names slots) n (option_map name_of o)
 names-set slots more n o set = ap names set ∙ map-set (option_map name_of) slots n o
 

@@ -1,5 +1,5 @@
 -- The answers to the lines of a text.
-use Rattle.std.specs.Prelude.{ℕ, ◌^◌, ◌-◌, List, [], ◌∷◌, ◌++◌, length, Bool, false, ◌==◌, ◌&&◌, if◌then◌else◌}
+use Rattle.std.specs.Prelude.{ℕ, ◌^◌, ◌-◌, List, [], ◌∷◌, ◌++◌, length, Bool, false, ◌==◌, if◌then◌else◌}
 use Rattle.std.specs.Prelude.{Option, None, Some, codes, slice_set, refl}
 use Rattle.std.specs.Coded.{Coded, code_by, coded×, coded_list, coded_option, coded_ℕ}
 use Rattle.std.specs.FinMap as map
@@ -11,6 +11,7 @@ use Rattle.ra_ap_intern.specs.State.{State, state_code, new_state, name_in, read
 use Rattle.ra_ap_intern.specs.State.{due, due_interning, full, zero_count, freed, released}
 use Rattle.ra_ap_intern.specs.Symbols.{count_of, symbol_in, due_symbol}
 use Rattle.ra_ap_intern.specs.Name.{Name}
+use Rattle.ra_ap_intern.specs.Named.{same_name}
 use Rattle.ra_ap_intern.specs.Refusal.{Refusal}
 use Rattle.ra_ap_intern.specs.Refusal.TheVariants.{CountFull, NumbersUsedUp}
 use Rattle.intern_run.specs.Lines.{is_space, has_space, lines}
@@ -115,9 +116,6 @@ abbrev pub read_reply : SessionState → Name → Reply
 read_reply s h = (s, read_text (reads s.texts h))
 
 -- `same N M`
-abbrev pub same_name : Name → Name → Bool
-same_name h k = h.storage == k.storage && h.birth == k.birth
-
 abbrev pub same_text : Bool → List ℕ
 same_text same = if same then codes "yes" else codes "no"
 

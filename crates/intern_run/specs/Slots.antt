@@ -4,7 +4,7 @@ use Rattle.std.specs.Coded.{Coded, code_by, coded×, coded_ℕ}
 use Rattle.std.specs.Option.{option_map}
 use Rattle.ra_ap_intern.specs.Handle.{name_of}
 use Rattle.ra_ap_intern.specs.Name.{Name}
-use Rattle.ra_ap_intern.specs.declared.intern.Interned.{Interned}
+use Rattle.ra_ap_intern.specs.declared.storage.Owned.{Owned}
 
 abbrev pub name_code : Coded Name
 name_code =
@@ -12,7 +12,7 @@ name_code =
     (λ n. (n.storage, n.birth)) (λ p. record { storage = p.0; birth = p.1 }) (λ _. refl)
 
 -- the names of the handles
-abbrev pub names : {V : Type 0} → List (Option (Interned V)) → List (Option Name)
+abbrev pub names : {K : Type 0} → List (Option (Owned K)) → List (Option Name)
 names slots = map (option_map name_of) slots
 
 -- what a slot holds: nothing where it is empty or isn't there

@@ -74,13 +74,24 @@ module _ {V : Type 0} (eq : V → V → Bool) where
       go (Some k) hb e None hc f = absurd (cc)
       go (Some k) hb e (Some l) hc f = ok.apart b c k l hb hc (sym (laws.congr v k.value l.value e) ∙ f)
 
+  -- the birth of a value that an entry has
+  pub birth_found : IsEquivalence eq → (s t : State V) → s ≡ t → IsState eq s → (v : V) (b : ℕ) → is_at eq v (get s.map b) ≡ true → birth_of eq t v ≡ Some b
+  birth_found laws s t view ok v b found = ap (λ x. birth_of eq x v) (sym view) ∙ go (birth_of eq s v) refl
+    where
+      go : (o : Option ℕ) → birth_of eq s v ≡ o → o ≡ Some b
+      go None is = let no = not_stored s v is b in absurd (cc)
+      go (Some c) is = ap Some (one laws s ok v c b (is_stored s v c is) found)
+
+  -- and of one that none has
+  pub birth_unfound : (s t : State V) → s ≡ t → (v : V) → ((b : ℕ) → is_at eq v (get s.map b) ≡ false) → birth_of eq t v ≡ None
+  birth_unfound s t view v none = ap (λ x. birth_of eq x v) (sym view) ∙ go (birth_of eq s v) refl
+    where
+      go : (o : Option ℕ) → birth_of eq s v ≡ o → o ≡ None
+      go None is = refl
+      go (Some c) is = let yes = is_stored s v c is in let no = none c in absurd (cc)
+
   -- what a search finds is the birth of the value
   pub birth_is : {X E : Type 0} (birth : X → ℕ) → IsEquivalence eq → (s t : State V) → s ≡ t → IsState eq s → (v : V) (r : Result X E)
       → IfOk r (λ x. is_at eq v (get s.map (birth x)) ≡ true) → OnErr r ((b : ℕ) → is_at eq v (get s.map b) ≡ false) → option_map birth (result_ok r) ≡ birth_of eq t v
-  birth_is {X} {E} birth laws s t view ok v r found none = go r (birth_of eq s v) refl found none ∙ ap (λ x. birth_of eq x v) view
-    where
-      go : (r : Result X E) (o : Option ℕ) → birth_of eq s v ≡ o → IfOk r (λ x. is_at eq v (get s.map (birth x)) ≡ true) → OnErr r ((b : ℕ) → is_at eq v (get s.map b) ≡ false) → option_map birth (result_ok r) ≡ o
-      go (Err e) None is found none = refl
-      go (Err e) (Some c) is found none = let yes = is_stored s v c is in let no = none c in absurd (cc)
-      go (Ok x) None is found none = let no = not_stored s v is (birth x) in absurd (cc)
-      go (Ok x) (Some c) is found none = ap Some (one laws s ok v (birth x) c found (is_stored s v c is))
+  birth_is birth laws s t view ok v (Ok x) found none = sym (birth_found laws s t view ok v (birth x) found)
+  birth_is birth laws s t view ok v (Err e) found none = sym (birth_unfound s t view v none)

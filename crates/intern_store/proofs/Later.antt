@@ -1,60 +1,144 @@
--- A birth that is gone stays gone.
-use Rattle.std.proofs.Common.{◌≡◌, ◌≢◌, ℕ, ◌+◌, ◌-◌, Bool, true, false, cond, Option, Some, None, refl, ap, ◌∙◌, arith}
+-- What a later state of a storage has of an earlier one.
+use Rattle.std.proofs.Common.{◌≡◌, ℕ, ◌+◌, ◌-◌, ◌<◌, ◌≤◌, ◌==◌, Bool, true, false, cond, Option, Some, None, nat_eq, ◌⊎◌, inl, inr, refl, ap, ◌∙◌, arith}
 use Rattle.std.specs.FinMap as map
+use Rattle.std.specs.Option.{option_map}
 use Rattle.std.proofs.lemmas.Bool.{ne_eqb}
-use Rattle.intern_store.specs.Kept.{Kept}
-use Rattle.intern_store.specs.State.{State, IsGone, entry_at, with_count, counted_up, counted_down, birth_of, or_added, interned, taken, is_last, released, kept}
-use Rattle.intern_store.proofs.Compared.{get-inserted, get-removed, get-retained}
+use Rattle.intern_store.specs.Kept.{Kept, recount}
+use Rattle.intern_store.specs.State.{State, IsGone, entry_at, reads, with_count, counted_up, counted_down, added, birth_of, or_added, interned, taken, is_last, released, kept}
+use Rattle.intern_store.specs.declared.names.Name.{Name}
+use Rattle.intern_store.proofs.Compared.{get-inserted, get-removed, get-retained, get-modified}
 
 module _ {V : Type 0} where
-  -- an entry that is written at another birth
-  elsewhere : (s : State V) (c b : ℕ) (k : Kept V) → b ≢ c → entry_at s b ≡ None → map.get (map.insert s.map c k) b ≡ None
-  elsewhere s c b k differs none =
-      get-inserted s.map c k b ∙ ap (λ t. cond t (Some k) (map.get s.map b)) (ne_eqb b c differs) ∙ none
+  -- the value of the entry of a birth
+  abbrev pub value_at : State V → ℕ → Option V
+  value_at s b = option_map (λ k. k.value) (entry_at s b)
 
-  recounted_gone : (f : ℕ → ℕ) (s : State V) (c b : ℕ) → IsGone s b → IsGone (with_count f s c (entry_at s c)) b
-  recounted_gone f s c b gone = go (entry_at s c) refl
+  pub neither : (t : Bool) → ◌≡◌ {A = Option V} (cond t None None) None
+  neither true = refl
+  neither false = refl
+
+  -- a count changes no value
+  pub recounted_value : (f : ℕ → ℕ) (s : State V) (b c : ℕ) → value_at (with_count f s b (entry_at s b)) c ≡ value_at s c
+  recounted_value f s b c = ap (option_map (λ k. k.value)) (get-modified (recount f) s.map b c) ∙ go (nat_eq c b) (entry_at s c)
     where
-      go : (o : Option (Kept V)) → entry_at s c ≡ o → IsGone (with_count f s c o) b
-      go None at = gone
-      go (Some k) at = record {
-        given = gone.given;
-        none = elsewhere s c b _ (λ same. let none = gone.none in let here : entry_at s b ≡ Some k = ap (entry_at s) same ∙ at in cc) gone.none;
-      }
+      go : (t : Bool) (o : Option (Kept V)) → option_map (λ k. k.value) (cond t (option_map (recount f) o) o) ≡ option_map (λ k. k.value) o
+      go false o = refl
+      go true None = refl
+      go true (Some k) = refl
 
-  pub counted_up_gone : (s : State V) (c b : ℕ) → IsGone s b → IsGone (counted_up s c) b
-  counted_up_gone s c b gone = recounted_gone (λ n. n + 1) s c b gone
+  -- what a later state of a storage has of an earlier one
+  pub record Later (s t : State V) : Type 0 where
+    pub number : t.number ≡ s.number
+    pub births : s.next ≤ t.next
+    pub values : (b : ℕ) → b < s.next → (value_at t b ≡ value_at s b) ⊎ (value_at t b ≡ None)
 
-  pub counted_down_gone : (s : State V) (c b : ℕ) → IsGone s b → IsGone (counted_down s c) b
-  counted_down_gone s c b gone = recounted_gone (λ n. n - 1) s c b gone
+  pub later_itself : (s : State V) → Later s s
+  later_itself s = record { number = refl; births = omega arith; values = λ b h. inl refl }
 
-  pub interned_gone : (eq : V → V → Bool) (s : State V) (v : V) (b : ℕ) → IsGone s b → IsGone (interned eq s v).state b
-  interned_gone eq s v b gone = go (birth_of eq s v)
+  pub later_later : (s t u : State V) → Later s t → Later t u → Later s u
+  later_later s t u p q = record {
+    number = q.number ∙ p.number;
+    births = let a = p.births in let b = q.births in omega arith;
+    values = λ b h.
+        let k = p.births in
+        let lt : b < t.next = omega arith in
+        elim (q.values b lt) [
+          | inr none ↦ inr none
+          | inl is ↦ elim (p.values b h) [
+            | inl first ↦ inl (is ∙ first)
+            | inr none ↦ inr (is ∙ none)
+          ]
+        ];
+  }
+
+  recounted_later : (f : ℕ → ℕ) (s : State V) (c : ℕ) → Later s (with_count f s c (entry_at s c))
+  recounted_later f s c = record {
+    number = refl;
+    births = omega arith;
+    values = λ b h. inl (recounted_value f s c b);
+  }
+
+  pub counted_up_later : (s : State V) (c : ℕ) → Later s (counted_up s c)
+  counted_up_later s c = recounted_later (λ n. n + 1) s c
+
+  pub counted_down_later : (s : State V) (c : ℕ) → Later s (counted_down s c)
+  counted_down_later s c = recounted_later (λ n. n - 1) s c
+
+  taken_later : (s : State V) (c : ℕ) → Later s (taken s c)
+  taken_later s c = record {
+    number = refl;
+    births = omega arith;
+    values = λ b h. rw (get-removed s.map c b) (either b (nat_eq b c));
+  }
     where
-      go : (o : Option ℕ) → IsGone (or_added o s v).state b
-      go (Some c) = gone
-      go None = record {
-        given = let below = gone.given in omega arith;
-        none = elsewhere s s.next b _ (λ same. let below = gone.given in omega arith) gone.none;
-      }
+      either : (b : ℕ) (t : Bool)
+          → (option_map (λ (e : Kept V). e.value) (cond t None (map.get s.map b)) ≡ value_at s b)
+          ⊎ (option_map (λ (e : Kept V). e.value) (cond t None (map.get s.map b)) ≡ None)
+      either b true = inr refl
+      either b false = inl refl
 
-  taken_gone : (s : State V) (c b : ℕ) → IsGone s b → IsGone (taken s c) b
-  taken_gone s c b gone = record { given = gone.given; none = get-removed s.map c b ∙ either _ }
+  pub kept_later : (s : State V) (marked : ℕ → Bool) → Later s (kept s marked)
+  kept_later s marked = record {
+    number = refl;
+    births = omega arith;
+    values = λ b h. rw (get-retained s.map marked b) (either b (marked b));
+  }
     where
-      either : (t : Bool) → cond t None (map.get s.map b) ≡ None
-      either true = refl
-      either false = gone.none
+      either : (b : ℕ) (t : Bool)
+          → (option_map (λ (e : Kept V). e.value) (cond t (map.get s.map b) None) ≡ value_at s b)
+          ⊎ (option_map (λ (e : Kept V). e.value) (cond t (map.get s.map b) None) ≡ None)
+      either b true = inl refl
+      either b false = inr refl
 
-  pub kept_gone : (s : State V) (marked : ℕ → Bool) (b : ℕ) → IsGone s b → IsGone (kept s marked) b
-  kept_gone s marked b gone = record { given = gone.given; none = get-retained s.map marked b ∙ either _ }
-    where
-      either : (t : Bool) → cond t (map.get s.map b) None ≡ None
-      either true = gone.none
-      either false = refl
+  added_later : (s : State V) (v : V) → Later s (added s v)
+  added_later s v = record {
+    number = refl;
+    births = omega arith;
+    values = λ b h. inl (ap (option_map (λ (e : Kept V). e.value)) (get-inserted s.map s.next _ b
+        ∙ ap (λ t. cond t (Some (record { value = v; count = 0 })) (map.get s.map b))
+        (ne_eqb b s.next (λ same. omega arith))));
+  }
 
-  pub released_gone : (stays : Bool) (s : State V) (c b : ℕ) → IsGone s b → IsGone (released stays s c) b
-  released_gone stays s c b gone = go (is_last stays s c)
+  pub interned_later : (eq : V → V → Bool) (s : State V) (v : V) → Later s (interned eq s v).state
+  interned_later eq s v = go (birth_of eq s v)
     where
-      go : (t : Bool) → IsGone (cond t (taken s c) (counted_down s c)) b
-      go true = taken_gone s c b gone
-      go false = counted_down_gone s c b gone
+      go : (o : Option ℕ) → Later s (or_added o s v).state
+      go (Some b) = later_itself s
+      go None = added_later s v
+
+  pub released_later : (stays : Bool) (s : State V) (c : ℕ) → Later s (released stays s c)
+  released_later stays s c = go (is_last stays s c)
+    where
+      go : (t : Bool) → Later s (cond t (taken s c) (counted_down s c))
+      go true = taken_later s c
+      go false = counted_down_later s c
+
+  pub interned_counted_later : (eq : V → V → Bool) (s : State V) (v : V)
+      → Later s (counted_up (interned eq s v).state (interned eq s v).birth)
+  interned_counted_later eq s v =
+      later_later s (interned eq s v).state _ (interned_later eq s v)
+      (counted_up_later (interned eq s v).state (interned eq s v).birth)
+
+  -- what a name whose birth was given reads later is what it read, or nothing
+  pub reads_later : (s t : State V) → Later s t → (name : Name) → name.birth < s.next
+      → (reads t name ≡ reads s name) ⊎ (reads t name ≡ None)
+  reads_later s t later name given = elim (later.values name.birth given) [
+    | inl same ↦ inl (ap (λ k. cond (name.storage == k) (value_at t name.birth) None) later.number
+        ∙ ap (λ o. cond (name.storage == s.number) o None) same)
+    | inr none ↦ inr (ap (λ o. cond (name.storage == t.number) o None) none
+        ∙ neither (name.storage == t.number))
+  ]
+
+  -- what is gone stays gone
+  pub gone_later : (s t : State V) → Later s t → (b : ℕ) → IsGone s b → IsGone t b
+  gone_later s t later b gone = record {
+    given = let below = gone.given in let more = later.births in omega arith;
+    none = no_entry (entry_at t b) (elim (later.values b gone.given) [
+      | inl same ↦ same ∙ ap (option_map (λ k. k.value)) gone.none
+      | inr none ↦ none
+    ]);
+  }
+    where
+      no_entry : (o : Option (Kept V)) → option_map (λ k. k.value) o ≡ None → o ≡ None
+      no_entry None is = refl
+      no_entry (Some k) is = absurd (cc)

@@ -3,6 +3,7 @@ pub mod Compared
 pub mod Later
 pub mod Listing
 pub mod Maps
+pub mod Named
 pub mod Sorted
 pub mod States
 mod Births

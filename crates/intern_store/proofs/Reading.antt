@@ -1,35 +1,20 @@
 -- What is read after a change.
-use Rattle.std.proofs.Common.{◌≡◌, inl, inr, ℕ, ◌==◌, Bool, true, cond, Option, Some, None, nat_eq, refl, sym, ap, ◌∙◌}
+use Rattle.std.proofs.Common.{◌≡◌, ℕ, ◌==◌, Bool, true, cond, Option, Some, None, refl, ap, ◌∙◌}
 use Rattle.std.specs.Option.{option_map}
 use Rattle.std.specs.Cmp.{IsEquivalence}
 use Rattle.std.specs.FinMap as map
-use Rattle.std.proofs.lemmas.Bool.{cases_eq, eq-eqb, ne_eqb}
+use Rattle.std.proofs.lemmas.Bool.{eq-eqb}
 use Rattle.intern_store.specs.Kept.{Kept, is_at}
 use Rattle.intern_store.specs.State.{State, entry_at, name_in, reads, with_count, added, birth_of, or_added, interned, interned_name}
 use Rattle.intern_store.specs.declared.names.Name.{Name}
 use Rattle.intern_store.proofs.Births.{is_stored}
 use Rattle.intern_store.proofs.Compared.{get-inserted}
+use Rattle.intern_store.proofs.Later.{recounted_value}
 
 module _ {V : Type 0} where
-  -- a count changes no value
+  -- a count changes nothing that is read
   pub recounted_reads : (f : ℕ → ℕ) (s : State V) (b : ℕ) (n : Name) → reads (with_count f s b (entry_at s b)) n ≡ reads s n
-  recounted_reads f s b n = go (entry_at s b) refl
-    where
-      value : Option (Kept V) → Option V
-      value = option_map (λ k. k.value)
-
-      go : (o : Option (Kept V)) → entry_at s b ≡ o → reads (with_count f s b o) n ≡ reads s n
-      go None at = refl
-      go (Some k) at = ap (λ o. cond (n.storage == s.number) o None) (ap value (get-inserted s.map b (record k { count = f k.count }) n.birth) ∙ same)
-        where
-          same : value (cond (nat_eq n.birth b) (Some (record k { count = f k.count })) (entry_at s n.birth)) ≡ value (entry_at s n.birth)
-          same =
-              elim (cases_eq n.birth b) [
-                | inl here ↦
-                    ap (λ t. value (cond t (Some (record k { count = f k.count })) (entry_at s n.birth))) (eq-eqb n.birth b here)
-                    ∙ sym (ap value (ap (entry_at s) here ∙ at))
-                | inr elsewhere ↦ ap (λ t. value (cond t (Some (record k { count = f k.count })) (entry_at s n.birth))) (ne_eqb n.birth b elsewhere)
-              ]
+  recounted_reads f s b n = ap (λ o. cond (n.storage == s.number) o None) (recounted_value f s b n.birth)
 
   -- the name of an entry reads its value
   pub entry_reads : (s : State V) (b : ℕ) (k : Kept V) → entry_at s b ≡ Some k → reads s (name_in s b) ≡ Some k.value

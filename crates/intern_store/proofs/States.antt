@@ -1,15 +1,18 @@
 -- What a storage keeps true of its entries.
 use Rattle.std.proofs.Common.{◌≡◌, ◌≢◌, inl, inr, ℕ, ◌+◌, ◌-◌, ◌==◌, not, ◌&&◌, ◌<◌, ◌≤◌, subst, Bool, true, false, cond, Option, Some, None, IsSome, is_some, nat_eq, refl, sym, ap, ◌∙◌, arith}
+use Rattle.std.specs.Prelude.{option_and_then}
 use Rattle.std.specs.Option.{option_map, option_eq}
 use Rattle.std.specs.Ordering.{nat_cmp}
 use Rattle.std.specs.Cmp.{nat_cmp_total, IsEquivalence}
 use Rattle.std.specs.FinMap as map
 use Rattle.std.specs.FinMap.{FinMap, get-empty, same_map, nat_cmp-IsAntisymmetric}
-use Rattle.std.proofs.lemmas.Bool.{cases_eq, cases_lt, eq-eqb, ne_eqb, eqb-true, lt-ltb, le-ltb}
+use Rattle.std.proofs.lemmas.Bool.{cases_eq, cases_lt, eq-eqb, ne_eqb, lt-ltb, le-ltb}
 use Rattle.std.proofs.lemmas.Option.{same_Some}
-use Rattle.intern_store.specs.Kept.{Kept, is_at, raised, recounted}
-use Rattle.intern_store.specs.State.{State, IsState, entry_at, count_at, is_last, freed, released, with_count, added, added_with, taken, counted_up, counted_down, birth_of, or_added, interned_counted}
-use Rattle.intern_store.proofs.Compared.{get-inserted, get-removed, get-retained}
+use Rattle.intern_store.specs.Kept.{Kept, is_at, raised, recount, recounted}
+use Rattle.intern_store.specs.State.{State, IsState, entry_at, count_at, is_last, freed, released, with_count, added, added_with, taken, counted_up, counted_down, birth_of, or_added, interned_counted, due_found, due_interning, full}
+use Rattle.intern_store.specs.declared.refusal.Refusal.{Refusal}
+use Rattle.intern_store.specs.declared.refusal.Refusal.TheVariants.{CountFull}
+use Rattle.intern_store.proofs.Compared.{get-inserted, get-removed, get-retained, get-modified}
 
 module _ {T : Type 0} (eq : T → T → Bool) where
   pub empty_state : (number top numbers : ℕ) (m : FinMap nat_cmp (Kept T)) → 0 < top → m ≡ map.empty → IsState eq (record { number = number; next = 0; top = top; numbers = numbers; map = m })
@@ -104,10 +107,10 @@ module _ {T : Type 0} (eq : T → T → Bool) where
       go false q k e = absurd (cc)
 
   -- one entry has another count
-  pub recounted_state : (s : State T) (b n : ℕ) (k : Kept T) (m : FinMap nat_cmp (Kept T)) → IsState eq s → map.get s.map b ≡ Some k → n ≤ s.top
-      → m ≡ map.insert s.map b (record k { count = n }) → IsState eq (record s { map = m })
-  recounted_state s b n k m is had fits recounted = record {
-    below = λ q some. is.below q (at_some q some);
+  pub changed_state : (f : ℕ → ℕ) (s : State T) (b : ℕ) (m : FinMap nat_cmp (Kept T)) → IsState eq s → ((n : ℕ) → n ≤ s.top → f n ≤ s.top)
+      → m ≡ recounted f s.map b (map.get s.map b) → IsState eq (record s { map = m })
+  changed_state f s b m is fits changed = record {
+    below = λ q some. is.below q (at_some q (map.get m q) refl some);
     within = is.within;
     counts = λ q l now. let w = was q l now in w.3;
     apart = λ q c l j now other e.
@@ -117,26 +120,23 @@ module _ {T : Type 0} (eq : T → T → Bool) where
     counted = is.counted;
   }
     where
-      at_any : (q : ℕ) → map.get m q ≡ cond (nat_eq q b) (Some (record k { count = n })) (map.get s.map q)
-      at_any q = ap (λ x. map.get x q) recounted ∙ get-inserted s.map b (record k { count = n }) q
-
       was : (q : ℕ) (l : Kept T) → map.get m q ≡ Some l → (j : Kept T) × (map.get s.map q ≡ Some j) × (j.value ≡ l.value) × (l.count ≤ s.top)
-      was q l now =
-          elim (cases_eq q b) [
-            | inl same ↦
-                let is_new : record k { count = n } ≡ l = same_Some _ _ (sym (at_any q ∙ ap (λ t. cond t (Some (record k { count = n })) (map.get s.map q)) (eq-eqb q b same)) ∙ now) in
-                (k, ap (map.get s.map) same ∙ had, ap (λ x. x.value) is_new, subst (λ (x : Kept T). x.count ≤ s.top) is_new fits)
-            | inr differs ↦
-                let old = sym (at_any q ∙ ap (λ t. cond t (Some (record k { count = n })) (map.get s.map q)) (ne_eqb q b differs)) ∙ now in
-                (l, old, refl, is.counts q l old)
-          ]
-
-      at_some : (q : ℕ) → IsSome (map.get m q) → IsSome (map.get s.map q)
-      at_some q some = go (map.get m q) refl some
+      was q l now = go (nat_eq q b) (map.get s.map q) refl (sym (ap (λ x. map.get x q) changed ∙ get-modified (recount f) s.map b q) ∙ now)
         where
-          go : (o : Option (Kept T)) → map.get m q ≡ o → IsSome o → IsSome (map.get s.map q)
-          go None e some = absurd (cc)
-          go (Some l) e some = ap is_some (was q l e).1
+          go : (t : Bool) (o : Option (Kept T)) → map.get s.map q ≡ o → cond t (option_map (recount f) o) o ≡ Some l
+              → (j : Kept T) × (map.get s.map q ≡ Some j) × (j.value ≡ l.value) × (l.count ≤ s.top)
+          go true None had new = absurd (cc)
+          go false None had new = absurd (cc)
+          go true (Some j) had new =
+              let same : recount f j ≡ l = same_Some _ _ new in
+              (j, had, ap (λ x. x.value) same, subst (λ (x : Kept T). x.count ≤ s.top) same (fits j.count (is.counts q j had)))
+          go false (Some j) had new =
+              let same : j ≡ l = same_Some _ _ new in
+              (j, had, ap (λ x. x.value) same, subst (λ (x : Kept T). x.count ≤ s.top) same (is.counts q j had))
+
+      at_some : (q : ℕ) (o : Option (Kept T)) → map.get m q ≡ o → IsSome o → IsSome (map.get s.map q)
+      at_some q None e some = absurd (cc)
+      at_some q (Some l) e some = ap is_some (was q l e).1
 
   -- a count is within the limit
   pub count_within : (s : State T) (b n : ℕ) → IsState eq s → option_map (λ k. k.count) (entry_at s b) ≡ Some n → n ≤ s.top
@@ -145,15 +145,6 @@ module _ {T : Type 0} (eq : T → T → Bool) where
       go : (o : Option (Kept T)) → entry_at s b ≡ o → option_map (λ k. k.count) o ≡ Some n → n ≤ s.top
       go None had counts = absurd (cc)
       go (Some k) had counts = subst (λ n. n ≤ s.top) (same_Some _ _ counts) (is.counts b k had)
-
-  -- the same of a count that a function changes, where there is an entry
-  pub changed_state : (f : ℕ → ℕ) (s : State T) (b : ℕ) (m : FinMap nat_cmp (Kept T)) → IsState eq s → ((n : ℕ) → n ≤ s.top → f n ≤ s.top)
-      → m ≡ recounted f s.map b (map.get s.map b) → IsState eq (record s { map = m })
-  changed_state f s b m is fits changed = go (map.get s.map b) refl changed
-    where
-      go : (o : Option (Kept T)) → map.get s.map b ≡ o → m ≡ recounted f s.map b o → IsState eq (record s { map = m })
-      go None had changed = subst (λ n. IsState eq (record s { map = n })) (sym changed) is
-      go (Some k) had changed = recounted_state s b (f k.count) k m is had (fits k.count (is.counts b k had)) changed
 
 shadowed : {A : Type 0} (b : Bool) (x y z : A) → cond b x (cond b y z) ≡ cond b x z
 shadowed true x y z = refl
@@ -166,6 +157,13 @@ raised_below top n below = ap (λ b. cond b (n + 1) n) (lt-ltb n top below)
 -- and one at the limit
 pub raised_full : (top n : ℕ) → top ≤ n → raised top n ≡ n
 raised_full top n full = ap (λ b. cond b (n + 1) n) (le-ltb n top full)
+
+-- what is due at either
+pub full_at : (n top : ℕ) → n ≡ top → full top n ≡ Some CountFull
+full_at n top is = ap (λ t. cond t (Some CountFull) None) (eq-eqb n top is)
+
+pub not_full : (n top : ℕ) → n ≢ top → full top n ≡ None
+not_full n top differs = ap (λ t. cond t (Some CountFull) None) (ne_eqb n top differs)
 
 pub raised_within : (top n : ℕ) → n ≤ top → raised top n ≤ top
 raised_within top n fits =
@@ -187,15 +185,15 @@ module _ {T : Type 0} where
   -- or that stays as it is
   pub same_count : (f : ℕ → ℕ) (s : State T) (b : ℕ) (m : FinMap nat_cmp (Kept T)) → m ≡ recounted f s.map b (entry_at s b)
       → ((n : ℕ) → option_map (λ k. k.count) (entry_at s b) ≡ Some n → f n ≡ n) → record s { map = m } ≡ s
-  same_count f s b m changed same = changed_count f (λ n. n) s b m changed same ∙ go (entry_at s b) refl
+  same_count f s b m changed same =
+      changed_count f (λ n. n) s b m changed same
+      ∙ ap (λ m. record s { map = m }) (same_map nat_cmp_total nat_cmp-IsAntisymmetric _ _ (λ q.
+      get-modified (recount (λ n. n)) s.map b q ∙ here (nat_eq q b) (entry_at s q)))
     where
-      go : (o : Option (Kept T)) → entry_at s b ≡ o → with_count (λ n. n) s b o ≡ s
-      go None had = refl
-      go (Some k) had = ap (λ m. record s { map = m }) (same_map nat_cmp_total nat_cmp-IsAntisymmetric _ _ (λ q. get-inserted s.map b k q ∙ here q (nat_eq q b) refl))
-        where
-          here : (q : ℕ) (t : Bool) → nat_eq q b ≡ t → cond t (Some k) (entry_at s q) ≡ entry_at s q
-          here q true t = sym (ap (entry_at s) (eqb-true q b t) ∙ had)
-          here q false t = refl
+      here : (t : Bool) (o : Option (Kept T)) → cond t (option_map (recount (λ n. n)) o) o ≡ o
+      here false o = refl
+      here true None = refl
+      here true (Some k) = refl
 
   module _ (stays : Bool) (s : State T) (b : ℕ) (goes : stays ≡ false) (one : count_at s b ≡ Some 1) where
     is_the_last : is_last stays s b ≡ true
@@ -244,3 +242,12 @@ module _ {T : Type 0} where
   -- interning a value that isn't stored, and counting it
   pub counted_up-interned : (eq : T → T → Bool) (s : State T) (v : T) → birth_of eq s v ≡ None → interned_counted eq s v ≡ added_with 1 s v
   counted_up-interned eq s v none = ap (λ o. counted_up (or_added o s v).state (or_added o s v).birth) none ∙ counted_up-added s v
+
+  -- interning a value that is stored, and counting it
+  module _ (eq : T → T → Bool) (s : State T) (v : T) (b : ℕ) (stored : birth_of eq s v ≡ Some b) where
+    pub counted_up-stored : interned_counted eq s v ≡ counted_up s b
+    counted_up-stored = ap (λ o. counted_up (or_added o s v).state (or_added o s v).birth) stored
+
+    -- its count alone decides
+    pub due_stored : (by_count : ℕ → Option Refusal) (n : ℕ) → count_at s b ≡ Some n → due_interning eq s v by_count ≡ by_count n
+    due_stored by_count n counts = ap (λ o. due_found o s by_count) stored ∙ ap (option_and_then by_count) counts

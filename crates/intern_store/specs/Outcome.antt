@@ -1,9 +1,9 @@
 -- What a call answers: when it is refused, and the state that it leaves.
-use Rattle.std.specs.Prelude.{◌≡◌, Bool, Option, Some, None, IsTrue, Result, Ok, Err}
+use Rattle.std.specs.Prelude.{◌≡◌, ℕ, Bool, Option, Some, None, IsTrue, Result, Ok, Err}
 use Rattle.intern_store.specs.State.{State}
-use Rattle.intern_store.specs.declared.names.Refusal.{Refusal}
-use Rattle.intern_store.specs.declared.names.Refusal.TheVariants.{OutOfMemory}
-use Rattle.intern_store.specs.declared.names.Refused.{Refused}
+use Rattle.intern_store.specs.declared.refusal.Refusal.{Refusal}
+use Rattle.intern_store.specs.declared.refusal.Refusal.TheVariants.{Foreign, Gone, CountZero, CountFull, NumbersUsedUp, OutOfMemory}
+use Rattle.intern_store.specs.declared.refusal.Refused.{Refused}
 
 -- a call is refused for what is due, and only then
 abbrev pub Owes : {A : Type 0} → Result A Refusal → Option Refusal → Type 0
@@ -35,3 +35,12 @@ MayWantBack (Err refused) due needs given = IsWhy due needs refused.why × (refu
 abbrev pub Becomes : {A E V : Type 0} → Result A E → State V → State V → State V → Type 0
 Becomes (Ok _) old new next = new ≡ next
 Becomes (Err _) old new next = new ≡ old
+
+-- the rank of a refusal in their order
+abbrev pub refusal_number : Refusal → ℕ
+refusal_number Foreign = 1
+refusal_number Gone = 2
+refusal_number CountZero = 3
+refusal_number CountFull = 4
+refusal_number NumbersUsedUp = 5
+refusal_number OutOfMemory = 6

@@ -1,14 +1,14 @@
 -- What a storage holds, and the words of its contracts.
-use Rattle.std.specs.Prelude.{List, map as list_map, ◌≡◌, ℕ, ◌+◌, ◌-◌, ◌<◌, ◌≤◌, Bool, true, not, if◌then◌else◌, ◌==◌, ◌&&◌, Option, Some, None, IsSome, is_none, option_and_then, IsTrue, refl}
+use Rattle.std.specs.Prelude.{List, map as list_map, ◌≡◌, ℕ, ◌+◌, ◌-◌, ◌<◌, ◌≤◌, Bool, true, not, if◌then◌else◌, ◌==◌, ◌&&◌, Option, Some, None, IsSome, is_none, option_and_then, refl}
 use Rattle.std.specs.Option.{option_map, option_eq}
 use Rattle.std.specs.List.{find}
 use Rattle.std.specs.Coded.{Coded, code_by, coded×, coded_ℕ}
 use Rattle.std.specs.Ordering.{nat_cmp}
 use Rattle.std.specs.FinMap as map
-use Rattle.intern_store.specs.Kept.{Kept, kept_code}
+use Rattle.intern_store.specs.Kept.{Kept, kept_code, recounted}
 use Rattle.intern_store.specs.declared.names.Name.{Name}
-use Rattle.intern_store.specs.declared.names.Refusal.{Refusal}
-use Rattle.intern_store.specs.declared.names.Refusal.TheVariants.{Foreign, Gone, CountZero, CountFull, NumbersUsedUp, OutOfMemory}
+use Rattle.intern_store.specs.declared.refusal.Refusal.{Refusal}
+use Rattle.intern_store.specs.declared.refusal.Refusal.TheVariants.{Foreign, Gone, CountZero, CountFull, NumbersUsedUp}
 
 -- the storage's number, the next birth, the limits of counts and of births, and the entries
 pub record State (V : Type 0) : Type 0 where
@@ -92,8 +92,7 @@ module _ {V : Type 0} where
 
   -- with another count of a birth that has an entry
   abbrev pub with_count : (ℕ → ℕ) → State V → ℕ → Option (Kept V) → State V
-  with_count f s b None = s
-  with_count f s b (Some k) = record s { map = map.insert s.map b (record k { count = f k.count }) }
+  with_count f s b o = record s { map = recounted f s.map b o }
 
   -- with the count of a birth one greater, or one less
   abbrev pub counted_up : State V → ℕ → State V
@@ -194,12 +193,3 @@ module _ {V : Type 0} where
   -- what comes back of an offer of v: all of it where v is stored, and nothing where it isn't
   abbrev pub given_back : {O : Type 0} → (V → V → Bool) → State V → V → O → Option O
   given_back eq s v offer = option_map (λ b. offer) (birth_of eq s v)
-
--- the rank of a refusal in their order
-abbrev pub refusal_number : Refusal → ℕ
-refusal_number Foreign = 1
-refusal_number Gone = 2
-refusal_number CountZero = 3
-refusal_number CountFull = 4
-refusal_number NumbersUsedUp = 5
-refusal_number OutOfMemory = 6

@@ -89,8 +89,28 @@ pub trait Takes<O>: Finds<O> {
         ensures back { IfErr result (λ back. back ≡ offer) };
 }
 
+/// A table in which what is offered is looked up and counted by one call.
+pub trait Raises<O>: Takes<O> {
+    /// Counts the entry whose value equals the one that is offered once more, where it is counted
+    /// less than this often, and tells where it lies and the count before. Where there is none it
+    /// gives the hash. It takes no memory.
+    fn find_and_raise(&mut self, offer: &O, top: u64) -> Result<(Spot, u64), u64>
+        ensures found { IfOk result (λ r.
+            is_at Self.Value.eq (Self.Finds.value offer.now)
+            (map.get (Self.entries self.old) r.0.birth) ≡ true) }
+        ensures count { IfOk result (λ r.
+            option_map (λ k. k.count) (map.get (Self.entries self.old) r.0.birth) ≡ Some r.1) }
+        ensures state { IfOk result (λ r. Self.entries self.new ≡ recounted (raised top)
+            (Self.entries self.old) r.0.birth (map.get (Self.entries self.old) r.0.birth)) }
+        ensures none { OnErr result ((b : ℕ) →
+            is_at Self.Value.eq (Self.Finds.value offer.now) (map.get (Self.entries self.old) b)
+            ≡ false) }
+        ensures hash { IfErr result (λ h. h ≡ Self.Finds.hash_of offer.now) }
+        ensures same { OnErr result (Self.entries self.new ≡ Self.entries self.old) };
+}
+
 /// Which births a sweep keeps.
-pub trait Marks {
+pub trait Keeps {
     // The births that are kept.
     ghost marked: { Self → ℕ → Bool };
 
@@ -100,7 +120,7 @@ pub trait Marks {
 }
 
 /// A table that can be cut to the entries that are marked.
-pub trait Sweeps<M: Marks>: Entries {
+pub trait Sweeps<M: Keeps>: Entries {
     /// Drops every entry that isn't marked. It takes no memory.
     fn keep(&mut self, marks: &M)
         ensures { Self.entries self.new

@@ -3,8 +3,10 @@
 
 mod entries;
 mod names;
+mod refusal;
 mod store;
 
-pub use entries::{Entries, Finds, Marks, Removes, Sweeps, Takes};
-pub use names::{EntryKey, Limits, Name, Refusal, Refused, Spot};
+pub use entries::{Entries, Finds, Keeps, Raises, Removes, Sweeps, Takes};
+pub use names::{EntryKey, Limits, Name, Spot};
+pub use refusal::{Refusal, Refused};
 pub use store::Store;

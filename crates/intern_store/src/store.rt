@@ -3,11 +3,13 @@ ghost use Rattle.std.specs.Prelude.{◌≡◌, ◌<◌, ◌≤◌, ◌==◌, tru
 ghost use Rattle.std.specs.Result.{result_ok};
 ghost use Rattle.std.specs.FinMap as map;
 ghost use Rattle.std.specs.Option.{option_map};
+ghost use Rattle.intern_store.specs.Named.{key_name};
 ghost use Rattle.intern_store.specs.Outcome.{Owes, MayWantBack, Becomes};
 ghost use Rattle.intern_store.specs.State.{IsState, new_state, name_in, entry_at, count_at, counts, counted_up, counted_down, taken, added_with, birth_of, is_new, interned, interned_name, interned_counted, given_back, name_of_value, due, due_at, due_adding, due_interning, full, zero_count, any_count, freed, released, kept};
 
-use crate::entries::{Entries, Finds, Marks, Removes, Sweeps, Takes};
-use crate::names::{EntryKey, Limits, Refusal, Refused, Spot};
+use crate::entries::{Entries, Finds, Keeps, Raises, Removes, Sweeps, Takes};
+use crate::names::{EntryKey, Limits, Spot};
+use crate::refusal::{Refusal, Refused};
 use std::alloc::Global;
 use std::marker::Model;
 
@@ -98,14 +100,14 @@ impl<E: Entries> Store<E> {
     // Where the entry of a key is looked for. A key of another storage is refused.
     fn spot(&self, key: EntryKey) -> Result<Spot, Refusal>
         ensures own { IfOk result (λ s.
-            (key.name.storage ≡ self.now.number) × (s.birth ≡ key.name.birth)) }
+            (key.storage ≡ self.now.number) × (s ≡ key.spot)) }
         ensures foreign { IfErr result (λ why.
-            (key.name.storage ≢ self.now.number) × (why ≡ Refusal.Foreign)) }
+            (key.storage ≢ self.now.number) × (why ≡ Refusal.Foreign)) }
     {
-        if key.name.storage != self.number {
+        if key.storage != self.number {
             return Err(Refusal::Foreign);
         }
-        Ok(key.spot())
+        Ok(key.spot)
     }
 
     /// The table.
@@ -115,33 +117,38 @@ impl<E: Entries> Store<E> {
         &self.table
     }
 
-    /// The table, where a key is of this storage.
-    pub fn own(&self, key: EntryKey) -> Option<&E>
+    /// The table, where the number is that of this storage.
+    pub fn own(&self, number: u64) -> Option<&E>
         ensures own { IfSome result (λ t.
-            (key.name.storage ≡ self.now.number) × (E.entries t.now ≡ self.now.map)) }
-        ensures foreign { IfNone result (key.name.storage ≢ self.now.number) }
+            (number ≡ self.now.number) × (E.entries t.now ≡ self.now.map)) }
+        ensures foreign { IfNone result (number ≢ self.now.number) }
     {
-        self.spot(key).ok()?;
+        if number != self.number {
+            return None;
+        }
         Some(&self.table)
     }
 
     /// The count of the entry of a key.
     pub fn count(&self, key: EntryKey) -> Option<u64>
-        ensures { result ≡ counts self.now key.name }
+        ensures { result ≡ counts self.now (key_name key) }
     {
         self.table.count(self.spot(key).ok()?)
     }
 
     // The key of a spot.
     fn key(&self, spot: Spot) -> EntryKey
-        ensures { result.name ≡ name_in self.now spot.birth }
+        ensures { key_name result ≡ name_in self.now spot.birth }
     {
-        spot.in_storage(self.number)
+        EntryKey {
+            storage: self.number,
+            spot,
+        }
     }
 
     /// The key of the entry of a birth.
     pub fn entry(&self, birth: u64) -> Result<EntryKey, Refusal>
-        ensures ok { IfOk result (λ k. k.name ≡ name_in self.now birth) }
+        ensures ok { IfOk result (λ k. key_name k ≡ name_in self.now birth) }
         ensures refused { Owes result (due_at (entry_at self.now birth) any_count) }
     {
         match self.table.place(birth) {
@@ -152,11 +159,11 @@ impl<E: Entries> Store<E> {
 
     /// The key of the entry of a birth, where its count isn't zero.
     pub fn counted_entry(&self, birth: u64) -> Result<EntryKey, Refusal>
-        ensures ok { IfOk result (λ k. k.name ≡ name_in self.now birth) }
+        ensures ok { IfOk result (λ k. key_name k ≡ name_in self.now birth) }
         ensures refused { Owes result (due_at (entry_at self.now birth) zero_count) }
     {
         let key = self.entry(birth)?;
-        if self.table.count(key.spot()) == Some(0) {
+        if self.table.count(key.spot) == Some(0) {
             return Err(Refusal::CountZero);
         }
         Ok(key)
@@ -180,7 +187,7 @@ impl<E: Entries> Store<E> {
     pub fn find<Q>(&self, query: &Q) -> Option<EntryKey>
     where
         E: Finds<Q>,
-        ensures { option_map (λ k. k.name) result
+        ensures { option_map key_name result
             ≡ name_of_value E.Value.eq self.now (E.value query.now) }
     {
         Some(self.key(self.search(query).ok()?))
@@ -193,7 +200,7 @@ impl<E: Entries> Store<E> {
         requires hash { hash ≡ E.hash_of offer }
         requires fits { count ≤ self.old.top }
         requires fresh { birth_of E.Value.eq self.old (E.value offer) ≡ None }
-        ensures ok { IfOk result (λ k. k.name ≡ name_in self.old self.old.next) }
+        ensures ok { IfOk result (λ k. key_name k ≡ name_in self.old self.old.next) }
         ensures refused { MayWantBack result (due_adding self.old) true offer }
         ensures state { Becomes result self.old self.new
             (added_with count self.old (E.value offer)) }
@@ -249,7 +256,7 @@ impl<E: Entries> Store<E> {
     where
         E: Takes<O>,
         ensures name { IfOk result (λ r.
-            r.0.name ≡ interned_name E.Value.eq self.old (E.value offer)) }
+            key_name r.0 ≡ interned_name E.Value.eq self.old (E.value offer)) }
         ensures back { IfOk result (λ r.
             r.1 ≡ given_back E.Value.eq self.old (E.value offer) offer) }
         ensures refused { MayWantBack result
@@ -268,9 +275,9 @@ impl<E: Entries> Store<E> {
     /// counted once more.
     pub fn intern_counted<O>(&mut self, offer: O) -> Result<(EntryKey, Option<O>), Refused<O>>
     where
-        E: Takes<O>,
+        E: Raises<O>,
         ensures name { IfOk result (λ r.
-            r.0.name ≡ interned_name E.Value.eq self.old (E.value offer)) }
+            key_name r.0 ≡ interned_name E.Value.eq self.old (E.value offer)) }
         ensures back { IfOk result (λ r.
             r.1 ≡ given_back E.Value.eq self.old (E.value offer) offer) }
         ensures refused { MayWantBack result
@@ -280,20 +287,25 @@ impl<E: Entries> Store<E> {
             (interned_counted E.Value.eq self.old (E.value offer)) }
     {
         // A field that is read brings in the invariant, which the table alone doesn't know.
-        let _top = self.top;
-        match self.search(&offer) {
-            Ok(spot) => match self.raise(spot) {
-                Ok(()) => Ok((self.key(spot), Some(offer))),
-                Err(why) => Err(Refused { why, back: offer }),
-            },
+        let top = self.top;
+        match self.table.find_and_raise(&offer, top) {
+            Ok((spot, count)) => {
+                if count == top {
+                    return Err(Refused {
+                        why: Refusal::CountFull,
+                        back: offer,
+                    });
+                }
+                Ok((self.key(spot), Some(offer)))
+            }
             Err(hash) => Ok((self.add(hash, offer, 1)?, None)),
         }
     }
 
     /// Counts an entry once more.
     pub fn count_up(&mut self, key: EntryKey) -> Result<(), Refusal>
-        ensures refused { Owes result (due self.old key.name (full self.old.top)) }
-        ensures state { Becomes result self.old self.new (counted_up self.old key.name.birth) }
+        ensures refused { Owes result (due self.old (key_name key) (full self.old.top)) }
+        ensures state { Becomes result self.old self.new (counted_up self.old key.spot.birth) }
     {
         let spot = self.spot(key)?;
         self.raise(spot)
@@ -301,8 +313,8 @@ impl<E: Entries> Store<E> {
 
     /// Counts an entry once less. It stays, also at zero.
     pub fn count_down(&mut self, key: EntryKey) -> Result<(), Refusal>
-        ensures refused { Owes result (due self.old key.name zero_count) }
-        ensures state { Becomes result self.old self.new (counted_down self.old key.name.birth) }
+        ensures refused { Owes result (due self.old (key_name key) zero_count) }
+        ensures state { Becomes result self.old self.new (counted_down self.old key.spot.birth) }
     {
         let spot = self.spot(key)?;
         self.lower(spot)?;
@@ -322,10 +334,10 @@ impl<E: Removes> Store<E> {
     /// Counts an entry once less. With the last count the entry is removed and its value comes
     /// back, unless entries stay.
     pub fn release(&mut self, key: EntryKey, stays: bool) -> Result<Option<E::Value>, Refusal>
-        ensures value { IfOk result (λ v. v ≡ freed stays self.old key.name.birth) }
-        ensures refused { Owes result (due self.old key.name zero_count) }
+        ensures value { IfOk result (λ v. v ≡ freed stays self.old key.spot.birth) }
+        ensures refused { Owes result (due self.old (key_name key) zero_count) }
         ensures state { Becomes result self.old self.new
-            (released stays self.old key.name.birth) }
+            (released stays self.old key.spot.birth) }
     {
         let spot = self.spot(key)?;
         let count = self.lower(spot)?;
@@ -338,7 +350,7 @@ impl<E: Removes> Store<E> {
 
 impl<E: Entries> Store<E> {
     /// Drops every entry that isn't marked. It takes no memory. Their births are not given again.
-    pub fn keep<M: Marks>(&mut self, marks: &M)
+    pub fn keep<M: Keeps>(&mut self, marks: &M)
     where
         E: Sweeps<M>,
         ensures { self.new ≡ kept self.old (M.marked marks.now) }

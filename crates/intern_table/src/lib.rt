@@ -14,6 +14,7 @@ mod text;
 pub use counted::{Counted, Counts};
 pub use equivalent::Equivalent;
 pub use intern_index::Iter;
+pub use pool::SlicePayload;
 pub use slice::{HeaderSlice, HeaderWithLength, SliceValue};
 pub use slice_iter::SliceIter;
 pub use slice_table::SliceTable;

@@ -14,7 +14,7 @@ use crate::pool::{SlicePayload, compact, part};
 use crate::slice::{HeaderSlice, HeaderWithLength, SliceValue};
 use crate::slice_iter::SliceIter;
 use intern_index::{BirthOrder, Index, Query};
-use intern_store::{Entries, Finds, Marks, Spot, Sweeps, Takes};
+use intern_store::{Entries, Finds, Keeps, Spot, Sweeps, Takes};
 use std::alloc::Global;
 use std::cmp::Eq;
 use std::hash::Hash;
@@ -204,7 +204,7 @@ impl<'a, H: Hash + Eq, S: Hash + Eq + Copy> Takes<(H, &'a [S])> for SliceTable<H
     }
 }
 
-impl<H: Hash + Eq + Drop, S: Hash + Eq + Copy, M: Marks> Sweeps<M> for SliceTable<H, S> {
+impl<H: Hash + Eq + Drop, S: Hash + Eq + Copy, M: Keeps> Sweeps<M> for SliceTable<H, S> {
     fn keep(&mut self, marks: &M) {
         self.index.keep(marks);
         compact(&mut self.index, &mut self.items);

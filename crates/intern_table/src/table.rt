@@ -9,7 +9,7 @@ use crate::counted::Counts;
 use crate::counts::{Lower, Raise};
 use crate::equivalent::Equivalent;
 use intern_index::{BirthTable, Index, Iter, Query};
-use intern_store::{Entries, Finds, Marks, Removes, Spot, Sweeps, Takes};
+use intern_store::{Entries, Finds, Keeps, Raises, Removes, Spot, Sweeps, Takes};
 use std::alloc::Global;
 use std::cmp::Eq;
 use std::hash::Hash;
@@ -137,7 +137,17 @@ impl<T: Hash + Eq, O: Equivalent<T>> Takes<O> for Table<T> {
     }
 }
 
-impl<T: Hash + Eq + Drop, M: Marks> Sweeps<M> for Table<T> {
+impl<T: Hash + Eq, O: Equivalent<T>> Raises<O> for Table<T> {
+    fn find_and_raise(&mut self, offer: &O, top: u64) -> Result<(Spot, u64), u64> {
+        let hash = offer.hashed();
+        let raise = Raise { top };
+        self.index
+            .find_and_change(hash, &Equal { offer }, &raise)
+            .ok_or(hash)
+    }
+}
+
+impl<T: Hash + Eq + Drop, M: Keeps> Sweeps<M> for Table<T> {
     fn keep(&mut self, marks: &M) {
         self.index.keep(marks)
     }

@@ -4,7 +4,7 @@ ghost use Rattle.std.specs.Prelude.{[], nat_eq, refl};
 ghost use Rattle.std.specs.HashSet.{contains};
 
 use crate::{SliceTable, Table};
-use intern_store::{Entries, Marks, Refusal, Spot, Store};
+use intern_store::{Entries, Keeps, Refusal, Spot, Store};
 use std::alloc::Global;
 use std::cmp::Eq;
 use std::collections::HashSet;
@@ -18,7 +18,7 @@ fn add<S: Hash + Eq + Copy>(
     items: &[S],
 ) -> Option<u64> {
     match store.intern((header, items)) {
-        Ok((handle, None)) => Some(handle.name.birth),
+        Ok((handle, None)) => Some(handle.spot.birth),
         _ => None,
     }
 }
@@ -28,10 +28,10 @@ fn reads<S: Hash + Eq + Copy>(store: &Store<SliceTable<u64, S>>, birth: u64, ite
     let Ok(handle) = store.entry(birth) else {
         return false;
     };
-    let Some(table) = store.own(handle) else {
+    let Some(table) = store.own(handle.storage) else {
         return false;
     };
-    match table.get(handle.spot()) {
+    match table.get(handle.spot) {
         Some(read) => read.slice == items && read.header.length == items.len(),
         None => false,
     }
@@ -41,7 +41,7 @@ fn reads<S: Hash + Eq + Copy>(store: &Store<SliceTable<u64, S>>, birth: u64, ite
 #[derive(Drop)]
 struct Marked(HashSet<u64>);
 
-impl Marks for Marked {
+impl Keeps for Marked {
     ghost marked = { λ m. contains nat_eq m.0 };
 
     fn is_marked(&self, spot: Spot) -> bool {
@@ -158,7 +158,7 @@ fn sweeps_after_churn_keep_slices(rt: HostRuntime) {
 fn add_numbers(rt: &impl Abort, store: &mut Store<Table<u64>>, from: u64, to: u64) {
     for number in from..to {
         let (handle, back) = store.intern_counted(number).expect(rt, "interned");
-        assert_eq!(rt; (handle.name.birth, back), (number, None));
+        assert_eq!(rt; (handle.spot.birth, back), (number, None));
     }
 }
 
@@ -173,7 +173,7 @@ fn number_at(store: &Store<Table<u64>>, birth: u64) -> Option<u64> {
     let Ok(handle) = store.entry(birth) else {
         return None;
     };
-    store.own(handle)?.get(handle.spot()).copied()
+    store.own(handle.storage)?.get(handle.spot).copied()
 }
 
 #[test]
@@ -245,7 +245,7 @@ impl Hash for Alike {
 // The birth of a number, and whether it is new.
 fn birth(store: &mut Store<Table<Alike>>, number: u64) -> Option<(u64, bool)> {
     match store.intern(Alike(number)) {
-        Ok((handle, back)) => Some((handle.name.birth, back.is_none())),
+        Ok((handle, back)) => Some((handle.spot.birth, back.is_none())),
         Err(_) => None,
     }
 }

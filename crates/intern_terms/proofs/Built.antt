@@ -2,11 +2,11 @@
 use Rattle.std.proofs.Common.{◌≡◌, ◌⊎◌, inl, inr, ℕ, Bool, true, false, cond, List, [], ◌∷◌, map, Option, Some, None, IsSome, is_some, Result, Ok, Err, refl, sym, ap, subst, ◌∙◌}
 use Rattle.std.specs.Option.{option_or}
 use Rattle.std.proofs.lemmas.Bool.{or_cases}
-use Rattle.ra_ap_intern.specs.Collector.{has}
+use Rattle.ra_ap_intern.specs.Names.{has}
 use Rattle.ra_ap_intern.specs.Name.{Name}
 use Rattle.ra_ap_intern.specs.Outcome.{Becomes}
 use Rattle.ra_ap_intern.specs.Refusal.{Refusal}
-use Rattle.ra_ap_intern.specs.Registry.{same_name}
+use Rattle.ra_ap_intern.specs.Named.{same_name}
 use Rattle.ra_ap_intern.specs.Sliced.{Sliced}
 use Rattle.ra_ap_intern.specs.Slices.{slice_of}
 use Rattle.ra_ap_intern.specs.State.{State, IsState, name_in, reads, due, any_count, with_count, entry_at, added, or_added, interned, birth_of}
@@ -14,8 +14,7 @@ use Rattle.ra_ap_intern.specs.declared.symbol.Symbol.{Symbol}
 use Rattle.intern_terms.specs.Handle.{term_name}
 use Rattle.intern_terms.specs.Store.{arguments, same_node, IsEarlier, IsBuilt, IsTerms, due_arguments}
 use Rattle.intern_terms.specs.declared.handle.TermRef.{TermRef}
-use Rattle.intern_terms.proofs.Names.{names_same}
-use Rattle.ra_ap_intern.proofs.CallerLemmas.{read_below, read_due, reads-added, reads-recounted}
+use Rattle.ra_ap_intern.proofs.CallerLemmas.{read_below, read_due, reads-added, reads-recounted, names_same}
 
 -- where nothing is due of a list of names, each of them is read
 pub all_read : (s : State (Sliced Symbol TermRef)) (names : List Name)

@@ -4,20 +4,19 @@ use Rattle.std.specs.List.{slice_get}
 use Rattle.std.proofs.lemmas.Bool.{and_parts, eqb-true, eq-eqb, or_cases, or_left, or_right}
 use Rattle.std.proofs.lemmas.Option.{slice_get_within}
 use Rattle.std.proofs.Math.Nat.{mul-le-mul_right, suc-mul}
-use Rattle.ra_ap_intern.specs.Collector.{has}
+use Rattle.ra_ap_intern.specs.Names.{has}
 use Rattle.ra_ap_intern.specs.Name.{Name}
-use Rattle.ra_ap_intern.specs.Registry.{same_name}
+use Rattle.ra_ap_intern.specs.Named.{same_name}
 use Rattle.ra_ap_intern.specs.Reach.{Reached}
 use Rattle.ra_ap_intern.specs.Sliced.{Sliced}
 use Rattle.ra_ap_intern.specs.State.{State, name_in, reads}
 use Rattle.ra_ap_intern.specs.declared.symbol.Symbol.{Symbol}
-use Rattle.ra_ap_intern.proofs.CallerLemmas.{read_at, some_read}
+use Rattle.ra_ap_intern.proofs.CallerLemmas.{read_at, some_read, names_same, same_names}
 use Rattle.intern_terms.specs.Handle.{term_name}
 use Rattle.intern_terms.specs.Store.{arguments, IsBuilt, IsEarlier, terms_of}
 use Rattle.intern_terms.specs.Walk.{begins_at, items_at, items_of, IsWalk, AreFound, with_name}
 use Rattle.intern_terms.specs.declared.handle.TermRef.{TermRef}
 use Rattle.intern_terms.specs.declared.walk.Open.{Open}
-use Rattle.intern_terms.proofs.Names.{names_same, same_names}
 use Rattle.intern_terms.proofs.Walks.{true_or_false, with_later, with_itself, with_other, argument_reached, walk_on}
 
 abbrev pub open_name : Open → Name

@@ -1,6 +1,6 @@
 -- Terms and their trees.
 use Rattle.std.proofs.Common.{◌≡◌, ◌↔◌, ℕ, zero, suc, ◌<◌, Bool, true, List, [], ◌∷◌, map, Some, IsSome, Result, Ok, Err, refl, sym, ap, subst, ◌∙◌, arith}
-use Rattle.ra_ap_intern.specs.Collector.{has}
+use Rattle.ra_ap_intern.specs.Names.{has}
 use Rattle.ra_ap_intern.specs.Name.{Name}
 use Rattle.ra_ap_intern.specs.Outcome.{Becomes}
 use Rattle.ra_ap_intern.specs.Sliced.{Sliced}

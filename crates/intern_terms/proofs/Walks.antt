@@ -5,19 +5,19 @@ use Rattle.std.proofs.lemmas.Bool.{and_parts, and_from, or_cases, or_left, or_ri
 use Rattle.std.proofs.lemmas.List.{map-append}
 use Rattle.std.proofs.lemmas.List.Folds.{list_any-append}
 use Rattle.indexmap.specs.IndexSet.{insert_key}
-use Rattle.ra_ap_intern.specs.Collector.{has}
+use Rattle.ra_ap_intern.specs.Names.{has}
 use Rattle.ra_ap_intern.specs.Name.{Name}
 use Rattle.ra_ap_intern.specs.Reach.{IsPath, Reached, IsReachedSet}
-use Rattle.ra_ap_intern.specs.Registry.{same_name}
+use Rattle.ra_ap_intern.specs.Named.{same_name}
 use Rattle.ra_ap_intern.specs.Sliced.{Sliced}
 use Rattle.ra_ap_intern.specs.State.{State, reads}
 use Rattle.ra_ap_intern.specs.declared.symbol.Symbol.{Symbol}
-use Rattle.ra_ap_intern.proofs.CallerLemmas.{some_read, entry_read, children_read}
+use Rattle.ra_ap_intern.proofs.CallerLemmas.{some_read, entry_read, children_read, names_same, same_names}
 use Rattle.intern_terms.specs.Handle.{term_name}
 use Rattle.intern_terms.specs.Store.{arguments, declared_by, terms_of}
 use Rattle.intern_terms.specs.Walk.{begins_at, InOrder, IsWalk, with_name}
 use Rattle.intern_terms.specs.declared.handle.TermRef.{TermRef}
-use Rattle.intern_terms.proofs.Names.{names_same, same_names, has_first}
+use Rattle.intern_terms.proofs.Names.{has_first}
 
 pub true_or_false : (t : Bool) → (t ≡ true) ⊎ (t ≡ false)
 true_or_false true = inl refl

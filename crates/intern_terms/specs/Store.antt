@@ -1,19 +1,18 @@
 -- What a store of terms holds, and the words of its contracts.
-use Rattle.std.specs.Prelude.{◌≡◌, ◌<◌, ◌==◌, Bool, true, false, ◌&&◌, List, [], ◌∷◌, map as list_map, Option, Some, None, IsSome}
+use Rattle.std.specs.Prelude.{◌≡◌, ◌<◌, Bool, true, ◌&&◌, List, [], ◌∷◌, map as list_map, Option, Some, None, IsSome}
 use Rattle.std.specs.Cmp.Lexicographic.{pointwise}
 use Rattle.std.specs.FinMap as map
 use Rattle.std.specs.Option.{option_or}
-use Rattle.ra_ap_intern.specs.Collector.{has}
+use Rattle.ra_ap_intern.specs.Names.{has}
 use Rattle.ra_ap_intern.specs.Families.{entries_of, sliced_children}
 use Rattle.ra_ap_intern.specs.Name.{Name}
 use Rattle.ra_ap_intern.specs.Reach.{Entry}
 use Rattle.ra_ap_intern.specs.Refusal.{Refusal}
-use Rattle.ra_ap_intern.specs.Registry.{same_name}
+use Rattle.ra_ap_intern.specs.Named.{same_name}
 use Rattle.ra_ap_intern.specs.Sliced.{Sliced}
 use Rattle.ra_ap_intern.specs.Slices.{due_slice}
 use Rattle.ra_ap_intern.specs.State.{State, IsState, name_in, reads, due, any_count}
-use Rattle.ra_ap_intern.specs.Symbols.{Named, symbol_name}
-use Rattle.ra_ap_intern.specs.Symbols.Named.{preset, entry}
+use Rattle.ra_ap_intern.specs.Symbols.{same_named, symbol_name}
 use Rattle.ra_ap_intern.specs.declared.symbol.Symbol.{Symbol}
 use Rattle.intern_terms.specs.Handle.{term_name}
 use Rattle.intern_terms.specs.declared.handle.TermRef.{TermRef}
@@ -22,16 +21,9 @@ use Rattle.intern_terms.specs.declared.handle.TermRef.{TermRef}
 abbrev pub arguments : Sliced Symbol TermRef → List Name
 arguments v = list_map term_name v.items
 
--- whether two heads are the same symbol
-abbrev pub same_head : Named → Named → Bool
-same_head (preset p) (preset q) = p == q
-same_head (preset p) (entry m) = false
-same_head (entry n) (preset q) = false
-same_head (entry n) (entry m) = same_name n m
-
 -- whether two terms have the same head, and the same arguments in order
 abbrev pub same_node : Sliced Symbol TermRef → Sliced Symbol TermRef → Bool
-same_node v w = same_head (symbol_name v.header) (symbol_name w.header)
+same_node v w = same_named (symbol_name v.header) (symbol_name w.header)
     && pointwise (λ a b. same_name (term_name a) (term_name b)) v.items w.items
 
 -- the name of each term

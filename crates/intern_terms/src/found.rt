@@ -1,6 +1,6 @@
 //! What a walk has found.
 ghost use Rattle.std.specs.Prelude.{◌≡◌, [], map as list_map, IfOk, OnOk};
-ghost use Rattle.ra_ap_intern.specs.Collector.{has};
+ghost use Rattle.ra_ap_intern.specs.Names.{has};
 ghost use Rattle.intern_terms.specs.Handle.{term_name};
 ghost use Rattle.intern_terms.specs.Walk.{with_name};
 

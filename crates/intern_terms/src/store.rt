@@ -2,7 +2,7 @@
 ghost use Rattle.std.specs.Prelude.{◌≡◌, ◌<◌, ◌==◌, List, map as list_map, Some, None, IsSome, is_some, IsPermutation, IfOk, OnErr};
 ghost use Rattle.std.specs.FinMap as map;
 ghost use Rattle.std.specs.Option.{option_map};
-ghost use Rattle.ra_ap_intern.specs.Collector.{has};
+ghost use Rattle.ra_ap_intern.specs.Names.{has};
 ghost use Rattle.ra_ap_intern.specs.Families.{IsCollection, kept_named};
 ghost use Rattle.ra_ap_intern.specs.Name.{Name as TermName};
 ghost use Rattle.ra_ap_intern.specs.Outcome.{Owes, OwesBack, MayWantBack, Becomes};

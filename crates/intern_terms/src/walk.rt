@@ -1,6 +1,6 @@
 //! Walks: the terms of some trees, arguments before what has them.
 ghost use Rattle.std.specs.Prelude.{◌≡◌, ◌≤◌, ◌<◌, ℕ, List, [], length, true, false, Some, IsSome, map as list_map, slice_get, IfOk, OnOk, IfSome, IfNone};
-ghost use Rattle.ra_ap_intern.specs.Collector.{has};
+ghost use Rattle.ra_ap_intern.specs.Names.{has};
 ghost use Rattle.ra_ap_intern.specs.Name.{Name as TermName};
 ghost use Rattle.ra_ap_intern.specs.Reach.{IsReachedSet};
 ghost use Rattle.ra_ap_intern.specs.State.{reads};

@@ -12,7 +12,7 @@ use Rattle.ra_ap_intern.specs.Families.{kept_named}
 use Rattle.ra_ap_intern.specs.Kept.{Kept}
 use Rattle.ra_ap_intern.specs.Name.{Name}
 use Rattle.ra_ap_intern.specs.Refusal.{Refusal}
-use Rattle.ra_ap_intern.specs.Registry.{same_name}
+use Rattle.ra_ap_intern.specs.Named.{same_name}
 use Rattle.ra_ap_intern.specs.State.{State, IsState, name_in, entry_at, count_at, counts, with_count, counted_up, counted_down, taken, added, or_added, birth_of, interned, interned_name, interned_counted, due, zero_count, is_last, released}
 
 -- one where it is true

@@ -7,7 +7,7 @@ use Rattle.ra_ap_intern.specs.Name.{Name}
 use Rattle.ra_ap_intern.specs.Presets.{place_of}
 use Rattle.ra_ap_intern.specs.Refusal.{Refusal}
 use Rattle.ra_ap_intern.specs.Refusal.TheVariants.{OutOfMemory}
-use Rattle.ra_ap_intern.specs.Registry.{same_name}
+use Rattle.ra_ap_intern.specs.Named.{same_name}
 use Rattle.ra_ap_intern.specs.Slices.{slice_of, slice_in, slice_name_in, slice_back}
 use Rattle.ra_ap_intern.specs.Sliced.{Sliced}
 use Rattle.ra_ap_intern.specs.State.{IsState, interned, interned_name, interned_counted, given_back, counted_up, released, full, any_count}

@@ -3,7 +3,7 @@ use Rattle.std.proofs.Common.{◌≡◌, Bool, true, false, not, ◌==◌, ◌||
 use Rattle.std.specs.Option.{option_or}
 use Rattle.std.proofs.lemmas.Bool.{and_parts, eq-eqb, eqb-true}
 use Rattle.ra_ap_intern.proofs.CallerLemmas.{is_more, seen_there, seen_elsewhere}
-use Rattle.ra_ap_intern.specs.Collector.{has}
+use Rattle.ra_ap_intern.specs.Names.{has}
 use Rattle.ra_ap_intern.specs.Families.{has_number}
 use Rattle.ra_ap_intern.specs.Name.{Name}
 use Rattle.ra_ap_intern.specs.PairLaws.{entry_either}

@@ -5,12 +5,12 @@ use Rattle.std.specs.List.Sorted.{IsPermutation}
 use Rattle.std.proofs.lemmas.Bool.{cases_Bool, or_cases}
 use Rattle.std.proofs.lemmas.List.Sorted.{IsPermutation-refl, IsPermutation-sym, IsPermutation-trans, IsPermutation-cons, IsPermutation-middle, sum_by-IsPermutation, length_permutation, list_any-IsPermutation}
 use Rattle.std.proofs.lemmas.Map.Keys.{IsDistinct-head, IsDistinct-tail, IsDistinct-IsPermutation}
-use Rattle.intern_registry.specs.Registry.{same_name}
-use Rattle.intern_registry.proofs.Listed.{names_same}
+use Rattle.intern_store.specs.Named.{same_name}
+use Rattle.intern_store.proofs.Named.{names_same}
 use Rattle.intern_store.specs.declared.names.Name.{Name}
-use Rattle.intern_trace.specs.Collector.{has}
-use Rattle.intern_trace.specs.Reach.{Entry, children_in, calls_of, kept_entries}
-use Rattle.intern_trace.proofs.Names.{same_name_is_equivalence, has_head}
+use Rattle.intern_marks.specs.Names.{has}
+use Rattle.intern_marks.specs.Reach.{Entry, children_in, calls_of, kept_entries}
+use Rattle.intern_marks.proofs.Names.{same_name_is_equivalence, has_head}
 use Rattle.ra_ap_intern.specs.Families.{IsCollection}
 use Rattle.ra_ap_intern.specs.declared.gc.Collected.{Collected}
 use Rattle.ra_ap_intern.proofs.Collections.{one_set}

@@ -3,15 +3,15 @@ use Rattle.std.proofs.Common.{◌≡◌, ℕ, ◌+◌, Bool, true, false, cond, 
 use Rattle.std.proofs.lemmas.Bool.{cases_Bool, eqb-true}
 use Rattle.std.specs.List.{filter}
 use Rattle.std.specs.Option.{option_map}
-use Rattle.intern_registry.specs.Registry.{same_name}
-use Rattle.intern_registry.proofs.Listed.{names_same}
+use Rattle.intern_store.specs.Named.{same_name}
+use Rattle.intern_store.proofs.Named.{names_same}
 use Rattle.intern_store.specs.Kept.{Kept}
 use Rattle.intern_store.specs.State.{State, entry_at, name_in}
 use Rattle.intern_store.specs.declared.names.Name.{Name}
 use Rattle.intern_store.proofs.Compared.{get-retained}
-use Rattle.intern_trace.specs.Collector.{has}
-use Rattle.intern_trace.specs.Reach.{Entry, entry_of, is_entry, starts_with, Reached, IsReachedSet, kept_entries}
-use Rattle.intern_trace.proofs.Reaching.{reached_again, filter_twice}
+use Rattle.intern_marks.specs.Names.{has}
+use Rattle.intern_marks.specs.Reach.{Entry, entry_of, is_entry, starts_with, Reached, IsReachedSet, kept_entries}
+use Rattle.intern_marks.proofs.Reaching.{reached_again, filter_twice}
 use Rattle.ra_ap_intern.specs.Families.{kept_named}
 
 either_same : {X : Type 0} (b : Bool) (x : X) → x ≡ cond b x x

@@ -3,12 +3,13 @@ use Rattle.std.proofs.Common.{◌≡◌, ℕ, Bool, true, false, cond, ◌==◌,
 use Rattle.std.specs.Option.{option_map}
 use Rattle.std.specs.FinMap.{entries, len, len-entries}
 use Rattle.std.proofs.lemmas.List.{length-map}
+use Rattle.intern_marks.specs.Marks.{Marks, mark, marks}
 use Rattle.intern_store.specs.Kept.{Kept}
 use Rattle.intern_store.specs.State.{State, entry_at, reads}
 use Rattle.intern_store.specs.declared.names.Name.{Name}
 use Rattle.intern_table.specs.Sliced.{Sliced}
-use Rattle.intern_trace.specs.Collector.{Collector, mark, marks}
-use Rattle.intern_trace.specs.Reach.{is_entry, children_of, children_in}
+use Rattle.intern_marks.specs.Reach.{is_entry, children_of, children_in}
+use Rattle.ra_ap_intern.proofs.CallerLemmas.{entry_read}
 use Rattle.ra_ap_intern.specs.Families.{entries_of}
 use Rattle.ra_ap_intern.specs.Slices.{sized}
 use Rattle.ra_ap_intern.specs.StorageLaws.{as_entry, entry_named}
@@ -23,16 +24,7 @@ module _ {V : Type 0} (children : V → List Name) where
     pub entries-length : length (entries_of children s) ≡ len s.map
     entries-length = length-map (entries s.map) _ ∙ sym (len-entries s.map)
 
-    -- a name is that of an entry, where it reads a value
-    pub read_entry : (x : Name) → is_some (reads s x) ≡ is_entry (entries_of children s) x
-    read_entry x = go (x.storage == s.number) (entry_at s x.birth) ∙ sym (ap is_some (entry_named children s x))
-      where
-        go : (t : Bool) (o : Option (Kept V)) → is_some (cond t (option_map (λ k. k.value) o) None) ≡ is_some (cond t (option_map (as_entry children s x.birth) o) None)
-        go false o = refl
-        go true None = refl
-        go true (Some k) = refl
-
-    -- whose children are those that the value declares
+    -- the children of a name's entry are those that the value declares
     pub read_children : (x : Name) → declared (reads s x) ≡ children_in (entries_of children s) x
     read_children x = go (x.storage == s.number) (entry_at s x.birth) ∙ sym (ap children_of (entry_named children s x))
       where
@@ -44,7 +36,7 @@ module _ {V : Type 0} (children : V → List Name) where
 -- the same, of what is read of a slice together with its length
 module _ {H I : Type 0} (children : Sliced H I → List Name) (s : State (Sliced H I)) (x : Name) (o : Option (Sliced H I × ℕ)) (is : o ≡ option_map sized (reads s x)) where
   pub shown_entry : is_some o ≡ is_entry (entries_of children s) x
-  shown_entry = ap is_some is ∙ go (reads s x) ∙ read_entry children s x
+  shown_entry = ap is_some is ∙ go (reads s x) ∙ sym (entry_read children s x)
     where
       go : (r : Option (Sliced H I)) → is_some (option_map sized r) ≡ is_some r
       go None = refl
@@ -58,6 +50,6 @@ module _ {H I : Type 0} (children : Sliced H I → List Name) (s : State (Sliced
       go (Some v) = refl
 
 -- mark calls for two lists of names
-pub marks-append : (c : Collector) (xs ys : List Name) → marks (marks c xs) ys ≡ marks c (xs ++ ys)
-marks-append c [] ys = refl
-marks-append c (x ∷ xs) ys = marks-append (mark c x) xs ys
+pub marks-append : (m : Marks) (xs ys : List Name) → marks (marks m xs) ys ≡ marks m (xs ++ ys)
+marks-append m [] ys = refl
+marks-append m (x ∷ xs) ys = marks-append (mark m x) xs ys

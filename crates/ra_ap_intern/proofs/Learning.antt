@@ -1,9 +1,9 @@
--- What a registry learns of the entries of a storage, whose counts come in some order.
-use Rattle.std.proofs.Common.{◌≡◌, ℕ, ◌+◌, Bool, true, false, cond, ◌==◌, nat_eq, length, List, [], ◌∷◌, Option, Some, None, refl, sym, ap, ◌∙◌, subst, arith}
+-- What is learnt of the entries of a storage, whose counts come in some order.
+use Rattle.std.proofs.Common.{◌≡◌, ℕ, Bool, true, false, cond, ◌==◌, nat_eq, length, List, [], ◌∷◌, Option, Some, None, refl, sym, ap, ◌∙◌, subst, arith}
 use Rattle.std.specs.Prelude.{T, IsPermutation, map as list_map}
 use Rattle.std.specs.List.{IsDistinct, AllByRecursion}
 use Rattle.std.specs.Map.{keys_of, lookup}
-use Rattle.std.specs.Option.{option_map, option_or}
+use Rattle.std.specs.Option.{option_map}
 use Rattle.std.specs.Ordering.{nat_cmp}
 use Rattle.std.specs.FinMap.{FinMap, find, entries, entries_sorted, get-entries, is_sorted}
 use Rattle.std.specs.FinMap.Entries.{below_all}
@@ -13,16 +13,19 @@ use Rattle.std.proofs.lemmas.List.{length-map}
 use Rattle.std.proofs.lemmas.List.Sorted.{IsPermutation-sym, IsPermutation-map, length_permutation, Contains-permutation}
 use Rattle.std.proofs.lemmas.Map.Keys.{IsDistinct-IsPermutation}
 use Rattle.std.proofs.lemmas.Map.Views.{Contains-from_lookup, lookup-from_Contains}
-use Rattle.intern_registry.specs.Registry.{Names, unmarked}
+use Rattle.intern_marks.specs.Learning.{Learns}
+use Rattle.intern_marks.specs.Marks.{Marks}
+use Rattle.intern_marks.specs.Reach.{is_counted}
+use Rattle.intern_marks.specs.Trace.{counted_in}
 use Rattle.intern_store.specs.Kept.{Kept}
 use Rattle.intern_store.specs.State.{State, entry_at}
 use Rattle.intern_store.specs.declared.names.Name.{Name}
 use Rattle.intern_store.proofs.Compared.{tied}
 use Rattle.intern_store.proofs.Sorted.{parts, less}
 use Rattle.intern_table.specs.Listed.{listed_counts}
-use Rattle.intern_trace.specs.Reach.{is_counted}
-use Rattle.ra_ap_intern.specs.Families.{entries_of, learnt, counted_flags, with_counts, with_family}
+use Rattle.ra_ap_intern.specs.Families.{entries_of, counted_entries}
 use Rattle.ra_ap_intern.specs.StorageLaws.{as_entry, entry_named}
+use Rattle.ra_ap_intern.proofs.Registering.{counts_told, learns_same}
 
 -- a look-up finds the same in lists that have the same entries, where keys differ
 lookup_permutation : {X : Type 0} (q : ℕ) (xs ys : List (ℕ × X)) → IsPermutation xs ys → IsDistinct nat_eq (keys_of xs) → IsDistinct nat_eq (keys_of ys) → lookup (nat_eq q) xs ≡ lookup (nat_eq q) ys
@@ -71,32 +74,26 @@ module _ {V : Type 0} where
         lookup_permutation q counts (listed_counts s.map) listed (births_apart s.map counts listed) (apart (entries s.map) (entries_sorted s.map))
         ∙ counts_found q (entries s.map) ∙ ap (option_map (λ k. k.count)) (sym (get-entries s.map q))
 
-    flags_learnt : (x : Name) → counted_flags s.number counts x ≡ learnt (entries_of children s) x
-    flags_learnt x =
-        ap (λ o. cond (x.storage == s.number) (option_map (λ n. unmarked (is_counted n)) o) None) (lookup_count x.birth)
+    told_counted : (x : Name) → counted_in (counted_entries s.number counts) x ≡ counted_in (entries_of children s) x
+    told_counted x =
+        counts_told s.number counts x
+        ∙ ap (λ o. cond (x.storage == s.number) (option_map is_counted o) None) (lookup_count x.birth)
         ∙ here (x.storage == s.number) (entry_at s x.birth)
-        ∙ sym (ap (option_map (λ e. unmarked (is_counted e.count))) (entry_named children s x))
+        ∙ sym (ap (option_map (λ e. is_counted e.count)) (entry_named children s x))
       where
-        here : (t : Bool) (o : Option (Kept V)) → cond t (option_map (λ n. unmarked (is_counted n)) (option_map (λ k. k.count) o)) None
-            ≡ option_map (λ e. unmarked (is_counted e.count)) (cond t (option_map (as_entry children s x.birth) o) None)
+        here : (t : Bool) (o : Option (Kept V)) → cond t (option_map is_counted (option_map (λ k. k.count) o)) None
+            ≡ option_map (λ e. is_counted e.count) (cond t (option_map (as_entry children s x.birth) o) None)
         here false o = refl
         here true None = refl
         here true (Some k) = refl
 
-    many : length counts ≡ length (entries_of children s)
-    many = sym (length_permutation counts (listed_counts s.map) listed) ∙ length-map (entries s.map) _ ∙ sym (length-map (entries s.map) _)
+    many : length (counted_entries s.number counts) ≡ length (entries_of children s)
+    many = length-map counts _ ∙ sym (length_permutation counts (listed_counts s.map) listed) ∙ length-map (entries s.map) _ ∙ sym (length-map (entries s.map) _)
 
-    all_learnt : (r t : Names) → t ≡ with_counts r s.number counts t.name_at → t ≡ with_family r (entries_of children s) t.name_at t.storage
-    all_learnt r t is =
-        is ∙ (λ i. record r {
-          flags = λ x. option_or (flags_learnt x i) (r.flags x);
-          size = r.size + many i;
-          name_at = t.name_at;
-          storage = Some s.number;
-        }) ∙ ap (with_family r (entries_of children s) t.name_at) (sym (ap (λ (n : Names). n.storage) is))
-
-  -- with the counts of a storage's table, a registry has the entries of the storage
-  pub storage_learnt : (children : V → List Name) (s : State V) (m : FinMap nat_cmp (Kept V)) (number : ℕ) (counts : List (ℕ × ℕ)) → m ≡ s.map → number ≡ s.number → IsPermutation counts (listed_counts m)
-      → (r t : Names) → t ≡ with_counts r number counts t.name_at → t ≡ with_family r (entries_of children s) t.name_at t.storage
-  storage_learnt children s m number counts same named listed r t is =
-      all_learnt children s counts (subst (λ m. IsPermutation counts (listed_counts m)) same listed) r t (is ∙ ap (λ n. with_counts r n counts t.name_at) named)
+  -- with the counts of a storage's table, its entries are learnt
+  pub storage_learnt : (roots : Bool) (children : V → List Name) (s : State V) (m : FinMap nat_cmp (Kept V)) (number : ℕ) (counts : List (ℕ × ℕ)) → m ≡ s.map → number ≡ s.number → IsPermutation counts (listed_counts m)
+      → (old new : Marks) → Learns roots (counted_entries number counts) old new → Learns roots (entries_of children s) old new
+  storage_learnt roots children s m number counts same named listed old new is =
+      let all = subst (λ m. IsPermutation counts (listed_counts m)) same listed in
+      learns_same roots (counted_entries s.number counts) (entries_of children s) old new (told_counted children s counts all) (many children s counts all)
+      (subst (λ n. Learns roots (counted_entries n counts) old new) named is)

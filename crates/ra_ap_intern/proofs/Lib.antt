@@ -8,6 +8,5 @@ mod Learning
 mod Listings
 mod Pairs
 mod Registering
-mod Slices
 mod Tables
 mod Texts

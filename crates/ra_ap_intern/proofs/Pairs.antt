@@ -1,12 +1,10 @@
 -- Two families as one.
-use Rattle.std.proofs.Common.{◌≡◌, ℕ, ◌+◌, Bool, true, false, not, ◌&&◌, ◌||◌, nat_eq, List, [], ◌∷◌, ◌++◌, length, length-append, Option, Some, None, is_some, refl, sym, ◌∙◌, ap, arith}
+use Rattle.std.proofs.Common.{◌≡◌, ℕ, Bool, true, false, not, ◌&&◌, ◌||◌, nat_eq, List, [], ◌∷◌, ◌++◌, Option, Some, None, is_some, refl, sym, ◌∙◌, ap}
 use Rattle.std.proofs.lemmas.Bool.{and_parts, not-true, eqb-true}
-use Rattle.std.specs.Option.{option_map, option_or}
-use Rattle.intern_registry.specs.Registry.{Names, unmarked}
-use Rattle.intern_registry.specs.declared.flags.Flags.{Flags}
+use Rattle.std.specs.Option.{option_or}
 use Rattle.intern_store.specs.declared.names.Name.{Name}
-use Rattle.intern_trace.specs.Reach.{Entry, entry_of, is_entry, is_counted, children_of, children_in}
-use Rattle.ra_ap_intern.specs.Families.{has_number, meet, are_distinct, with_family}
+use Rattle.intern_marks.specs.Reach.{Entry, entry_of, is_entry, children_of, children_in}
+use Rattle.ra_ap_intern.specs.Families.{has_number, meet, are_distinct}
 use Rattle.ra_ap_intern.specs.PairLaws.{entry_either, has_either}
 
 and_true : (b : Bool) → b ≡ ((true && b) && not false)
@@ -61,28 +59,6 @@ not_first (m ∷ ns) ms n none there =
 no_entry : (o : Option Entry) (is : Bool) → (is_some o ≡ true → is ≡ true) → is ≡ false → o ≡ None
 no_entry None is there h = refl
 no_entry (Some e) is there h = cc (there refl, h)
-
--- what is learnt of two families in turn is what is learnt of both
-learnt_either : (o p : Option Entry) (f : Option Flags) → (is_some p ≡ true → o ≡ None)
-    → let to = option_map (λ (e : Entry). unmarked (is_counted e.count)) in
-    option_or (to p) (option_or (to o) f) ≡ option_or (to (option_or o p)) f
-learnt_either None p f apart = refl
-learnt_either (Some e) None f apart = refl
-learnt_either (Some e) (Some d) f apart = cc (apart refl)
-
-arith_size : (a b c : ℕ) → (a + b) + c ≡ a + (b + c)
-arith_size a b c = omega arith
-
-pub family_both : (r : Names) (xs ys : List Entry) (na nb : ℕ → Option Name) (sa sb : Option ℕ)
-    → ((x : Name) → is_entry ys x ≡ true → entry_of xs x ≡ None)
-    → with_family (with_family r xs na sa) ys nb sb ≡ with_family r (xs ++ ys) nb sb
-family_both r xs ys na nb sa sb apart = λ i. record r {
-  flags = λ x. (learnt_either (entry_of xs x) (entry_of ys x) (r.flags x) (apart x)
-      ∙ ap (λ (o : Option Entry). option_or (option_map (λ (e : Entry). unmarked (is_counted e.count)) o) (r.flags x)) (sym (entry_either xs ys x))) i;
-  size = (arith_size r.size (length xs) (length ys) ∙ ap (λ n. r.size + n) (sym (length-append xs ys))) i;
-  name_at = nb;
-  storage = sb;
-}
 
 first_or : {T : Type 0} (o p : Option T) → is_some o ≡ true → option_or o p ≡ o
 first_or None p h = cc

@@ -1,14 +1,14 @@
 -- A table of texts after each change.
-use Rattle.std.proofs.Common.{◌≡◌, ◌≢◌, inl, inr, ℕ, ◌+◌, ◌-◌, ◌<◌, ◌==◌, Bool, true, false, cond, List, Option, Some, None, Result, Ok, Err, refl, sym, ap, subst, ◌∙◌, arith}
+use Rattle.std.proofs.Common.{◌≡◌, ◌≢◌, ℕ, ◌+◌, ◌-◌, ◌<◌, ◌==◌, Bool, true, false, cond, nat_eq, List, Option, Some, None, Result, Ok, Err, refl, sym, ap, subst, ◌∙◌, arith}
 use Rattle.std.specs.Option.{option_eq, option_map}
 use Rattle.std.specs.Str.{bytes_eq}
-use Rattle.std.proofs.lemmas.Bool.{cases_eq, eq-eqb, ne_eqb}
+use Rattle.std.proofs.lemmas.Bool.{eq-eqb, eqb-true, ne_eqb, false≢true}
 use Rattle.std.proofs.lemmas.Option.{same_Some}
 use Rattle.intern_presets.specs.Presets.{place_of}
-use Rattle.intern_store.specs.Kept.{Kept}
+use Rattle.intern_store.specs.Kept.{Kept, recount}
 use Rattle.intern_store.specs.Outcome.{Becomes}
 use Rattle.intern_store.specs.State.{State, entry_at, count_at, with_count, counted_up, counted_down, taken, added, birth_of, or_added, interned_counted, released}
-use Rattle.intern_store.proofs.Compared.{get-inserted}
+use Rattle.intern_store.proofs.Compared.{get-inserted, get-modified}
 use Rattle.intern_store.proofs.States.{still}
 use Rattle.ra_ap_intern.specs.Symbols.{IsTable}
 
@@ -22,23 +22,15 @@ table_from s each = record { positive = λ b k had. (each b k had).0; others = �
 -- an entry that is written again counts, where the others do
 rewritten : (f : ℕ → ℕ) (s : State (List ℕ)) (b : ℕ) → ((c : ℕ) (k : Kept (List ℕ)) → c ≢ b → entry_at s c ≡ Some k → Counts k)
     → ((k : Kept (List ℕ)) → entry_at s b ≡ Some k → Counts (record k { count = f k.count })) → IsTable (with_count f s b (entry_at s b))
-rewritten f s b others fits = go (entry_at s b) refl
+rewritten f s b others fits = table_from _ (λ c k had. go c k (nat_eq c b) refl (entry_at s c) refl (sym (get-modified (recount f) s.map b c) ∙ had))
   where
-    go : (o : Option (Kept (List ℕ))) → entry_at s b ≡ o → IsTable (with_count f s b o)
-    go None none =
-        table_from s (λ c k had.
-        elim (cases_eq c b) [
-          | inl same ↦ let at_b : entry_at s b ≡ Some k = ap (entry_at s) (sym same) ∙ had in absurd (cc)
-          | inr differs ↦ others c k differs had
-        ])
-    go (Some j) at =
-        table_from _ (λ c k had.
-        elim (cases_eq c b) [
-          | inl same ↦
-              let new = same_Some _ _ (sym (get-inserted s.map b _ c ∙ ap (λ t. cond t (Some (record j { count = f j.count })) (entry_at s c)) (eq-eqb c b same)) ∙ had) in
-              subst Counts new (fits j at)
-          | inr differs ↦ others c k differs (sym (get-inserted s.map b _ c ∙ ap (λ t. cond t (Some (record j { count = f j.count })) (entry_at s c)) (ne_eqb c b differs)) ∙ had)
-        ])
+    go : (c : ℕ) (k : Kept (List ℕ)) (t : Bool) → nat_eq c b ≡ t → (o : Option (Kept (List ℕ))) → entry_at s c ≡ o
+        → cond t (option_map (recount f) o) o ≡ Some k → Counts k
+    go c k true here None at had = absurd (cc)
+    go c k false here None at had = absurd (cc)
+    go c k true here (Some j) at had = subst Counts (same_Some _ _ had) (fits j (ap (entry_at s) (sym (eqb-true c b here)) ∙ at))
+    go c k false here (Some j) at had =
+        others c k (λ same. false≢true (sym here ∙ eq-eqb c b same)) (at ∙ had)
 
 pub up_table : (s : State (List ℕ)) (b : ℕ) → IsTable s → IsTable (counted_up s b)
 up_table s b is = rewritten (λ n. n + 1) s b (λ c k differs had. (is.positive c k had, is.others c k had)) (λ k at. (omega arith, is.others b k at))

@@ -6,40 +6,26 @@ use Rattle.ra_ap_intern.specs.declared.symbol.symbols.TheConstants as sym
 
 unfoldable pub constants : List (Symbol × List ℕ)
 constants =
-    (sym.dotdotdot, codes "...") ∷
-    (sym._empty_sym, codes "") ∷
-    (sym.unsafe_, codes "unsafe") ∷
-    (sym.in_, codes "in") ∷
-    (sym.super_, codes "super") ∷
-    (sym.self_, codes "self") ∷
-    (sym.Self_, codes "Self") ∷
-    (sym.tick_static, codes "'static") ∷
-    (sym.tick_underscore, codes "'_") ∷
-    (sym.dollar_crate, codes "$crate") ∷
-    (sym.MISSING_NAME, codes "[missing name]") ∷
-    (sym.fn_, codes "fn") ∷
-    (sym.crate_, codes "crate") ∷
-    (sym.underscore, codes "_") ∷
-    (sym.true_, codes "true") ∷
-    (sym.false_, codes "false") ∷
-    (sym.let_, codes "let") ∷
-    (sym.const_, codes "const") ∷
-    (sym.kw_impl, codes "impl") ∷
-    (sym.proc_dash_macro, codes "proc-macro") ∷
+    (sym.dotdotdot, codes "...") ∷ (sym._empty_sym, codes "") ∷ (sym.unsafe_, codes "unsafe") ∷
+    (sym.in_, codes "in") ∷ (sym.super_, codes "super") ∷ (sym.self_, codes "self") ∷
+    (sym.Self_, codes "Self") ∷ (sym.tick_static, codes "'static") ∷
+    (sym.tick_underscore, codes "'_") ∷ (sym.dollar_crate, codes "$crate") ∷
+    (sym.MISSING_NAME, codes "[missing name]") ∷ (sym.fn_, codes "fn") ∷
+    (sym.crate_, codes "crate") ∷ (sym.underscore, codes "_") ∷ (sym.true_, codes "true") ∷
+    (sym.false_, codes "false") ∷ (sym.let_, codes "let") ∷ (sym.const_, codes "const") ∷
+    (sym.kw_impl, codes "impl") ∷ (sym.proc_dash_macro, codes "proc-macro") ∷
     (sym.aapcs_dash_unwind, codes "aapcs-unwind") ∷
     (sym.avr_dash_interrupt, codes "avr-interrupt") ∷
     (sym.avr_dash_non_dash_blocking_dash_interrupt, codes "avr-non-blocking-interrupt") ∷
     (sym.C_dash_cmse_dash_nonsecure_dash_call, codes "C-cmse-nonsecure-call") ∷
     (sym.C_dash_cmse_dash_nonsecure_dash_entry, codes "C-cmse-nonsecure-entry") ∷
-    (sym.C_dash_unwind, codes "C-unwind") ∷
-    (sym.cdecl_dash_unwind, codes "cdecl-unwind") ∷
+    (sym.C_dash_unwind, codes "C-unwind") ∷ (sym.cdecl_dash_unwind, codes "cdecl-unwind") ∷
     (sym.fastcall_dash_unwind, codes "fastcall-unwind") ∷
     (sym.msp430_dash_interrupt, codes "msp430-interrupt") ∷
     (sym.ptx_dash_kernel, codes "ptx-kernel") ∷
     (sym.riscv_dash_interrupt_dash_m, codes "riscv-interrupt-m") ∷
     (sym.riscv_dash_interrupt_dash_s, codes "riscv-interrupt-s") ∷
-    (sym.rust_dash_call, codes "rust-call") ∷
-    (sym.rust_dash_cold, codes "rust-cold") ∷
+    (sym.rust_dash_call, codes "rust-call") ∷ (sym.rust_dash_cold, codes "rust-cold") ∷
     (sym.rust_dash_intrinsic, codes "rust-intrinsic") ∷
     (sym.stdcall_dash_unwind, codes "stdcall-unwind") ∷
     (sym.system_dash_unwind, codes "system-unwind") ∷
@@ -48,336 +34,164 @@ constants =
     (sym.vectorcall_dash_unwind, codes "vectorcall-unwind") ∷
     (sym.win64_dash_unwind, codes "win64-unwind") ∷
     (sym.x86_dash_interrupt, codes "x86-interrupt") ∷
-    (sym.rust_dash_preserve_dash_none, codes "preserve-none") ∷
-    (sym._0_u8, codes "0_u8") ∷
-    (sym._ra_fixup_sym, codes "__ra_fixup") ∷
-    (sym.aapcs, codes "aapcs") ∷
-    (sym.add_assign, codes "add_assign") ∷
-    (sym.add, codes "add") ∷
-    (sym.alias, codes "alias") ∷
-    (sym.align_offset, codes "align_offset") ∷
-    (sym.align, codes "align") ∷
-    (sym.all, codes "all") ∷
-    (sym.alloc_layout, codes "alloc_layout") ∷
-    (sym.alloc, codes "alloc") ∷
-    (sym.allow, codes "allow") ∷
-    (sym.any, codes "any") ∷
-    (sym.as_str, codes "as_str") ∷
-    (sym.asm, codes "asm") ∷
-    (sym.assert, codes "assert") ∷
-    (sym.async_iter, codes "async_iter") ∷
-    (sym.async_iterator, codes "async_iterator") ∷
-    (sym.AsyncIterator, codes "AsyncIterator") ∷
-    (sym.attr, codes "attr") ∷
-    (sym.attributes, codes "attributes") ∷
-    (sym.begin_panic, codes "begin_panic") ∷
-    (sym.bench, codes "bench") ∷
-    (sym.bitand_assign, codes "bitand_assign") ∷
-    (sym.bitand, codes "bitand") ∷
-    (sym.bitor_assign, codes "bitor_assign") ∷
-    (sym.bitor, codes "bitor") ∷
-    (sym.bitxor_assign, codes "bitxor_assign") ∷
-    (sym.bitxor, codes "bitxor") ∷
-    (sym.bool, codes "bool") ∷
-    (sym.bootstrap, codes "bootstrap") ∷
-    (sym.box_free, codes "box_free") ∷
-    (sym.Box, codes "Box") ∷
-    (sym.boxed, codes "boxed") ∷
-    (sym.branch, codes "branch") ∷
-    (sym.Break, codes "Break") ∷
-    (sym.c_void, codes "c_void") ∷
-    (sym.C, codes "C") ∷
-    (sym.call_mut, codes "call_mut") ∷
-    (sym.call_once, codes "call_once") ∷
-    (sym.async_call_once, codes "async_call_once") ∷
-    (sym.async_call_mut, codes "async_call_mut") ∷
-    (sym.async_call, codes "async_call") ∷
-    (sym.call, codes "call") ∷
-    (sym.cdecl, codes "cdecl") ∷
-    (sym.Center, codes "Center") ∷
-    (sym.cfg_accessible, codes "cfg_accessible") ∷
-    (sym.cfg_attr, codes "cfg_attr") ∷
-    (sym.cfg_eval, codes "cfg_eval") ∷
-    (sym.cfg, codes "cfg") ∷
-    (sym.cfg_select, codes "cfg_select") ∷
-    (sym.char, codes "char") ∷
-    (sym.clone, codes "clone") ∷
-    (sym.trivial_clone, codes "trivial_clone") ∷
-    (sym.Clone, codes "Clone") ∷
-    (sym.code, codes "code") ∷
-    (sym.coerce_shared, codes "coerce_shared") ∷
-    (sym.coerce_unsized, codes "coerce_unsized") ∷
-    (sym.column, codes "column") ∷
-    (sym.completion, codes "completion") ∷
-    (sym.compile_error, codes "compile_error") ∷
-    (sym.concat_bytes, codes "concat_bytes") ∷
-    (sym.concat, codes "concat") ∷
+    (sym.rust_dash_preserve_dash_none, codes "preserve-none") ∷ (sym._0_u8, codes "0_u8") ∷
+    (sym._ra_fixup_sym, codes "__ra_fixup") ∷ (sym.aapcs, codes "aapcs") ∷
+    (sym.add_assign, codes "add_assign") ∷ (sym.add, codes "add") ∷ (sym.alias, codes "alias") ∷
+    (sym.align_offset, codes "align_offset") ∷ (sym.align, codes "align") ∷ (sym.all, codes "all") ∷
+    (sym.alloc_layout, codes "alloc_layout") ∷ (sym.alloc, codes "alloc") ∷
+    (sym.allow, codes "allow") ∷ (sym.any, codes "any") ∷ (sym.as_str, codes "as_str") ∷
+    (sym.asm, codes "asm") ∷ (sym.assert, codes "assert") ∷ (sym.async_iter, codes "async_iter") ∷
+    (sym.async_iterator, codes "async_iterator") ∷ (sym.AsyncIterator, codes "AsyncIterator") ∷
+    (sym.attr, codes "attr") ∷ (sym.attributes, codes "attributes") ∷
+    (sym.begin_panic, codes "begin_panic") ∷ (sym.bench, codes "bench") ∷
+    (sym.bitand_assign, codes "bitand_assign") ∷ (sym.bitand, codes "bitand") ∷
+    (sym.bitor_assign, codes "bitor_assign") ∷ (sym.bitor, codes "bitor") ∷
+    (sym.bitxor_assign, codes "bitxor_assign") ∷ (sym.bitxor, codes "bitxor") ∷
+    (sym.bool, codes "bool") ∷ (sym.bootstrap, codes "bootstrap") ∷
+    (sym.box_free, codes "box_free") ∷ (sym.Box, codes "Box") ∷ (sym.boxed, codes "boxed") ∷
+    (sym.branch, codes "branch") ∷ (sym.Break, codes "Break") ∷ (sym.c_void, codes "c_void") ∷
+    (sym.C, codes "C") ∷ (sym.call_mut, codes "call_mut") ∷ (sym.call_once, codes "call_once") ∷
+    (sym.async_call_once, codes "async_call_once") ∷ (sym.async_call_mut, codes "async_call_mut") ∷
+    (sym.async_call, codes "async_call") ∷ (sym.call, codes "call") ∷ (sym.cdecl, codes "cdecl") ∷
+    (sym.Center, codes "Center") ∷ (sym.cfg_accessible, codes "cfg_accessible") ∷
+    (sym.cfg_attr, codes "cfg_attr") ∷ (sym.cfg_eval, codes "cfg_eval") ∷ (sym.cfg, codes "cfg") ∷
+    (sym.cfg_select, codes "cfg_select") ∷ (sym.char, codes "char") ∷ (sym.clone, codes "clone") ∷
+    (sym.trivial_clone, codes "trivial_clone") ∷ (sym.Clone, codes "Clone") ∷
+    (sym.code, codes "code") ∷ (sym.coerce_shared, codes "coerce_shared") ∷
+    (sym.coerce_unsized, codes "coerce_unsized") ∷ (sym.column, codes "column") ∷
+    (sym.completion, codes "completion") ∷ (sym.compile_error, codes "compile_error") ∷
+    (sym.concat_bytes, codes "concat_bytes") ∷ (sym.concat, codes "concat") ∷
     (sym.const_format_args, codes "const_format_args") ∷
-    (sym.const_panic_fmt, codes "const_panic_fmt") ∷
-    (sym.const_param_ty, codes "const_param_ty") ∷
-    (sym.Context, codes "Context") ∷
-    (sym.Continue, codes "Continue") ∷
-    (sym.convert, codes "convert") ∷
-    (sym.copy, codes "copy") ∷
-    (sym.use_cloned, codes "use_cloned") ∷
-    (sym.Copy, codes "Copy") ∷
-    (sym.core_panic, codes "core_panic") ∷
-    (sym.core, codes "core") ∷
-    (sym.coroutine_state, codes "coroutine_state") ∷
-    (sym.coroutine, codes "coroutine") ∷
+    (sym.const_panic_fmt, codes "const_panic_fmt") ∷ (sym.const_param_ty, codes "const_param_ty") ∷
+    (sym.Context, codes "Context") ∷ (sym.Continue, codes "Continue") ∷
+    (sym.convert, codes "convert") ∷ (sym.copy, codes "copy") ∷
+    (sym.use_cloned, codes "use_cloned") ∷ (sym.Copy, codes "Copy") ∷
+    (sym.core_panic, codes "core_panic") ∷ (sym.core, codes "core") ∷
+    (sym.coroutine_state, codes "coroutine_state") ∷ (sym.coroutine, codes "coroutine") ∷
     (sym.coroutine_return, codes "coroutine_return") ∷
-    (sym.coroutine_yield, codes "coroutine_yield") ∷
-    (sym.count, codes "count") ∷
-    (sym.crate_type, codes "crate_type") ∷
-    (sym.CStr, codes "CStr") ∷
-    (sym.debug_assertions, codes "debug_assertions") ∷
-    (sym.Debug, codes "Debug") ∷
-    (sym.default, codes "default") ∷
-    (sym.Default, codes "Default") ∷
-    (sym.deprecated, codes "deprecated") ∷
-    (sym.deref_mut, codes "deref_mut") ∷
-    (sym.deref_pure, codes "deref_pure") ∷
-    (sym.deref_target, codes "deref_target") ∷
-    (sym.deref, codes "deref") ∷
-    (sym.derive_const, codes "derive_const") ∷
-    (sym.derive, codes "derive") ∷
-    (sym.discriminant_kind, codes "discriminant_kind") ∷
+    (sym.coroutine_yield, codes "coroutine_yield") ∷ (sym.count, codes "count") ∷
+    (sym.crate_type, codes "crate_type") ∷ (sym.CStr, codes "CStr") ∷
+    (sym.debug_assertions, codes "debug_assertions") ∷ (sym.Debug, codes "Debug") ∷
+    (sym.default, codes "default") ∷ (sym.Default, codes "Default") ∷
+    (sym.deprecated, codes "deprecated") ∷ (sym.deref_mut, codes "deref_mut") ∷
+    (sym.deref_pure, codes "deref_pure") ∷ (sym.deref_target, codes "deref_target") ∷
+    (sym.deref, codes "deref") ∷ (sym.derive_const, codes "derive_const") ∷
+    (sym.derive, codes "derive") ∷ (sym.discriminant_kind, codes "discriminant_kind") ∷
     (sym.discriminant_type, codes "discriminant_type") ∷
-    (sym.dispatch_from_dyn, codes "dispatch_from_dyn") ∷
-    (sym.destruct, codes "destruct") ∷
+    (sym.dispatch_from_dyn, codes "dispatch_from_dyn") ∷ (sym.destruct, codes "destruct") ∷
     (sym.bikeshed_guaranteed_no_drop, codes "bikeshed_guaranteed_no_drop") ∷
-    (sym.div_assign, codes "div_assign") ∷
-    (sym.div, codes "div") ∷
-    (sym.doc, codes "doc") ∷
-    (sym.drop_in_place, codes "drop_in_place") ∷
-    (sym.drop, codes "drop") ∷
-    (sym.pin_drop, codes "pin_drop") ∷
-    (sym.dyn_metadata, codes "dyn_metadata") ∷
-    (sym.efiapi, codes "efiapi") ∷
-    (sym.eh_catch_typeinfo, codes "eh_catch_typeinfo") ∷
-    (sym.eh_personality, codes "eh_personality") ∷
-    (sym.env, codes "env") ∷
-    (sym.eq, codes "eq") ∷
-    (sym.Eq, codes "Eq") ∷
-    (sym.Err, codes "Err") ∷
-    (sym.exchange_malloc, codes "exchange_malloc") ∷
+    (sym.div_assign, codes "div_assign") ∷ (sym.div, codes "div") ∷ (sym.doc, codes "doc") ∷
+    (sym.drop_in_place, codes "drop_in_place") ∷ (sym.drop, codes "drop") ∷
+    (sym.pin_drop, codes "pin_drop") ∷ (sym.dyn_metadata, codes "dyn_metadata") ∷
+    (sym.efiapi, codes "efiapi") ∷ (sym.eh_catch_typeinfo, codes "eh_catch_typeinfo") ∷
+    (sym.eh_personality, codes "eh_personality") ∷ (sym.env, codes "env") ∷ (sym.eq, codes "eq") ∷
+    (sym.Eq, codes "Eq") ∷ (sym.Err, codes "Err") ∷ (sym.exchange_malloc, codes "exchange_malloc") ∷
     (sym.exhaustive_patterns, codes "exhaustive_patterns") ∷
-    (sym.export_name, codes "export_name") ∷
-    (sym.f128, codes "f128") ∷
-    (sym.f16, codes "f16") ∷
-    (sym.f32, codes "f32") ∷
-    (sym.f64, codes "f64") ∷
-    (sym.fastcall, codes "fastcall") ∷
-    (sym.feature, codes "feature") ∷
-    (sym.file, codes "file") ∷
-    (sym.filter_map, codes "filter_map") ∷
-    (sym.fmt, codes "fmt") ∷
-    (sym.fn_mut, codes "fn_mut") ∷
-    (sym.fn_once_output, codes "fn_once_output") ∷
-    (sym.fn_once, codes "fn_once") ∷
+    (sym.export_name, codes "export_name") ∷ (sym.f128, codes "f128") ∷ (sym.f16, codes "f16") ∷
+    (sym.f32, codes "f32") ∷ (sym.f64, codes "f64") ∷ (sym.fastcall, codes "fastcall") ∷
+    (sym.feature, codes "feature") ∷ (sym.file, codes "file") ∷
+    (sym.filter_map, codes "filter_map") ∷ (sym.fmt, codes "fmt") ∷ (sym.fn_mut, codes "fn_mut") ∷
+    (sym.fn_once_output, codes "fn_once_output") ∷ (sym.fn_once, codes "fn_once") ∷
     (sym.async_fn_once, codes "async_fn_once") ∷
     (sym.async_fn_once_output, codes "async_fn_once_output") ∷
-    (sym.async_fn_mut, codes "async_fn_mut") ∷
-    (sym.async_fn, codes "async_fn") ∷
+    (sym.async_fn_mut, codes "async_fn_mut") ∷ (sym.async_fn, codes "async_fn") ∷
     (sym.async_fn_kind_helper, codes "async_fn_kind_helper") ∷
     (sym.async_fn_kind_upvars, codes "async_fn_kind_upvars") ∷
     (sym.call_ref_future, codes "call_ref_future") ∷
-    (sym.call_once_future, codes "call_once_future") ∷
-    (sym.fn_ptr_as_ptr, codes "fn_ptr_as_ptr") ∷
-    (sym.fn_ptr_from_ptr, codes "fn_ptr_from_ptr") ∷
-    (sym.fn_ptr_trait, codes "fn_ptr_trait") ∷
+    (sym.call_once_future, codes "call_once_future") ∷ (sym.fn_ptr_as_ptr, codes "fn_ptr_as_ptr") ∷
+    (sym.fn_ptr_from_ptr, codes "fn_ptr_from_ptr") ∷ (sym.fn_ptr_trait, codes "fn_ptr_trait") ∷
     (sym.format_alignment, codes "format_alignment") ∷
-    (sym.format_args_nl, codes "format_args_nl") ∷
-    (sym.format_args, codes "format_args") ∷
+    (sym.format_args_nl, codes "format_args_nl") ∷ (sym.format_args, codes "format_args") ∷
     (sym.format_argument, codes "format_argument") ∷
-    (sym.format_arguments, codes "format_arguments") ∷
-    (sym.format_count, codes "format_count") ∷
+    (sym.format_arguments, codes "format_arguments") ∷ (sym.format_count, codes "format_count") ∷
     (sym.format_placeholder, codes "format_placeholder") ∷
-    (sym.format_unsafe_arg, codes "format_unsafe_arg") ∷
-    (sym.format, codes "format") ∷
-    (sym.freeze, codes "freeze") ∷
-    (sym.from, codes "from") ∷
-    (sym.From, codes "From") ∷
-    (sym.FromStr, codes "FromStr") ∷
-    (sym.from_str, codes "from_str") ∷
-    (sym.from_output, codes "from_output") ∷
-    (sym.from_residual, codes "from_residual") ∷
-    (sym.from_usize, codes "from_usize") ∷
-    (sym.from_yeet, codes "from_yeet") ∷
-    (sym.fundamental, codes "fundamental") ∷
-    (sym.future_trait, codes "future_trait") ∷
-    (sym.future, codes "future") ∷
-    (sym.future_output, codes "future_output") ∷
-    (sym.Future, codes "Future") ∷
-    (sym.ge, codes "ge") ∷
+    (sym.format_unsafe_arg, codes "format_unsafe_arg") ∷ (sym.format, codes "format") ∷
+    (sym.freeze, codes "freeze") ∷ (sym.from, codes "from") ∷ (sym.From, codes "From") ∷
+    (sym.FromStr, codes "FromStr") ∷ (sym.from_str, codes "from_str") ∷
+    (sym.from_output, codes "from_output") ∷ (sym.from_residual, codes "from_residual") ∷
+    (sym.from_usize, codes "from_usize") ∷ (sym.from_yeet, codes "from_yeet") ∷
+    (sym.fundamental, codes "fundamental") ∷ (sym.future_trait, codes "future_trait") ∷
+    (sym.future, codes "future") ∷ (sym.future_output, codes "future_output") ∷
+    (sym.Future, codes "Future") ∷ (sym.ge, codes "ge") ∷
     (sym.generic_associated_type_extended, codes "generic_associated_type_extended") ∷
-    (sym.get_context, codes "get_context") ∷
-    (sym.global_allocator, codes "global_allocator") ∷
-    (sym.global_asm, codes "global_asm") ∷
-    (sym.gt, codes "gt") ∷
-    (sym.Hash, codes "Hash") ∷
-    (sym.hidden, codes "hidden") ∷
-    (sym.html_root_url, codes "html_root_url") ∷
-    (sym.i128, codes "i128") ∷
-    (sym.i16, codes "i16") ∷
-    (sym.i32, codes "i32") ∷
-    (sym.i64, codes "i64") ∷
-    (sym.i8, codes "i8") ∷
-    (sym.ignore, codes "ignore") ∷
-    (sym.Implied, codes "Implied") ∷
-    (sym.include_bytes, codes "include_bytes") ∷
-    (sym.include_str, codes "include_str") ∷
-    (sym.include, codes "include") ∷
-    (sym.index_mut, codes "index_mut") ∷
-    (sym.index, codes "index") ∷
-    (sym.Index, codes "Index") ∷
-    (sym.into, codes "into") ∷
-    (sym.Into, codes "Into") ∷
-    (sym.into_future, codes "into_future") ∷
-    (sym.into_iter, codes "into_iter") ∷
-    (sym.into_try_type, codes "into_try_type") ∷
-    (sym.IntoFuture, codes "IntoFuture") ∷
-    (sym.IntoIter, codes "IntoIter") ∷
-    (sym.IntoIterator, codes "IntoIterator") ∷
-    (sym.is_empty, codes "is_empty") ∷
-    (sym.Is, codes "Is") ∷
-    (sym.isize, codes "isize") ∷
-    (sym.Item, codes "Item") ∷
-    (sym.iter_mut, codes "iter_mut") ∷
-    (sym.iter, codes "iter") ∷
-    (sym.Iterator, codes "Iterator") ∷
-    (sym.iterator, codes "iterator") ∷
-    (sym.fused_iterator, codes "fused_iterator") ∷
-    (sym.keyword, codes "keyword") ∷
-    (sym.lang, codes "lang") ∷
-    (sym.lang_items, codes "lang_items") ∷
-    (sym.le, codes "le") ∷
-    (sym.Left, codes "Left") ∷
-    (sym.len, codes "len") ∷
-    (sym.line, codes "line") ∷
-    (sym.llvm_asm, codes "llvm_asm") ∷
-    (sym.local_inner_macros, codes "local_inner_macros") ∷
-    (sym.log_syntax, codes "log_syntax") ∷
-    (sym.lt, codes "lt") ∷
-    (sym.macro_export, codes "macro_export") ∷
-    (sym.macro_rules, codes "macro_rules") ∷
-    (sym.macro_use, codes "macro_use") ∷
-    (sym.main, codes "main") ∷
-    (sym.manually_drop, codes "manually_drop") ∷
-    (sym.may_dangle, codes "may_dangle") ∷
-    (sym.maybe_uninit, codes "maybe_uninit") ∷
+    (sym.get_context, codes "get_context") ∷ (sym.global_allocator, codes "global_allocator") ∷
+    (sym.global_asm, codes "global_asm") ∷ (sym.gt, codes "gt") ∷ (sym.Hash, codes "Hash") ∷
+    (sym.hidden, codes "hidden") ∷ (sym.html_root_url, codes "html_root_url") ∷
+    (sym.i128, codes "i128") ∷ (sym.i16, codes "i16") ∷ (sym.i32, codes "i32") ∷
+    (sym.i64, codes "i64") ∷ (sym.i8, codes "i8") ∷ (sym.ignore, codes "ignore") ∷
+    (sym.Implied, codes "Implied") ∷ (sym.include_bytes, codes "include_bytes") ∷
+    (sym.include_str, codes "include_str") ∷ (sym.include, codes "include") ∷
+    (sym.index_mut, codes "index_mut") ∷ (sym.index, codes "index") ∷ (sym.Index, codes "Index") ∷
+    (sym.into, codes "into") ∷ (sym.Into, codes "Into") ∷ (sym.into_future, codes "into_future") ∷
+    (sym.into_iter, codes "into_iter") ∷ (sym.into_try_type, codes "into_try_type") ∷
+    (sym.IntoFuture, codes "IntoFuture") ∷ (sym.IntoIter, codes "IntoIter") ∷
+    (sym.IntoIterator, codes "IntoIterator") ∷ (sym.is_empty, codes "is_empty") ∷
+    (sym.Is, codes "Is") ∷ (sym.isize, codes "isize") ∷ (sym.Item, codes "Item") ∷
+    (sym.iter_mut, codes "iter_mut") ∷ (sym.iter, codes "iter") ∷ (sym.Iterator, codes "Iterator") ∷
+    (sym.iterator, codes "iterator") ∷ (sym.fused_iterator, codes "fused_iterator") ∷
+    (sym.keyword, codes "keyword") ∷ (sym.lang, codes "lang") ∷
+    (sym.lang_items, codes "lang_items") ∷ (sym.le, codes "le") ∷ (sym.Left, codes "Left") ∷
+    (sym.len, codes "len") ∷ (sym.line, codes "line") ∷ (sym.llvm_asm, codes "llvm_asm") ∷
+    (sym.local_inner_macros, codes "local_inner_macros") ∷ (sym.log_syntax, codes "log_syntax") ∷
+    (sym.lt, codes "lt") ∷ (sym.macro_export, codes "macro_export") ∷
+    (sym.macro_rules, codes "macro_rules") ∷ (sym.macro_use, codes "macro_use") ∷
+    (sym.main, codes "main") ∷ (sym.manually_drop, codes "manually_drop") ∷
+    (sym.may_dangle, codes "may_dangle") ∷ (sym.maybe_uninit, codes "maybe_uninit") ∷
     (sym.metadata_type, codes "metadata_type") ∷
-    (sym.min_exhaustive_patterns, codes "min_exhaustive_patterns") ∷
-    (sym.miri, codes "miri") ∷
-    (sym.missing, codes "missing") ∷
-    (sym.module_path, codes "module_path") ∷
-    (sym.mul_assign, codes "mul_assign") ∷
-    (sym.mul, codes "mul") ∷
-    (sym.must_use, codes "must_use") ∷
-    (sym.naked_asm, codes "naked_asm") ∷
-    (sym.ne, codes "ne") ∷
-    (sym.neg, codes "neg") ∷
-    (sym.Neg, codes "Neg") ∷
-    (sym.new_binary, codes "new_binary") ∷
-    (sym.new_debug, codes "new_debug") ∷
-    (sym.new_display, codes "new_display") ∷
-    (sym.new_lower_exp, codes "new_lower_exp") ∷
-    (sym.new_lower_hex, codes "new_lower_hex") ∷
-    (sym.new_octal, codes "new_octal") ∷
-    (sym.new_pointer, codes "new_pointer") ∷
-    (sym.new_unchecked, codes "new_unchecked") ∷
-    (sym.new_upper_exp, codes "new_upper_exp") ∷
-    (sym.new_upper_hex, codes "new_upper_hex") ∷
-    (sym.new_v1_formatted, codes "new_v1_formatted") ∷
-    (sym.new, codes "new") ∷
-    (sym.next, codes "next") ∷
-    (sym.no_core, codes "no_core") ∷
-    (sym.no_mangle, codes "no_mangle") ∷
-    (sym.no_std, codes "no_std") ∷
-    (sym.non_exhaustive, codes "non_exhaustive") ∷
-    (sym.non_null, codes "non_null") ∷
-    (sym.none, codes "none") ∷
-    (sym.None, codes "None") ∷
-    (sym.not, codes "not") ∷
-    (sym.Not, codes "Not") ∷
-    (sym.notable_trait, codes "notable_trait") ∷
-    (sym.Ok, codes "Ok") ∷
-    (sym.opaque, codes "opaque") ∷
-    (sym.ops, codes "ops") ∷
-    (sym.option_env, codes "option_env") ∷
-    (sym.option, codes "option") ∷
-    (sym.Option, codes "Option") ∷
-    (sym.Ord, codes "Ord") ∷
-    (sym.Ordering, codes "Ordering") ∷
-    (sym.Output, codes "Output") ∷
-    (sym.CallRefFuture, codes "CallRefFuture") ∷
-    (sym.CallOnceFuture, codes "CallOnceFuture") ∷
-    (sym.owned_box, codes "owned_box") ∷
-    (sym.packed, codes "packed") ∷
-    (sym.panic_2015, codes "panic_2015") ∷
-    (sym.panic_2021, codes "panic_2021") ∷
+    (sym.min_exhaustive_patterns, codes "min_exhaustive_patterns") ∷ (sym.miri, codes "miri") ∷
+    (sym.missing, codes "missing") ∷ (sym.module_path, codes "module_path") ∷
+    (sym.mul_assign, codes "mul_assign") ∷ (sym.mul, codes "mul") ∷
+    (sym.must_use, codes "must_use") ∷ (sym.naked_asm, codes "naked_asm") ∷ (sym.ne, codes "ne") ∷
+    (sym.neg, codes "neg") ∷ (sym.Neg, codes "Neg") ∷ (sym.new_binary, codes "new_binary") ∷
+    (sym.new_debug, codes "new_debug") ∷ (sym.new_display, codes "new_display") ∷
+    (sym.new_lower_exp, codes "new_lower_exp") ∷ (sym.new_lower_hex, codes "new_lower_hex") ∷
+    (sym.new_octal, codes "new_octal") ∷ (sym.new_pointer, codes "new_pointer") ∷
+    (sym.new_unchecked, codes "new_unchecked") ∷ (sym.new_upper_exp, codes "new_upper_exp") ∷
+    (sym.new_upper_hex, codes "new_upper_hex") ∷ (sym.new_v1_formatted, codes "new_v1_formatted") ∷
+    (sym.new, codes "new") ∷ (sym.next, codes "next") ∷ (sym.no_core, codes "no_core") ∷
+    (sym.no_mangle, codes "no_mangle") ∷ (sym.no_std, codes "no_std") ∷
+    (sym.non_exhaustive, codes "non_exhaustive") ∷ (sym.non_null, codes "non_null") ∷
+    (sym.none, codes "none") ∷ (sym.None, codes "None") ∷ (sym.not, codes "not") ∷
+    (sym.Not, codes "Not") ∷ (sym.notable_trait, codes "notable_trait") ∷ (sym.Ok, codes "Ok") ∷
+    (sym.opaque, codes "opaque") ∷ (sym.ops, codes "ops") ∷ (sym.option_env, codes "option_env") ∷
+    (sym.option, codes "option") ∷ (sym.Option, codes "Option") ∷ (sym.Ord, codes "Ord") ∷
+    (sym.Ordering, codes "Ordering") ∷ (sym.Output, codes "Output") ∷
+    (sym.CallRefFuture, codes "CallRefFuture") ∷ (sym.CallOnceFuture, codes "CallOnceFuture") ∷
+    (sym.owned_box, codes "owned_box") ∷ (sym.packed, codes "packed") ∷
+    (sym.panic_2015, codes "panic_2015") ∷ (sym.panic_2021, codes "panic_2021") ∷
     (sym.panic_bounds_check, codes "panic_bounds_check") ∷
     (sym.panic_cannot_unwind, codes "panic_cannot_unwind") ∷
-    (sym.panic_display, codes "panic_display") ∷
-    (sym.panic_fmt, codes "panic_fmt") ∷
-    (sym.panic_impl, codes "panic_impl") ∷
-    (sym.panic_info, codes "panic_info") ∷
+    (sym.panic_display, codes "panic_display") ∷ (sym.panic_fmt, codes "panic_fmt") ∷
+    (sym.panic_impl, codes "panic_impl") ∷ (sym.panic_info, codes "panic_info") ∷
     (sym.panic_location, codes "panic_location") ∷
     (sym.panic_misaligned_pointer_dereference, codes "panic_misaligned_pointer_dereference") ∷
     (sym.panic_nounwind, codes "panic_nounwind") ∷
     (sym.panic_null_pointer_dereference, codes "panic_null_pointer_dereference") ∷
-    (sym.panic, codes "panic") ∷
-    (sym.Param, codes "Param") ∷
-    (sym.parse, codes "parse") ∷
-    (sym.partial_ord, codes "partial_ord") ∷
-    (sym.PartialEq, codes "PartialEq") ∷
-    (sym.PartialOrd, codes "PartialOrd") ∷
-    (sym.CoercePointee, codes "CoercePointee") ∷
-    (sym.CoerceShared, codes "CoerceShared") ∷
-    (sym.path, codes "path") ∷
-    (sym.pattern_type, codes "pattern_type") ∷
-    (sym.Pending, codes "Pending") ∷
-    (sym.phantom_data, codes "phantom_data") ∷
-    (sym.pieces, codes "pieces") ∷
-    (sym.pin, codes "pin") ∷
-    (sym.pointee_trait, codes "pointee_trait") ∷
-    (sym.pointer_like, codes "pointer_like") ∷
-    (sym.poll, codes "poll") ∷
-    (sym.Poll, codes "Poll") ∷
-    (sym.prelude_import, codes "prelude_import") ∷
-    (sym.prelude, codes "prelude") ∷
-    (sym.reborrow, codes "reborrow") ∷
-    (sym.Reborrow, codes "Reborrow") ∷
+    (sym.panic, codes "panic") ∷ (sym.Param, codes "Param") ∷ (sym.parse, codes "parse") ∷
+    (sym.partial_ord, codes "partial_ord") ∷ (sym.PartialEq, codes "PartialEq") ∷
+    (sym.PartialOrd, codes "PartialOrd") ∷ (sym.CoercePointee, codes "CoercePointee") ∷
+    (sym.CoerceShared, codes "CoerceShared") ∷ (sym.path, codes "path") ∷
+    (sym.pattern_type, codes "pattern_type") ∷ (sym.Pending, codes "Pending") ∷
+    (sym.phantom_data, codes "phantom_data") ∷ (sym.pieces, codes "pieces") ∷
+    (sym.pin, codes "pin") ∷ (sym.pointee_trait, codes "pointee_trait") ∷
+    (sym.pointer_like, codes "pointer_like") ∷ (sym.poll, codes "poll") ∷ (sym.Poll, codes "Poll") ∷
+    (sym.prelude_import, codes "prelude_import") ∷ (sym.prelude, codes "prelude") ∷
+    (sym.reborrow, codes "reborrow") ∷ (sym.Reborrow, codes "Reborrow") ∷
     (sym.proc_macro_attribute, codes "proc_macro_attribute") ∷
-    (sym.proc_macro_derive, codes "proc_macro_derive") ∷
-    (sym.proc_macro, codes "proc_macro") ∷
-    (sym.quote, codes "quote") ∷
-    (sym.range_inclusive_new, codes "range_inclusive_new") ∷
-    (sym.Range, codes "Range") ∷
-    (sym.RangeFrom, codes "RangeFrom") ∷
-    (sym.RangeFull, codes "RangeFull") ∷
-    (sym.RangeInclusive, codes "RangeInclusive") ∷
-    (sym.RangeTo, codes "RangeTo") ∷
-    (sym.RangeToInclusive, codes "RangeToInclusive") ∷
-    (sym.Ready, codes "Ready") ∷
-    (sym.receiver, codes "receiver") ∷
+    (sym.proc_macro_derive, codes "proc_macro_derive") ∷ (sym.proc_macro, codes "proc_macro") ∷
+    (sym.quote, codes "quote") ∷ (sym.range_inclusive_new, codes "range_inclusive_new") ∷
+    (sym.Range, codes "Range") ∷ (sym.RangeFrom, codes "RangeFrom") ∷
+    (sym.RangeFull, codes "RangeFull") ∷ (sym.RangeInclusive, codes "RangeInclusive") ∷
+    (sym.RangeTo, codes "RangeTo") ∷ (sym.RangeToInclusive, codes "RangeToInclusive") ∷
+    (sym.Ready, codes "Ready") ∷ (sym.receiver, codes "receiver") ∷
     (sym.receiver_target, codes "receiver_target") ∷
-    (sym.recursion_limit, codes "recursion_limit") ∷
-    (sym.register_attr, codes "register_attr") ∷
-    (sym.register_tool, codes "register_tool") ∷
-    (sym.rem_assign, codes "rem_assign") ∷
-    (sym.rem, codes "rem") ∷
-    (sym.repr, codes "repr") ∷
-    (sym.result, codes "result") ∷
-    (sym.Result, codes "Result") ∷
-    (sym.ResumeTy, codes "ResumeTy") ∷
-    (sym.Right, codes "Right") ∷
-    (sym.rust_2015, codes "rust_2015") ∷
-    (sym.rust_2018, codes "rust_2018") ∷
-    (sym.rust_2021, codes "rust_2021") ∷
-    (sym.rust_2024, codes "rust_2024") ∷
-    (sym.rust_analyzer, codes "rust_analyzer") ∷
-    (sym.Rust, codes "Rust") ∷
+    (sym.recursion_limit, codes "recursion_limit") ∷ (sym.register_attr, codes "register_attr") ∷
+    (sym.register_tool, codes "register_tool") ∷ (sym.rem_assign, codes "rem_assign") ∷
+    (sym.rem, codes "rem") ∷ (sym.repr, codes "repr") ∷ (sym.result, codes "result") ∷
+    (sym.Result, codes "Result") ∷ (sym.ResumeTy, codes "ResumeTy") ∷ (sym.Right, codes "Right") ∷
+    (sym.rust_2015, codes "rust_2015") ∷ (sym.rust_2018, codes "rust_2018") ∷
+    (sym.rust_2021, codes "rust_2021") ∷ (sym.rust_2024, codes "rust_2024") ∷
+    (sym.rust_analyzer, codes "rust_analyzer") ∷ (sym.Rust, codes "Rust") ∷
     (sym.rustc_allocator_zeroed, codes "rustc_allocator_zeroed") ∷
     (sym.rustc_allocator, codes "rustc_allocator") ∷
     (sym.rustc_allow_incoherent_impl, codes "rustc_allow_incoherent_impl") ∷
@@ -400,145 +214,82 @@ constants =
     (sym.rustc_safe_intrinsic, codes "rustc_safe_intrinsic") ∷
     (sym.rustc_skip_array_during_method_dispatch, codes "rustc_skip_array_during_method_dispatch") ∷
     (sym.rustc_skip_during_method_dispatch, codes "rustc_skip_during_method_dispatch") ∷
-    (sym.rustc_force_inline, codes "rustc_force_inline") ∷
-    (sym.shl_assign, codes "shl_assign") ∷
-    (sym.shl, codes "shl") ∷
-    (sym.shr_assign, codes "shr_assign") ∷
-    (sym.shr, codes "shr") ∷
-    (sym.simd, codes "simd") ∷
-    (sym.sized, codes "sized") ∷
-    (sym.meta_sized, codes "meta_sized") ∷
-    (sym.pointee_sized, codes "pointee_sized") ∷
-    (sym.skip, codes "skip") ∷
-    (sym.slice_len_fn, codes "slice_len_fn") ∷
-    (sym.Some, codes "Some") ∷
-    (sym.start, codes "start") ∷
-    (sym.last, codes "last") ∷
-    (sym.end, codes "end") ∷
-    (sym.std_panic, codes "std_panic") ∷
-    (sym.std, codes "std") ∷
-    (sym.stdcall, codes "stdcall") ∷
-    (sym.str, codes "str") ∷
-    (sym.string, codes "string") ∷
-    (sym.String, codes "String") ∷
-    (sym.stringify, codes "stringify") ∷
-    (sym.structural_peq, codes "structural_peq") ∷
-    (sym.structural_teq, codes "structural_teq") ∷
-    (sym.sub_assign, codes "sub_assign") ∷
-    (sym.sub, codes "sub") ∷
-    (sym.sync, codes "sync") ∷
-    (sym.system, codes "system") ∷
-    (sym.sysv64, codes "sysv64") ∷
-    (sym.Target, codes "Target") ∷
-    (sym.target_feature, codes "target_feature") ∷
-    (sym.enable, codes "enable") ∷
-    (sym.termination, codes "termination") ∷
-    (sym.test_case, codes "test_case") ∷
-    (sym.test, codes "test") ∷
-    (sym.then, codes "then") ∷
-    (sym.thiscall, codes "thiscall") ∷
-    (sym.to_string, codes "to_string") ∷
-    (sym.trace_macros, codes "trace_macros") ∷
-    (sym.transmute_opts, codes "transmute_opts") ∷
-    (sym.transmute_trait, codes "transmute_trait") ∷
-    (sym.transparent, codes "transparent") ∷
-    (sym.try_into, codes "try_into") ∷
-    (sym.Try, codes "Try") ∷
-    (sym.TryFrom, codes "TryFrom") ∷
-    (sym.try_from, codes "try_from") ∷
-    (sym.tuple_trait, codes "tuple_trait") ∷
-    (sym.u128, codes "u128") ∷
-    (sym.u16, codes "u16") ∷
-    (sym.u32, codes "u32") ∷
-    (sym.u64, codes "u64") ∷
-    (sym.u8, codes "u8") ∷
-    (sym.unadjusted, codes "unadjusted") ∷
-    (sym.unknown, codes "unknown") ∷
-    (sym.Unknown, codes "Unknown") ∷
-    (sym.unpin, codes "unpin") ∷
+    (sym.rustc_force_inline, codes "rustc_force_inline") ∷ (sym.shl_assign, codes "shl_assign") ∷
+    (sym.shl, codes "shl") ∷ (sym.shr_assign, codes "shr_assign") ∷ (sym.shr, codes "shr") ∷
+    (sym.simd, codes "simd") ∷ (sym.sized, codes "sized") ∷ (sym.meta_sized, codes "meta_sized") ∷
+    (sym.pointee_sized, codes "pointee_sized") ∷ (sym.skip, codes "skip") ∷
+    (sym.slice_len_fn, codes "slice_len_fn") ∷ (sym.Some, codes "Some") ∷
+    (sym.start, codes "start") ∷ (sym.last, codes "last") ∷ (sym.end, codes "end") ∷
+    (sym.std_panic, codes "std_panic") ∷ (sym.std, codes "std") ∷ (sym.stdcall, codes "stdcall") ∷
+    (sym.str, codes "str") ∷ (sym.string, codes "string") ∷ (sym.String, codes "String") ∷
+    (sym.stringify, codes "stringify") ∷ (sym.structural_peq, codes "structural_peq") ∷
+    (sym.structural_teq, codes "structural_teq") ∷ (sym.sub_assign, codes "sub_assign") ∷
+    (sym.sub, codes "sub") ∷ (sym.sync, codes "sync") ∷ (sym.system, codes "system") ∷
+    (sym.sysv64, codes "sysv64") ∷ (sym.Target, codes "Target") ∷
+    (sym.target_feature, codes "target_feature") ∷ (sym.enable, codes "enable") ∷
+    (sym.termination, codes "termination") ∷ (sym.test_case, codes "test_case") ∷
+    (sym.test, codes "test") ∷ (sym.then, codes "then") ∷ (sym.thiscall, codes "thiscall") ∷
+    (sym.to_string, codes "to_string") ∷ (sym.trace_macros, codes "trace_macros") ∷
+    (sym.transmute_opts, codes "transmute_opts") ∷ (sym.transmute_trait, codes "transmute_trait") ∷
+    (sym.transparent, codes "transparent") ∷ (sym.try_into, codes "try_into") ∷
+    (sym.Try, codes "Try") ∷ (sym.TryFrom, codes "TryFrom") ∷ (sym.try_from, codes "try_from") ∷
+    (sym.tuple_trait, codes "tuple_trait") ∷ (sym.u128, codes "u128") ∷ (sym.u16, codes "u16") ∷
+    (sym.u32, codes "u32") ∷ (sym.u64, codes "u64") ∷ (sym.u8, codes "u8") ∷
+    (sym.unadjusted, codes "unadjusted") ∷ (sym.unknown, codes "unknown") ∷
+    (sym.Unknown, codes "Unknown") ∷ (sym.unpin, codes "unpin") ∷
     (sym.unreachable_2015, codes "unreachable_2015") ∷
-    (sym.unreachable_2021, codes "unreachable_2021") ∷
-    (sym.unreachable, codes "unreachable") ∷
+    (sym.unreachable_2021, codes "unreachable_2021") ∷ (sym.unreachable, codes "unreachable") ∷
     (sym.unsafe_cell, codes "unsafe_cell") ∷
     (sym.covariant_unsafe_cell, codes "covariant_unsafe_cell") ∷
-    (sym.unsafe_pinned, codes "unsafe_pinned") ∷
-    (sym.unsize, codes "unsize") ∷
-    (sym.unstable, codes "unstable") ∷
-    (sym.usize, codes "usize") ∷
-    (sym.v1, codes "v1") ∷
-    (sym.va_list, codes "va_list") ∷
-    (sym.vectorcall, codes "vectorcall") ∷
-    (sym.wasm, codes "wasm") ∷
-    (sym.win64, codes "win64") ∷
-    (sym.args, codes "args") ∷
-    (sym.array, codes "array") ∷
-    (sym.boxed_slice, codes "boxed_slice") ∷
-    (sym.completions, codes "completions") ∷
-    (sym.ignore_flyimport, codes "ignore_flyimport") ∷
+    (sym.unsafe_pinned, codes "unsafe_pinned") ∷ (sym.unsize, codes "unsize") ∷
+    (sym.unstable, codes "unstable") ∷ (sym.usize, codes "usize") ∷ (sym.v1, codes "v1") ∷
+    (sym.va_list, codes "va_list") ∷ (sym.vectorcall, codes "vectorcall") ∷
+    (sym.wasm, codes "wasm") ∷ (sym.win64, codes "win64") ∷ (sym.args, codes "args") ∷
+    (sym.array, codes "array") ∷ (sym.boxed_slice, codes "boxed_slice") ∷
+    (sym.completions, codes "completions") ∷ (sym.ignore_flyimport, codes "ignore_flyimport") ∷
     (sym.ignore_flyimport_methods, codes "ignore_flyimport_methods") ∷
-    (sym.ignore_methods, codes "ignore_methods") ∷
-    (sym.position, codes "position") ∷
-    (sym.flags, codes "flags") ∷
-    (sym.precision, codes "precision") ∷
-    (sym.width, codes "width") ∷
+    (sym.ignore_methods, codes "ignore_methods") ∷ (sym.position, codes "position") ∷
+    (sym.flags, codes "flags") ∷ (sym.precision, codes "precision") ∷ (sym.width, codes "width") ∷
     (sym.never_type_fallback, codes "never_type_fallback") ∷
     (sym.specialization, codes "specialization") ∷
     (sym.min_specialization, codes "min_specialization") ∷
     (sym.arbitrary_self_types, codes "arbitrary_self_types") ∷
     (sym.arbitrary_self_types_pointers, codes "arbitrary_self_types_pointers") ∷
     (sym.supertrait_item_shadowing, codes "supertrait_item_shadowing") ∷
-    (sym.new_range, codes "new_range") ∷
-    (sym.range, codes "range") ∷
-    (sym.RangeCopy, codes "RangeCopy") ∷
-    (sym.RangeFromCopy, codes "RangeFromCopy") ∷
+    (sym.new_range, codes "new_range") ∷ (sym.range, codes "range") ∷
+    (sym.RangeCopy, codes "RangeCopy") ∷ (sym.RangeFromCopy, codes "RangeFromCopy") ∷
     (sym.RangeInclusiveCopy, codes "RangeInclusiveCopy") ∷
-    (sym.RangeToInclusiveCopy, codes "RangeToInclusiveCopy") ∷
-    (sym.hash, codes "hash") ∷
-    (sym.partial_cmp, codes "partial_cmp") ∷
-    (sym.cmp, codes "cmp") ∷
-    (sym.CoerceUnsized, codes "CoerceUnsized") ∷
-    (sym.DispatchFromDyn, codes "DispatchFromDyn") ∷
-    (sym.define_opaque, codes "define_opaque") ∷
-    (sym.marker, codes "marker") ∷
+    (sym.RangeToInclusiveCopy, codes "RangeToInclusiveCopy") ∷ (sym.hash, codes "hash") ∷
+    (sym.partial_cmp, codes "partial_cmp") ∷ (sym.cmp, codes "cmp") ∷
+    (sym.CoerceUnsized, codes "CoerceUnsized") ∷ (sym.DispatchFromDyn, codes "DispatchFromDyn") ∷
+    (sym.define_opaque, codes "define_opaque") ∷ (sym.marker, codes "marker") ∷
     (sym.abi_unadjusted, codes "abi_unadjusted") ∷
     (sym.allocator_internals, codes "allocator_internals") ∷
     (sym.allow_internal_unsafe, codes "allow_internal_unsafe") ∷
     (sym.allow_internal_unstable, codes "allow_internal_unstable") ∷
     (sym.cfg_emscripten_wasm_eh, codes "cfg_emscripten_wasm_eh") ∷
     (sym.cfg_target_has_reliable_f16_f128, codes "cfg_target_has_reliable_f16_f128") ∷
-    (sym.compiler_builtins, codes "compiler_builtins") ∷
-    (sym.custom_mir, codes "custom_mir") ∷
+    (sym.compiler_builtins, codes "compiler_builtins") ∷ (sym.custom_mir, codes "custom_mir") ∷
     (sym.eii_internals, codes "eii_internals") ∷
     (sym.field_representing_type_raw, codes "field_representing_type_raw") ∷
-    (sym.intrinsics, codes "intrinsics") ∷
-    (sym.core_intrinsics, codes "core_intrinsics") ∷
-    (sym.link_cfg, codes "link_cfg") ∷
-    (sym.more_maybe_bounds, codes "more_maybe_bounds") ∷
+    (sym.intrinsics, codes "intrinsics") ∷ (sym.core_intrinsics, codes "core_intrinsics") ∷
+    (sym.link_cfg, codes "link_cfg") ∷ (sym.more_maybe_bounds, codes "more_maybe_bounds") ∷
     (sym.negative_bounds, codes "negative_bounds") ∷
     (sym.pattern_complexity_limit, codes "pattern_complexity_limit") ∷
-    (sym.profiler_runtime, codes "profiler_runtime") ∷
-    (sym.rustc_attrs, codes "rustc_attrs") ∷
-    (sym.staged_api, codes "staged_api") ∷
-    (sym.test_unstable_lint, codes "test_unstable_lint") ∷
+    (sym.profiler_runtime, codes "profiler_runtime") ∷ (sym.rustc_attrs, codes "rustc_attrs") ∷
+    (sym.staged_api, codes "staged_api") ∷ (sym.test_unstable_lint, codes "test_unstable_lint") ∷
     (sym.builtin_syntax, codes "builtin_syntax") ∷
     (sym.link_llvm_intrinsics, codes "link_llvm_intrinsics") ∷
     (sym.needs_panic_runtime, codes "needs_panic_runtime") ∷
-    (sym.panic_runtime, codes "panic_runtime") ∷
-    (sym.pattern_types, codes "pattern_types") ∷
+    (sym.panic_runtime, codes "panic_runtime") ∷ (sym.pattern_types, codes "pattern_types") ∷
     (sym.rustdoc_internals, codes "rustdoc_internals") ∷
     (sym.contracts_internals, codes "contracts_internals") ∷
-    (sym.freeze_impls, codes "freeze_impls") ∷
-    (sym.unsized_fn_params, codes "unsized_fn_params") ∷
-    (sym.field, codes "field") ∷
-    (sym.field_base, codes "field_base") ∷
+    (sym.freeze_impls, codes "freeze_impls") ∷ (sym.unsized_fn_params, codes "unsized_fn_params") ∷
+    (sym.field, codes "field") ∷ (sym.field_base, codes "field_base") ∷
     (sym.field_type, codes "field_type") ∷
     (sym.ref_pat_eat_one_layer_2024, codes "ref_pat_eat_one_layer_2024") ∷
     (sym.ref_pat_eat_one_layer_2024_structural, codes "ref_pat_eat_one_layer_2024_structural") ∷
-    (sym.deref_patterns, codes "deref_patterns") ∷
-    (sym.mut_ref, codes "mut_ref") ∷
+    (sym.deref_patterns, codes "deref_patterns") ∷ (sym.mut_ref, codes "mut_ref") ∷
     (sym.type_changing_struct_update, codes "type_changing_struct_update") ∷
-    (sym.RangeMin, codes "RangeMin") ∷
-    (sym.RangeMax, codes "RangeMax") ∷
-    (sym.RangeSub, codes "RangeSub") ∷
-    (sym.AsyncGenReady, codes "AsyncGenReady") ∷
-    []
+    (sym.RangeMin, codes "RangeMin") ∷ (sym.RangeMax, codes "RangeMax") ∷
+    (sym.RangeSub, codes "RangeSub") ∷ (sym.AsyncGenReady, codes "AsyncGenReady") ∷ []

@@ -6,9 +6,9 @@ use Rattle.std.proofs.Common.{sym, ◌∙◌, ap, inl, inr}
 use Rattle.std.proofs.lemmas.Bool.{or_left, or_right, or_cases}
 use Rattle.std.proofs.lemmas.List.Elements.{filter-append}
 use Rattle.std.proofs.lemmas.List.Folds.{find-append, list_any-append}
-use Rattle.intern_registry.specs.Registry.{same_name}
+use Rattle.intern_store.specs.Named.{same_name}
 use Rattle.intern_store.specs.declared.names.Name.{Name}
-use Rattle.intern_trace.specs.Reach.{Entry, entry_of, is_entry}
+use Rattle.intern_marks.specs.Reach.{Entry, entry_of, is_entry}
 use Rattle.ra_ap_intern.specs.Families.{has_number}
 
 -- the entry of a name is in the first list, or else in the second

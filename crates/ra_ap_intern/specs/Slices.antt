@@ -1,21 +1,10 @@
--- The names of slice handles, and what is read of an entry.
+-- What a storage of slices has, and what is read of an entry.
 use Rattle.std.specs.Prelude.{ℕ, Bool, List, map as list_map, length, Option}
 use Rattle.std.specs.FinMap as map
 use Rattle.intern_store.specs.State.{State, Stored, name_in, interned, interned_name, is_new, due_interning, any_count, given_back}
 use Rattle.intern_store.specs.declared.names.Name.{Name}
-use Rattle.intern_store.specs.declared.names.Refusal.{Refusal}
+use Rattle.intern_store.specs.declared.refusal.Refusal.{Refusal}
 use Rattle.intern_table.specs.Sliced.{Sliced}
-use Rattle.ra_ap_intern.specs.declared.intern_slice.InternedSlice.{InternedSlice}
-use Rattle.ra_ap_intern.specs.declared.intern_slice.InternedSliceRef.{InternedSliceRef}
-
-module _ {V : Type 0} where
-  -- the name of an owned handle
-  abbrev pub slice_name : InternedSlice V → Name
-  slice_name h = h.key.entry.name
-
-  -- the name of a reference
-  abbrev pub slice_ref_name : InternedSliceRef V → Name
-  slice_ref_name h = h.key.entry.name
 
 -- the pair of a header and its items
 abbrev pub slice_of : {H I : Type 0} → H → List I → Sliced H I

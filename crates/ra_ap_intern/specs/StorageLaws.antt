@@ -12,7 +12,7 @@ use Rattle.intern_store.specs.Kept.{Kept}
 use Rattle.intern_store.specs.State.{State, name_in, entry_at}
 use Rattle.intern_store.specs.declared.names.Name.{Name}
 use Rattle.intern_store.proofs.Compared.{tied, get-retained}
-use Rattle.intern_trace.specs.Reach.{Entry, entry_of, is_entry}
+use Rattle.intern_marks.specs.Reach.{Entry, entry_of, is_entry}
 use Rattle.ra_ap_intern.specs.Families.{entries_of, kept_named, has_number}
 
 -- the entries that are left of a map

@@ -1,17 +1,18 @@
 -- What symbols are, and what a table of texts holds.
-use Rattle.std.specs.Prelude.{◌≡◌, ℕ, ◌<◌, Bool, ◌&&◌, List, Option, Some, None, is_none, map as list_map}
+use Rattle.std.specs.Prelude.{◌≡◌, ℕ, ◌<◌, ◌==◌, Bool, false, ◌&&◌, List, Option, Some, None, is_none, map as list_map}
 use Rattle.std.specs.FinMap as map
 use Rattle.std.specs.Option.{option_eq, option_map}
 use Rattle.std.specs.Str.{bytes_eq}
 use Rattle.intern_presets.specs.Presets.{preset_text, place_of}
 use Rattle.intern_store.specs.Kept.{Kept}
+use Rattle.intern_store.specs.Named.{key_name, same_name}
 use Rattle.intern_store.specs.State.{State, entry_at, name_in, name_of_value, reads, counts, is_new, interned_name, interned_counted, due, due_interning, full}
 use Rattle.intern_store.specs.declared.names.Name.{Name}
-use Rattle.intern_store.specs.declared.names.Refusal.{Refusal}
+use Rattle.intern_store.specs.declared.refusal.Refusal.{Refusal}
 use Rattle.ra_ap_intern.specs.declared.symbol.Symbol.{Symbol}
 use Rattle.ra_ap_intern.specs.declared.symbol.SymbolRef.{SymbolRef}
-use Rattle.ra_ap_intern.specs.declared.symbol.Kind.{Kind}
-use Rattle.ra_ap_intern.specs.declared.symbol.Kind.TheVariants.{Preset, Runtime}
+use Rattle.ra_ap_intern.specs.declared.symbol.Source.{Source}
+use Rattle.ra_ap_intern.specs.declared.symbol.Source.TheVariants.{Preset, Runtime}
 
 -- every text is counted, and none is a preset
 pub record IsTable (s : State (List ℕ)) : Type 0 where
@@ -23,15 +24,22 @@ pub data Named : Type 0 where
   preset : ℕ → Named
   entry : Name → Named
 
-abbrev pub kind_name : Kind → Named
-kind_name (Preset place) = preset place
-kind_name (Runtime key) = entry key.name
+-- whether two symbols name the same preset, or the same entry
+abbrev pub same_named : Named → Named → Bool
+same_named (preset p) (preset q) = p == q
+same_named (preset p) (entry m) = false
+same_named (entry n) (preset q) = false
+same_named (entry n) (entry m) = same_name n m
+
+abbrev pub source_name : Source → Named
+source_name (Preset place) = preset place
+source_name (Runtime key) = entry (key_name key)
 
 abbrev pub symbol_name : Symbol → Named
-symbol_name s = kind_name s.0
+symbol_name s = source_name s.0
 
 abbrev pub symbol_ref_name : SymbolRef → Named
-symbol_ref_name s = kind_name s.0
+symbol_ref_name s = source_name s.0
 
 -- the name of a symbol's entry; presets have none
 abbrev pub entry_name : Named → Option Name

@@ -2,32 +2,33 @@
 //!
 //! An entry is needed where it is counted, or is listed as a root, or where the value of a needed
 //! entry declares it. What a value declares is told by its visitor.
-ghost use Rattle.std.specs.Prelude.{◌≡◌, true, false, List, length, None, IfOk, OnOk, OnErr, if◌then◌else◌};
+ghost use Rattle.std.specs.FinMap as map;
+ghost use Rattle.std.specs.Prelude.{◌≡◌, ◌≤◌, true, false, List, length, IfOk, OnOk, OnErr, if◌then◌else◌};
 ghost use Rattle.std.specs.declared.ops.ControlFlow.TheVariants.{Continue, Break};
+ghost use Rattle.intern_marks.specs.Learning.{Learns, known};
+ghost use Rattle.intern_marks.specs.Marks.{fresh, mark, marks_now, roots};
+ghost use Rattle.intern_marks.specs.Names.{has};
+ghost use Rattle.intern_marks.specs.Reach.{starts, starts_with};
+ghost use Rattle.intern_marks.specs.Trace.{IsTrace};
+ghost use Rattle.intern_store.specs.Named.{key_name};
 ghost use Rattle.intern_store.specs.declared.names.Name.{Name as EntryName};
-ghost use Rattle.intern_trace.specs.Collector.{fresh, mark, marks_now, has, roots, with_counted};
-ghost use Rattle.intern_trace.specs.Reach.{starts, starts_with};
-ghost use Rattle.intern_trace.specs.Trace.{Traces, counted_in};
-ghost use Rattle.intern_trace.specs.Traced.{state};
 ghost use Rattle.ra_ap_intern.specs.Families.{IsCollection, are_distinct};
 ghost use Rattle.ra_ap_intern.specs.Handle.{ref_name};
-ghost use Rattle.ra_ap_intern.specs.Slices.{slice_ref_name};
 
 mod family;
 mod learn;
-mod slices;
-mod values;
+mod storages;
 mod visit;
 
 use crate::intern::{InternStorage, Internable, InternedRef};
 use crate::intern_slice::{InternSliceStorage, InternedSliceRef, SliceInternable};
 pub use family::{Family, NoStorages, Numbered, Pair};
-use intern_registry::Registry;
-use intern_store::{EntryKey, Name};
-use intern_trace::Tracer;
+use intern_marks::Marks;
+use intern_store::{EntryKey, Name, Spot};
 use std::alloc::{AllocError, Global};
 use std::marker::Model;
 use std::ops::ControlFlow;
+pub use storages::Visits;
 pub use visit::{GcInternedSliceVisit, GcInternedVisit};
 
 /// What a collection did.
@@ -44,29 +45,31 @@ pub struct Collected {
 /// Collects families of storages.
 ///
 /// A collection takes time linear in the entries and the children that they declare, and never
-/// recurses. It takes about 28 bytes an entry beside the family, all of it before the first mark.
+/// recurses. It takes about 28 bytes an entry beside the family, all of it before the first mark call.
 #[derive(Drop)]
 pub struct GarbageCollector {
     alloc: Global,
-    tracer: Tracer,
+    marks: Marks,
 }
 
 impl Model for GarbageCollector {
-    ghost use Rattle.intern_trace.specs.Traced.{Traced};
+    ghost use Rattle.intern_marks.specs.Marks.{Marks, marks_code};
 
-    ghost Value = { Traced };
+    ghost Value = { Marks };
 
-    ghost view = { λ g. g.tracer };
+    ghost coded = { marks_code };
+
+    ghost view = { λ g. g.marks };
 }
 
 impl GarbageCollector {
     /// A collector with nothing registered. It takes no memory.
     pub fn new(alloc: Global) -> GarbageCollector
-        ensures { state result ≡ fresh (λ _. None) 0 }
+        ensures { result ≡ fresh map.empty }
     {
         GarbageCollector {
             alloc,
-            tracer: Tracer::new(alloc),
+            marks: Marks::new(alloc),
         }
     }
 
@@ -115,12 +118,13 @@ impl GarbageCollector {
     pub fn register<F: Family>(&mut self, family: &F) -> Result<(), AllocError>
         requires distinct { are_distinct (F.numbers family.now) ≡ true }
         requires collected { F.collected ≡ true }
-        ensures ok { OnOk result (state self.new
-            ≡ fresh (counted_in (F.entries family.now)) (length (F.entries family.now))) }
+        ensures ok { OnOk result (self.new ≡ fresh (known (F.entries family.now))) }
+        ensures size { OnOk result
+            (map.len self.new.registered ≡ length (F.entries family.now)) }
         ensures err { OnErr result (self.new ≡ self.old) }
     {
-        self.learn(family)?;
-        self.tracer.fill();
+        self.learn(family, false)?;
+        self.marks.fill();
         Ok(())
     }
 
@@ -131,11 +135,11 @@ impl GarbageCollector {
         reference: InternedRef<T>,
     ) -> ControlFlow<()>
         requires { T.Internable.USE_GC ≡ true }
-        ensures state { state self.new ≡ mark (state self.old) (ref_name reference) }
-        ensures answer { result ≡ (if marks_now (state self.old) (ref_name reference)
+        ensures marks { self.new ≡ mark self.old (ref_name reference) }
+        ensures answer { result ≡ (if marks_now self.old (ref_name reference)
             then Continue tt else Break tt) }
     {
-        self.tracer.mark(reference.key.entry)
+        self.marks.mark(reference.key)
     }
 
     /// The same for a reference to a slice.
@@ -144,38 +148,38 @@ impl GarbageCollector {
         slice: InternedSliceRef<T>,
     ) -> ControlFlow<()>
         requires { T.SliceInternable.USE_GC ≡ true }
-        ensures state { state self.new ≡ mark (state self.old) (slice_ref_name slice) }
-        ensures answer { result ≡ (if marks_now (state self.old) (slice_ref_name slice)
+        ensures marks { self.new ≡ mark self.old (ref_name slice) }
+        ensures answer { result ≡ (if marks_now self.old (ref_name slice)
             then Continue tt else Break tt) }
     {
-        self.tracer.mark(slice.key.entry)
+        self.marks.mark(slice.key)
     }
 
     /// Whether a name is marked.
     pub fn is_marked(&self, name: Name) -> bool
-        ensures { result ≡ (state self.now).marked name }
+        ensures { result ≡ has self.now.marked name }
     {
-        self.tracer.is_marked(unplaced(name))
+        self.marks.is_marked(unplaced(name))
     }
 
     /// How many entries were visited.
     pub fn visits(&self) -> usize
-        ensures { result ≡ (state self.now).visits }
+        ensures { result ≡ self.now.visits }
     {
-        self.tracer.visits()
+        self.marks.visits()
     }
 
     /// How many mark calls there were, at most `u64::MAX`.
     pub fn mark_calls(&self) -> u64
-        ensures { result ≡ (state self.now).calls }
+        ensures { result ≡ self.now.calls }
     {
-        self.tracer.mark_calls()
+        self.marks.mark_calls()
     }
 
     /// Removes every entry of a family that no path of declared children reaches from a counted
     /// entry. Counts stay, births are not given again, and what was marked before is forgotten.
     /// Where there is no memory, `AllocError`, and the family is as it was: all memory is asked for
-    /// before the first mark.
+    /// before the first mark call.
     ///
     /// No two storages of the family may have one number ([`GarbageCollector::distinct`]).
     pub fn collect<F: Family>(self, family: &mut F) -> Result<Collected, AllocError>
@@ -204,10 +208,10 @@ impl GarbageCollector {
             × (family.new ≡ F.kept family.old (has names))) }
         ensures err { OnErr result (family.new ≡ family.old) }
     {
-        self.learn(family)?;
+        self.learn(family, true)?;
         self.root(roots);
         self.follow(family);
-        let entries = self.tracer.len();
+        let entries = self.marks.len();
         // Where every entry was visited, all of them stay.
         if self.visits() < entries {
             family.sweep(&self);
@@ -219,39 +223,38 @@ impl GarbageCollector {
         })
     }
 
-    // Registers a family, without filling the registry's table, which a collection seldom asks.
-    fn learn<F: Family>(&mut self, family: &F) -> Result<(), AllocError>
+    // Learns a family. With `roots`, the counted entries are marked at once. The table of names isn't
+    // filled, which a collection seldom asks.
+    fn learn<F: Family>(&mut self, family: &F, roots: bool) -> Result<(), AllocError>
         requires distinct { are_distinct (F.numbers family.now) ≡ true }
-        ensures ok { OnOk result (state self.new
-            ≡ fresh (counted_in (F.entries family.now)) (length (F.entries family.now))) }
+        ensures ok { OnOk result
+            (Learns roots (F.entries family.now) (fresh map.empty) self.new) }
         ensures err { OnErr result (self.new ≡ self.old) }
     {
-        let mut registry = Registry::with_room(self.alloc, family.len())?;
-        family.learn(&mut registry)?;
-        let tracer = Tracer::of(self.alloc, registry)?;
-        self.tracer = tracer;
+        let mut marks = Marks::with_room(self.alloc, family.len())?;
+        family.learn(&mut marks, roots)?;
+        self.marks = marks;
         Ok(())
     }
 
-    // Marks the counted entries, and those whose names are listed.
+    // Marks the entries whose names are listed.
     fn root(&mut self, listed: &[Name])
-        ensures { state self.new ≡ roots (with_counted (state self.old)) listed.now }
+        ensures { self.new ≡ roots self.old listed.now }
     {
-        self.tracer.root_counted();
         for name in listed {
-            self.tracer.root(unplaced(*name));
+            self.marks.root(unplaced(*name));
         }
     }
 
     // Visits what is pending, until nothing is.
     fn follow<F: Family>(&mut self, family: &F)
         ensures trace { let all = F.entries family.now in (listed : List EntryName) →
-            Traces (starts_with listed all) all (state self.old) →
-            Traces (starts_with listed all) all (state self.new) }
-        ensures size { (state self.new).size ≡ (state self.old).size }
-        ensures done { (x : EntryName) → (state self.new).pending x ≡ false }
+            IsTrace (starts_with listed all) all self.old →
+            IsTrace (starts_with listed all) all self.new }
+        ensures registered { self.new.registered ≡ self.old.registered }
+        ensures done { length self.new.marked ≤ self.new.visits }
     {
-        while let Some(key) = self.tracer.next() {
+        while let Some(key) = self.marks.next() {
             let _is_there = family.visit(key, self);
         }
     }
@@ -259,7 +262,13 @@ impl GarbageCollector {
 
 // A key for a name whose entry's place isn't known.
 fn unplaced(name: Name) -> EntryKey
-    ensures { result.name ≡ name }
+    ensures { key_name result ≡ name }
 {
-    EntryKey { name, place: 0 }
+    EntryKey {
+        storage: name.storage,
+        spot: Spot {
+            birth: name.birth,
+            place: 0,
+        },
+    }
 }

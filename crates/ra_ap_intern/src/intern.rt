@@ -5,22 +5,20 @@
 //! works with [`InternedRef`]s, which count nothing.
 //!
 //! A handle that is dropped without `release` keeps its count.
-ghost use Rattle.std.specs.Prelude.{◌≡◌, ◌<◌, ◌==◌, true, false, Bool, Some, IsPermutation, IfOk, option_copied};
-ghost use Rattle.std.specs.FinMap as map;
+ghost use Rattle.std.specs.Prelude.{◌≡◌, true, false, Bool, IsPermutation, IfOk, option_copied};
 ghost use Rattle.std.specs.Option.{option_map};
 ghost use Rattle.intern_store.specs.Outcome.{Owes, OwesBack, MayWantBack, Becomes};
-ghost use Rattle.intern_store.specs.State.{IsState, new_state, name_in, entry_at, reads, counts, counted_up, counted_down, is_new, interned, interned_name, interned_counted, given_back, name_of_value, named_values, due, due_at, due_interning, full, zero_count, any_count, freed, released};
+ghost use Rattle.intern_store.specs.State.{name_in, entry_at, reads, is_new, interned, interned_name, interned_counted, given_back, name_of_value, named_values, due, due_at, due_interning, full, zero_count, any_count, freed, released};
 ghost use Rattle.ra_ap_intern.specs.Handle.{name_of, ref_name};
 
 mod iter;
 
-use crate::typed_key::TypedKey;
-use intern_store::{EntryKey, Limits, Name, Refusal, Refused, Store};
-use intern_table::Table;
+use crate::kind::Values;
+use crate::storage::{Owned, Ref, Storage};
+use intern_store::{Refusal, Refused};
 pub use iter::Iter;
-use std::alloc::Global;
+use std::cmp::Eq;
 use std::hash::Hash;
-use std::marker::Model;
 
 /// A type whose values a storage keeps.
 pub trait Internable: Hash + Eq {
@@ -32,95 +30,21 @@ pub trait Internable: Hash + Eq {
 }
 
 /// A storage of values, each kept once.
-///
-/// Interning takes one hash, one look-up, and a comparison with each stored value of that hash.
-/// Only a value that isn't stored takes memory. Where storing it builds the tables anew, that takes
-/// time in proportion to the most entries that there were at once, which is constant time a call on
-/// average. Reads, counts and removals go straight to the entry; `from_raw` looks its birth up.
-#[derive(Drop)]
-pub struct InternStorage<T: Internable> {
-    pub(crate) store: Store<Table<T>>,
-}
+pub type InternStorage<T> = Storage<Values<T>>;
 
-impl<T: Internable> Model for InternStorage<T> {
-    ghost use Rattle.intern_store.specs.State.{State, state_code};
+/// An owned handle of a value, which counts one.
+pub type Interned<T> = Owned<Values<T>>;
 
-    ghost Value = { State T };
-
-    ghost coded = { state_code T.code };
-
-    ghost view = { λ a. a.store };
-}
-
-/// An owned handle, which counts one.
-///
-/// Handles are compared and hashed by their names alone, so two of one storage are equal exactly
-/// if the values that they read are. Beside the name a handle holds the place of its entry, 24
-/// bytes in all.
-#[derive(Drop)]
-#[derive_where(PartialEq, Eq, Hash)]
-pub struct Interned<T> {
-    pub(crate) key: TypedKey<T>,
-}
-
-/// A reference, which counts nothing. It is compared, ordered and hashed by its name alone: the
-/// storage's number, and then the birth.
-#[derive_where(Clone, Copy, PartialEq, Eq, PartialOrd, Ord, Hash)]
-pub struct InternedRef<T> {
-    pub(crate) key: TypedKey<T>,
-}
+/// A reference to a value, which counts nothing.
+pub type InternedRef<T> = Ref<Values<T>>;
 
 impl<T: Internable> InternStorage<T> {
-    /// An empty storage with the largest limits. It takes no memory.
-    ///
-    /// Handles tell storages apart by their numbers alone: give each storage one of its own.
-    pub fn new(alloc: Global, number: u64) -> Self
-        ensures { result ≡ new_state number u64.MAX u64.MAX }
-    {
-        InternStorage {
-            store: Store::new(alloc, number),
-        }
-    }
-
-    /// An empty storage with limits of its own. It takes no memory.
-    pub fn with_limits(alloc: Global, number: u64, limits: Limits) -> Self
-        requires { 0 < limits.top }
-        ensures { result ≡ new_state number limits.top limits.numbers }
-    {
-        InternStorage {
-            store: Store::with_limits(alloc, number, limits),
-        }
-    }
-
-    /// The storage's number.
-    pub fn number(&self) -> u64
-        ensures number { result ≡ self.now.number }
-        ensures state { IsState T.eq self.now }
-    {
-        self.store.number()
-    }
-
-    /// How many entries there are.
-    pub fn len(&self) -> usize
-        ensures { result ≡ map.len self.now.map }
-    {
-        self.store.len()
-    }
-
-    /// Whether there is no entry.
-    pub fn is_empty(&self) -> bool
-        ensures { result ≡ (map.len self.now.map == 0) }
-    {
-        self.store.is_empty()
-    }
-
     /// A reference to the entry whose value equals this one. None where no equal value is stored.
     /// It takes no memory.
     pub fn get(&self, obj: &T) -> Option<InternedRef<T>>
         ensures { option_map ref_name result ≡ name_of_value T.eq self.now obj.now }
     {
-        let key = TypedKey::new(self.store.find(obj)?);
-        Some(InternedRef { key })
+        Some(Ref::new(self.store.find(obj)?))
     }
 
     /// The entries, each with a reference to it, in no promised order. It takes no memory.
@@ -131,21 +55,6 @@ impl<T: Internable> InternStorage<T> {
             number: self.store.number(),
             entries: self.store.table().iter(),
         }
-    }
-
-    /// The count of the entry that a reference names: how many owners it has.
-    /// None for a reference of another storage, or of an entry that is gone.
-    pub fn count(&self, reference: InternedRef<T>) -> Option<u64>
-        ensures { result ≡ counts self.now (ref_name reference) }
-    {
-        self.store.count(reference.key.entry)
-    }
-
-    // The value of the entry of a key.
-    pub(crate) fn read(&self, key: EntryKey) -> Option<&T>
-        ensures { option_copied result ≡ reads self.now key.name }
-    {
-        self.store.own(key)?.get(key.spot())
     }
 }
 
@@ -169,9 +78,9 @@ impl<T: Internable> Interned<T> {
         ensures state { Becomes result storage.old storage.new
             (interned_counted T.eq storage.old obj) }
     {
-        let (entry, back) = storage.store.intern_counted(obj)?;
-        let key = TypedKey::new(entry);
-        Ok((Interned { key }, back))
+        let (key, back) = storage.store.intern_counted(obj)?;
+        let reference = Ref::new(key);
+        Ok((Owned { reference }, back))
     }
 
     /// Collected mode: a reference to the value, which counts nothing.
@@ -191,9 +100,8 @@ impl<T: Internable> Interned<T> {
         ensures state { Becomes result storage.old storage.new
             (interned T.eq storage.old obj).state }
     {
-        let (entry, back) = storage.store.intern(obj)?;
-        let key = TypedKey::new(entry);
-        Ok((InternedRef { key }, back))
+        let (key, back) = storage.store.intern(obj)?;
+        Ok((Ref::new(key), back))
     }
 
     /// An owned handle of the entry of a birth. It takes over the count of a handle that was
@@ -203,8 +111,8 @@ impl<T: Internable> Interned<T> {
         ensures ok { IfOk result (λ h. name_of h ≡ name_in storage.now birth) }
         ensures refused { Owes result (due_at (entry_at storage.now birth) zero_count) }
     {
-        let key = TypedKey::new(storage.store.counted_entry(birth)?);
-        Ok(Interned { key })
+        let reference = Ref::new(storage.store.counted_entry(birth)?);
+        Ok(Owned { reference })
     }
 
     /// The value, borrowed from the storage.
@@ -212,18 +120,7 @@ impl<T: Internable> Interned<T> {
     pub fn get<'a>(&self, storage: &'a InternStorage<T>) -> Option<&'a T>
         ensures { option_copied result ≡ reads storage.now (name_of self.now) }
     {
-        self.as_ref().get(storage)
-    }
-
-    /// A second owned handle, which counts one more. Refused: `Foreign`, `Gone`, `CountFull`.
-    pub fn clone(&self, storage: &mut InternStorage<T>) -> Result<Interned<T>, Refusal>
-        ensures ok { IfOk result (λ h. name_of h ≡ name_of self.now) }
-        ensures refused { Owes result
-            (due storage.old (name_of self.now) (full storage.old.top)) }
-        ensures state { Becomes result storage.old storage.new
-            (counted_up storage.old (name_of self.now).birth) }
-    {
-        self.as_ref().to_owned(storage)
+        self.reference.get(storage)
     }
 
     /// Gives the handle up, with its count. In counted mode the last release frees the value and
@@ -238,17 +135,8 @@ impl<T: Internable> Interned<T> {
     {
         storage
             .store
-            .release(self.key.entry, T::USE_GC)
+            .release(self.reference.key, T::USE_GC)
             .map_err(|why| Refused { why, back: self })
-    }
-}
-
-impl<T> Interned<T> {
-    /// A reference to the same entry.
-    pub fn as_ref(&self) -> InternedRef<T>
-        ensures { ref_name result ≡ name_of self.now }
-    {
-        InternedRef { key: self.key }
     }
 }
 
@@ -258,8 +146,7 @@ impl<T: Internable> InternedRef<T> {
         ensures ok { IfOk result (λ h. ref_name h ≡ name_in storage.now birth) }
         ensures refused { Owes result (due_at (entry_at storage.now birth) any_count) }
     {
-        let key = TypedKey::new(storage.store.entry(birth)?);
-        Ok(InternedRef { key })
+        Ok(Ref::new(storage.store.entry(birth)?))
     }
 
     /// The value, borrowed from the storage.
@@ -267,29 +154,7 @@ impl<T: Internable> InternedRef<T> {
     pub fn get<'a>(self, storage: &'a InternStorage<T>) -> Option<&'a T>
         ensures { option_copied result ≡ reads storage.now (ref_name self) }
     {
-        storage.read(self.key.entry)
-    }
-
-    /// An owned handle of the entry, which counts one more, also from zero.
-    /// Refused: `Foreign`, `Gone`, `CountFull`.
-    pub fn to_owned(self, storage: &mut InternStorage<T>) -> Result<Interned<T>, Refusal>
-        ensures ok { IfOk result (λ h. name_of h ≡ ref_name self) }
-        ensures refused { Owes result (due storage.old (ref_name self) (full storage.old.top)) }
-        ensures state { Becomes result storage.old storage.new
-            (counted_up storage.old (ref_name self).birth) }
-    {
-        storage.store.count_up(self.key.entry)?;
-        Ok(Interned { key: self.key })
-    }
-
-    /// Takes back the count of a handle that was dropped without `release`. The entry stays, also
-    /// at zero and in counted mode. Refused: `Foreign`, `Gone`, `CountZero`.
-    pub fn decrement_refcount(self, storage: &mut InternStorage<T>) -> Result<(), Refusal>
-        ensures refused { Owes result (due storage.old (ref_name self) zero_count) }
-        ensures state { Becomes result storage.old storage.new
-            (counted_down storage.old (ref_name self).birth) }
-    {
-        storage.store.count_down(self.key.entry)
+        storage.store.own(self.key.storage)?.get(self.key.spot)
     }
 }
 
@@ -298,13 +163,6 @@ impl<T> InternedRef<T> {
     pub fn as_raw(self) -> u64
         ensures { result ≡ (ref_name self).birth }
     {
-        self.key.entry.name.birth
-    }
-
-    /// The entry's name: the storage's number and the birth.
-    pub fn name(self) -> Name
-        ensures { result ≡ ref_name self }
-    {
-        self.key.entry.name
+        self.key.spot.birth
     }
 }

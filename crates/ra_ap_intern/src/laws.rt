@@ -2,34 +2,36 @@
 ghost use Rattle.std.specs.Prelude.{◌≡◌, ◌<◌, ◌+◌, ◌^◌, ◌↔◌, ℕ, List, Bool, true, false, if◌then◌else◌, Some, None, decimal, option_and_then};
 ghost use Rattle.std.specs.List.{list_all};
 ghost use Rattle.std.specs.Str.{bytes_eq};
+ghost use Rattle.intern_marks.specs.Names.{has};
+ghost use Rattle.intern_marks.specs.Reach.{Entry, entry_of, IsReachedSet, IsClosed, starts_with};
 ghost use Rattle.intern_presets.specs.Numbers.{number_value};
 ghost use Rattle.intern_presets.specs.Presets.{preset_text, place_of};
 ghost use Rattle.intern_store.specs.State.{State, Stored, IsState, IsGone, reads, counts, entry_at, count_at, birth_of, is_new, interned, interned_name, name_in, counted_up, counted_down, released, kept, due_interning, full, any_count};
 ghost use Rattle.intern_store.specs.declared.names.Name.{Name};
 ghost use Rattle.intern_table.specs.Sliced.{Sliced, sliced_eq};
-ghost use Rattle.intern_trace.specs.Collector.{has};
-ghost use Rattle.intern_trace.specs.Reach.{Entry, entry_of, IsReachedSet, IsClosed, starts_with};
 ghost use Rattle.ra_ap_intern.specs.Constants.{constants};
 ghost use Rattle.ra_ap_intern.specs.Families.{IsCollection, kept_named};
 ghost use Rattle.ra_ap_intern.specs.Handle.{name_of, ref_name};
-ghost use Rattle.ra_ap_intern.specs.Slices.{slice_name, slice_ref_name};
 ghost use Rattle.ra_ap_intern.specs.Symbols.{IsTable, Named, Counted, symbol_name, symbol_ref_name, has_its_text, text_of, symbol_in, due_symbol, at_entry, is_new_text};
 ghost use Rattle.ra_ap_intern.specs.Symbols.Named.{preset, entry};
 ghost use Rattle.ra_ap_intern.specs.declared.gc.Collected.{Collected as Told};
-ghost use Rattle.ra_ap_intern.specs.declared.intern.Interned.{Interned as Owned};
-ghost use Rattle.ra_ap_intern.specs.declared.intern.InternedRef.{InternedRef as Reference};
-ghost use Rattle.ra_ap_intern.specs.declared.intern_slice.InternedSlice.{InternedSlice as OwnedSlice};
-ghost use Rattle.ra_ap_intern.specs.declared.intern_slice.InternedSliceRef.{InternedSliceRef as SliceReference};
+ghost use Rattle.ra_ap_intern.specs.declared.kind.Slices.{Slices as SliceKind};
+ghost use Rattle.ra_ap_intern.specs.declared.kind.Values.{Values as ValueKind};
+ghost use Rattle.ra_ap_intern.specs.declared.storage.Owned.{Owned as Handle};
+ghost use Rattle.ra_ap_intern.specs.declared.storage.Ref.{Ref as Reference};
 ghost use Rattle.ra_ap_intern.specs.declared.symbol.Symbol.{Symbol as Sym};
 ghost use Rattle.ra_ap_intern.specs.declared.symbol.SymbolRef.{SymbolRef as SymRef};
 
 use crate::gc::Family;
 use crate::intern::{Interned, InternedRef};
 use crate::intern_slice::{InternedSlice, InternedSliceRef, SliceInternable};
+use crate::kind::{Slices, Values};
+use crate::storage::{Owned, Ref};
 use crate::symbol::{Symbol, SymbolRef};
-pub use intern_trace::laws::{
+pub use intern_marks::laws::{
     roots_without_entries_begin_nothing, what_is_reached_is_the_least_closed_set,
 };
+use intern_table::SliceValue;
 use std::cmp::Eq;
 use std::hash::Hash;
 
@@ -93,21 +95,37 @@ pub fn what_is_stored_is_found<T: Eq>()
         due_interning T.eq s v any_count ≡ None }
 {}
 
+/// Handles of any kind are equal exactly if their names are, and equal ones hash alike.
+pub fn handles_are_names<K>()
+    ensures owned { (a b : Handle K) →
+        (⟦<Owned<K> as PartialEq>⟧.eq a b ≡ true) ↔ (name_of a ≡ name_of b) }
+    ensures owned_hashed { (a b : Handle K) → name_of a ≡ name_of b →
+        ⟦<Owned<K> as Hash>⟧.hash_input a ≡ ⟦<Owned<K> as Hash>⟧.hash_input b }
+    ensures reference { (a b : Reference K) →
+        (⟦<Ref<K> as PartialEq>⟧.eq a b ≡ true) ↔ (ref_name a ≡ ref_name b) }
+    ensures reference_hashed { (a b : Reference K) → ref_name a ≡ ref_name b →
+        ⟦<Ref<K> as Hash>⟧.hash_input a ≡ ⟦<Ref<K> as Hash>⟧.hash_input b }
+{}
+
 /// Owned handles are equal exactly if their names are, and equal ones hash alike.
 pub fn owned_handles_are_names<T>()
-    ensures equal { (a b : Owned T) →
+    ensures equal { (a b : Handle (ValueKind T)) →
         (⟦<Interned<T> as PartialEq>⟧.eq a b ≡ true) ↔ (name_of a ≡ name_of b) }
-    ensures hashed { (a b : Owned T) → name_of a ≡ name_of b →
+    ensures hashed { (a b : Handle (ValueKind T)) → name_of a ≡ name_of b →
         ⟦<Interned<T> as Hash>⟧.hash_input a ≡ ⟦<Interned<T> as Hash>⟧.hash_input b }
-{}
+{
+    handles_are_names::<Values<T>>();
+}
 
 /// References are equal exactly if their names are, and equal ones hash alike.
 pub fn references_are_names<T>()
-    ensures equal { (a b : Reference T) →
+    ensures equal { (a b : Reference (ValueKind T)) →
         (⟦<InternedRef<T> as PartialEq>⟧.eq a b ≡ true) ↔ (ref_name a ≡ ref_name b) }
-    ensures hashed { (a b : Reference T) → ref_name a ≡ ref_name b →
+    ensures hashed { (a b : Reference (ValueKind T)) → ref_name a ≡ ref_name b →
         ⟦<InternedRef<T> as Hash>⟧.hash_input a ≡ ⟦<InternedRef<T> as Hash>⟧.hash_input b }
-{}
+{
+    handles_are_names::<Values<T>>();
+}
 
 /// Names of entries of one storage of slices are equal exactly if the headers that they read are
 /// equal, and the items one by one.
@@ -116,7 +134,9 @@ pub fn names_tell_slices<T: SliceInternable>()
         (s : State (Sliced T.Header T.SliceType)) → IsState eq s →
         (n m : Name) (v w : Sliced T.Header T.SliceType) →
         reads s n ≡ Some v → reads s m ≡ Some w → (n ≡ m) ↔ (eq v w ≡ true) }
-{}
+{
+    names_tell_values::<SliceValue<T::Header, T::SliceType>>();
+}
 
 /// The name that interning a header with items gives reads an equal one.
 pub fn a_slice_that_is_interned_is_read<T: SliceInternable>()
@@ -124,7 +144,9 @@ pub fn a_slice_that_is_interned_is_read<T: SliceInternable>()
         (s : State (Sliced T.Header T.SliceType)) (v : Sliced T.Header T.SliceType) →
         (w : Sliced T.Header T.SliceType)
         × (reads (interned eq s v).state (interned_name eq s v) ≡ Some w) × (eq v w ≡ true) }
-{}
+{
+    what_is_interned_is_read::<SliceValue<T::Header, T::SliceType>>();
+}
 
 /// A slice that is gone stays gone: a birth that was given and has no entry has none after any
 /// change of its storage.
@@ -138,7 +160,9 @@ pub fn a_gone_slice_stays_gone<T: SliceInternable>()
         IsGone s b → IsGone (counted_down s c) b }
     ensures swept { (s : State (Sliced T.Header T.SliceType)) (marked : ℕ → Bool) (b : ℕ) →
         IsGone s b → IsGone (kept s marked) b }
-{}
+{
+    what_is_gone_stays_gone::<SliceValue<T::Header, T::SliceType>>();
+}
 
 /// The birth of a new slice is given once: it is the next one, which no change of a storage lowers,
 /// and which is past it then.
@@ -158,7 +182,9 @@ pub fn a_slices_birth_is_given_once<T: SliceInternable>()
         (counted_down s c).next ≡ s.next }
     ensures swept { (s : State (Sliced T.Header T.SliceType)) (marked : ℕ → Bool) →
         (kept s marked).next ≡ s.next }
-{}
+{
+    a_birth_is_given_once::<SliceValue<T::Header, T::SliceType>>();
+}
 
 /// Interning a slice that is stored changes nothing, wants no memory, and nothing can refuse it.
 pub fn a_stored_slice_is_found<T: SliceInternable>()
@@ -171,25 +197,31 @@ pub fn a_stored_slice_is_found<T: SliceInternable>()
     ensures collected { let eq = sliced_eq T.Header.eq T.SliceType.eq in
         (s : State (Sliced T.Header T.SliceType)) (v : Sliced T.Header T.SliceType) (b : ℕ) →
         birth_of eq s v ≡ Some b → due_interning eq s v any_count ≡ None }
-{}
+{
+    what_is_stored_is_found::<SliceValue<T::Header, T::SliceType>>();
+}
 
 /// Owned handles of slices are equal exactly if their names are, and equal ones hash alike.
 pub fn owned_slices_are_names<T>()
-    ensures equal { (a b : OwnedSlice T) →
-        (⟦<InternedSlice<T> as PartialEq>⟧.eq a b ≡ true) ↔ (slice_name a ≡ slice_name b) }
-    ensures hashed { (a b : OwnedSlice T) → slice_name a ≡ slice_name b →
+    ensures equal { (a b : Handle (SliceKind T)) →
+        (⟦<InternedSlice<T> as PartialEq>⟧.eq a b ≡ true) ↔ (name_of a ≡ name_of b) }
+    ensures hashed { (a b : Handle (SliceKind T)) → name_of a ≡ name_of b →
         ⟦<InternedSlice<T> as Hash>⟧.hash_input a ≡ ⟦<InternedSlice<T> as Hash>⟧.hash_input b }
-{}
+{
+    handles_are_names::<Slices<T>>();
+}
 
 /// References to slices are equal exactly if their names are, and equal ones hash alike.
 pub fn slice_references_are_names<T>()
-    ensures equal { (a b : SliceReference T) →
+    ensures equal { (a b : Reference (SliceKind T)) →
         (⟦<InternedSliceRef<T> as PartialEq>⟧.eq a b ≡ true)
-        ↔ (slice_ref_name a ≡ slice_ref_name b) }
-    ensures hashed { (a b : SliceReference T) → slice_ref_name a ≡ slice_ref_name b →
+        ↔ (ref_name a ≡ ref_name b) }
+    ensures hashed { (a b : Reference (SliceKind T)) → ref_name a ≡ ref_name b →
         ⟦<InternedSliceRef<T> as Hash>⟧.hash_input a
         ≡ ⟦<InternedSliceRef<T> as Hash>⟧.hash_input b }
-{}
+{
+    handles_are_names::<Slices<T>>();
+}
 
 /// Symbols of one table that can be read are equal exactly if their texts are.
 pub fn symbols_tell_texts()

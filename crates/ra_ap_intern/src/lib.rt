@@ -4,14 +4,15 @@
 mod gc;
 mod intern;
 mod intern_slice;
+mod kind;
 pub mod laws;
+mod storage;
 mod symbol;
 mod text;
-mod typed_key;
 
 pub use gc::{
     Collected, Family, GarbageCollector, GcInternedSliceVisit, GcInternedVisit, NoStorages,
-    Numbered, Pair,
+    Numbered, Pair, Visits,
 };
 pub use intern::{InternStorage, Internable, Interned, InternedRef, Iter};
 pub use intern_slice::{
@@ -19,4 +20,6 @@ pub use intern_slice::{
 };
 pub use intern_store::{Limits, Name, Refusal, Refused};
 pub use intern_table::{HeaderSlice, HeaderWithLength, Text};
+pub use kind::{Kind, Slices, Values};
+pub use storage::{Owned, Ref, Storage};
 pub use symbol::{Symbol, SymbolIter, SymbolRef, SymbolTable, symbols as sym};

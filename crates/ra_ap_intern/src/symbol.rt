@@ -52,14 +52,15 @@ impl Model for SymbolTable {
 /// if their texts are.
 #[derive(Drop)]
 #[derive(PartialEq, Eq, Hash)]
-pub struct Symbol(Kind);
+pub struct Symbol(Source);
 
 /// A reference to a symbol, which counts nothing. It is compared and hashed by what it names alone.
 #[derive(Clone, Copy, PartialEq, Eq, Hash)]
-pub struct SymbolRef(Kind);
+pub struct SymbolRef(Source);
 
+// Where the text of a symbol is.
 #[derive(Clone, Copy, PartialEq, Eq, Hash)]
-enum Kind {
+enum Source {
     Preset(u16),
     Runtime(EntryKey),
 }
@@ -114,11 +115,11 @@ impl SymbolTable {
     pub fn get(&self, text: &str) -> Option<SymbolRef>
         ensures { option_map symbol_ref_name result ≡ named_in self.now text.now }
     {
-        let kind = match intern_presets::place(text) {
-            Some(place) => Kind::Preset(place),
-            None => Kind::Runtime(self.store.find(&text)?),
+        let source = match intern_presets::place(text) {
+            Some(place) => Source::Preset(place),
+            None => Source::Runtime(self.store.find(&text)?),
         };
-        Some(SymbolRef(kind))
+        Some(SymbolRef(source))
     }
 
     /// The texts that the table keeps, each with a reference to its symbol, in no promised order.
@@ -138,8 +139,8 @@ impl SymbolTable {
         ensures { result ≡ count_of self.now (symbol_name symbol.now) }
     {
         match symbol.0 {
-            Kind::Preset(_) => None,
-            Kind::Runtime(key) => self.store.count(key),
+            Source::Preset(_) => None,
+            Source::Runtime(key) => self.store.count(key),
         }
     }
 }
@@ -158,10 +159,10 @@ impl Symbol {
             (symbol_in table.old text.now).table }
     {
         if let Some(preset) = intern_presets::place(text) {
-            return Ok(Symbol(Kind::Preset(preset)));
+            return Ok(Symbol(Source::Preset(preset)));
         }
         match table.store.intern_counted(text) {
-            Ok((key, _)) => Ok(Symbol(Kind::Runtime(key))),
+            Ok((key, _)) => Ok(Symbol(Source::Runtime(key))),
             Err(Refused { why, .. }) => Err(why),
         }
     }
@@ -237,10 +238,10 @@ impl SymbolRef {
     pub fn name(self) -> Option<Name>
         ensures { result ≡ entry_name (symbol_ref_name self) }
     {
-        let Kind::Runtime(key) = self.0 else {
+        let Source::Runtime(key) = self.0 else {
             return None;
         };
-        Some(key.name)
+        Some(key.name())
     }
 
     /// The text: a preset's, whatever the table, or else the one that the table keeps.
@@ -249,9 +250,9 @@ impl SymbolRef {
         ensures { option_map (λ t. t.now) result ≡ text_of table.now (symbol_ref_name self) }
     {
         match self.0 {
-            Kind::Preset(place) => intern_presets::text(place),
-            Kind::Runtime(key) => {
-                let text = table.store.own(key)?.get(key.spot())?;
+            Source::Preset(place) => intern_presets::text(place),
+            Source::Runtime(key) => {
+                let text = table.store.own(key.storage)?.get(key.spot)?;
                 Some(text.as_str())
             }
         }
@@ -267,8 +268,8 @@ impl SymbolRef {
             (at_entry counted_up table.old (symbol_ref_name self)) }
     {
         match self.0 {
-            Kind::Preset(_) => Ok(Symbol(self.0)),
-            Kind::Runtime(key) => {
+            Source::Preset(_) => Ok(Symbol(self.0)),
+            Source::Runtime(key) => {
                 table.store.count_up(key)?;
                 Ok(Symbol(self.0))
             }
@@ -284,8 +285,8 @@ impl SymbolTable {
             (at_entry (released false) self.old (symbol_name symbol.now)) }
     {
         match symbol.0 {
-            Kind::Preset(_) => Ok(()),
-            Kind::Runtime(key) => {
+            Source::Preset(_) => Ok(()),
+            Source::Runtime(key) => {
                 self.store.release(key, false)?;
                 Ok(())
             }

@@ -5,38 +5,13 @@ use crate::shape::{TERMS, args_of, head_of, name_of};
 use intern_terms::{TermRef, TermStore};
 use ra_ap_intern::sym;
 
-/// Makes the calls that read a store.
-pub(crate) fn check_lookups(
-    rt: &impl Eprint,
-    store: &TermStore,
-    terms: &[TermRef],
-) -> Result<(), Fault> {
-    mark(rt, "takes none: TermStore::number");
-    ensure(store.number() == 1, "a store has another number")?;
-    mark(rt, "takes none: TermStore::len");
-    ensure(store.len() == TERMS, "a store has another length")?;
-    mark(rt, "takes none: TermStore::is_empty");
-    ensure(!store.is_empty(), "a store is empty that has terms")?;
-    mark(rt, "takes none: TermStore::iter");
-    ensure(lists(store, terms), "a store lists something else")?;
-    mark(rt, "takes none: TermStore::contains");
-    ensure(
-        all(store, terms, Look::Contains),
-        "a store has not a term of its own",
-    )?;
-    mark(rt, "takes none: TermStore::count");
-    ensure(all(store, terms, Look::Count), "a term has an owner")?;
-    mark(rt, "takes none: TermStore::get");
-    ensure(all(store, terms, Look::Get), "a term is not found")?;
-    mark(rt, "takes none: TermStore::head");
-    ensure(all(store, terms, Look::Head), "a term has another head")?;
-    mark(rt, "takes none: TermStore::args");
-    ensure(all(store, terms, Look::Args), "a term has other arguments")
-}
-
-/// A call that reads a term, or compares it with the first.
+/// A call that reads a store, or a term of it, or compares a term with the first.
 #[derive(Clone, Copy)]
 enum Look {
+    Number,
+    Len,
+    IsEmpty,
+    Iter,
     Contains,
     Count,
     Get,
@@ -45,6 +20,58 @@ enum Look {
     Name,
     Equal,
     Less,
+}
+
+/// A mark, and the calls that follow it.
+type Marked = (&'static str, Look);
+
+/// Makes the calls, and fails where one answers something else.
+fn check_each(
+    rt: &impl Eprint,
+    store: &TermStore,
+    terms: &[TermRef],
+    looks: &[Marked],
+) -> Result<(), Fault> {
+    for (line, look) in looks {
+        mark(rt, *line);
+        ensure(
+            shows(store, terms, *look),
+            "the call of the last mark answers something else",
+        )?;
+    }
+    Ok(())
+}
+
+// Whether a call answers right, of each term where it is about one.
+fn shows(store: &TermStore, terms: &[TermRef], look: Look) -> bool {
+    match look {
+        Look::Number => store.number() == 1,
+        Look::Len => store.len() == TERMS,
+        Look::IsEmpty => !store.is_empty(),
+        Look::Iter => lists(store, terms),
+        _ => all(store, terms, look),
+    }
+}
+
+const LOOKUPS: [Marked; 9] = [
+    ("takes none: TermStore::number", Look::Number),
+    ("takes none: TermStore::len", Look::Len),
+    ("takes none: TermStore::is_empty", Look::IsEmpty),
+    ("takes none: TermStore::iter", Look::Iter),
+    ("takes none: TermStore::contains", Look::Contains),
+    ("takes none: TermStore::count", Look::Count),
+    ("takes none: TermStore::get", Look::Get),
+    ("takes none: TermStore::head", Look::Head),
+    ("takes none: TermStore::args", Look::Args),
+];
+
+/// Makes the calls that read a store.
+pub(crate) fn check_lookups(
+    rt: &impl Eprint,
+    store: &TermStore,
+    terms: &[TermRef],
+) -> Result<(), Fault> {
+    check_each(rt, store, terms, &LOOKUPS)
 }
 
 fn all(store: &TermStore, terms: &[TermRef], look: Look) -> bool {
@@ -68,6 +95,7 @@ fn answers(store: &TermStore, terms: &[TermRef], term: TermRef, number: usize, l
         Look::Name => term.name() == name_of(store, number),
         Look::Equal => (terms.first() == Some(&term)) == (number == 0),
         Look::Less => (terms.first() < Some(&term)) == (number > 0),
+        _ => false,
     }
 }
 
@@ -80,27 +108,30 @@ fn lists(store: &TermStore, terms: &[TermRef]) -> bool {
     store.iter().count() == TERMS
 }
 
+const REFERENCES: [Marked; 3] = [
+    ("takes none: TermRef::name", Look::Name),
+    ("takes none: ==", Look::Equal),
+    ("takes none: <", Look::Less),
+];
+
 /// Makes the calls on references.
 pub(crate) fn check_references(
     rt: &impl Eprint,
     store: &TermStore,
     terms: &[TermRef],
 ) -> Result<(), Fault> {
-    mark(rt, "takes none: TermRef::name");
-    ensure(all(store, terms, Look::Name), "a term has another name")?;
-    mark(rt, "takes none: ==");
-    ensure(
-        all(store, terms, Look::Equal),
-        "two terms are equal, or one differs from itself",
-    )?;
-    mark(rt, "takes none: <");
-    ensure(
-        all(store, terms, Look::Less),
-        "a term is not below a later one",
-    )?;
+    check_each(rt, store, terms, &REFERENCES)?;
     mark(rt, "prepares");
     Ok(())
 }
+
+const UNREAD: [Marked; 5] = [
+    ("takes none: TermStore::contains", Look::Contains),
+    ("takes none: TermStore::count", Look::Count),
+    ("takes none: TermStore::get", Look::Get),
+    ("takes none: TermStore::head", Look::Head),
+    ("takes none: TermStore::args", Look::Args),
+];
 
 /// Makes the calls that read a store, of a term that it hasn't.
 pub(crate) fn check_unread(
@@ -108,25 +139,25 @@ pub(crate) fn check_unread(
     store: &TermStore,
     term: TermRef,
 ) -> Result<(), Fault> {
-    mark(rt, "takes none: TermStore::contains");
-    ensure(!store.contains(term), "a store has a term that is gone")?;
-    mark(rt, "takes none: TermStore::count");
-    ensure(
-        store.count(term).is_none(),
-        "a term is counted that is gone",
-    )?;
-    mark(rt, "takes none: TermStore::get");
-    ensure(
-        store.get(&sym::fn_, &[term]).is_none(),
-        "a term is found over one that is gone",
-    )?;
-    mark(rt, "takes none: TermStore::head");
-    ensure(store.head(term).is_none(), "a term has a head that is gone")?;
-    mark(rt, "takes none: TermStore::args");
-    ensure(
-        store.args(term).is_none(),
-        "a term has arguments that is gone",
-    )?;
+    for (line, look) in UNREAD {
+        mark(rt, line);
+        ensure(
+            shows_nothing(store, term, look),
+            "the call of the last mark reads a term that is gone",
+        )?;
+    }
     mark(rt, "prepares");
     Ok(())
+}
+
+// Whether a call tells that the store hasn't a term. No other calls are made of one.
+fn shows_nothing(store: &TermStore, term: TermRef, look: Look) -> bool {
+    match look {
+        Look::Contains => !store.contains(term),
+        Look::Count => store.count(term).is_none(),
+        Look::Get => store.get(&sym::fn_, &[term]).is_none(),
+        Look::Head => store.head(term).is_none(),
+        Look::Args => store.args(term).is_none(),
+        _ => false,
+    }
 }

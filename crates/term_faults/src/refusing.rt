@@ -110,22 +110,20 @@ fn check_terms(rt: &impl Eprint, store: &mut TermStore, three: Three) -> Result<
     } = three;
     mark(rt, "takes none: TermStore::term");
     ensure(finds(store, &[], live, 0), "a stored term is not found")?;
-    refuses(store, &[gone], Refusal::Gone)?;
-    refuses(store, &[foreign], Refusal::Foreign)?;
-    refuses(store, &[live, gone, foreign], Refusal::Gone)?;
-    refuses(store, &[live, foreign, gone], Refusal::Foreign)?;
-    refuses(store, &[live], Refusal::NumbersUsedUp)?;
-    refuses(store, &[], Refusal::NumbersUsedUp)?;
+    let are_right = refuses(store, &[gone], Refusal::Gone)
+        && refuses(store, &[foreign], Refusal::Foreign)
+        && refuses(store, &[live, gone, foreign], Refusal::Gone)
+        && refuses(store, &[live, foreign, gone], Refusal::Foreign)
+        && refuses(store, &[live], Refusal::NumbersUsedUp)
+        && refuses(store, &[], Refusal::NumbersUsedUp);
+    ensure(are_right, "a term is not refused as it has to be")?;
     mark(rt, "prepares");
     Ok(())
 }
 
-// Fails unless a term over these arguments is refused, with its head back.
-fn refuses(store: &mut TermStore, args: &[TermRef], why: Refusal) -> Result<(), Fault> {
-    ensure(
-        is_refused(store, args, why) && store.len() == 1,
-        "a term is not refused as it has to be",
-    )
+// Whether a term over these arguments is refused, with its head back.
+fn refuses(store: &mut TermStore, args: &[TermRef], why: Refusal) -> bool {
+    is_refused(store, args, why) && store.len() == 1
 }
 
 fn is_refused(store: &mut TermStore, args: &[TermRef], why: Refusal) -> bool {

@@ -11,6 +11,8 @@ mod readme;
 #[cfg(test)]
 mod refused;
 #[cfg(test)]
+mod rows;
+#[cfg(test)]
 mod scene;
 #[cfg(test)]
 mod sides;

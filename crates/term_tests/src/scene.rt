@@ -1,8 +1,12 @@
 //! A store of terms with the table of their heads, and calls with what they must answer.
+use intern_fixtures::told;
 use intern_terms::{Term, TermRef, TermStore};
-use ra_ap_intern::{Collected, Limits, Refusal, Refused, Symbol, SymbolTable};
-use std::alloc::{AllocError, Global};
+use ra_ap_intern::{Limits, Refusal, Symbol, SymbolTable};
+use std::alloc::Global;
 use std::process::Abort;
+
+/// What a collection tells: the visits, the mark calls and the removed terms.
+pub type Told = (usize, u64, usize);
 
 /// A store of terms, and the table of their heads, whose number is 1.
 #[derive(Drop)]
@@ -32,47 +36,43 @@ impl Scene {
         }
     }
 
-    /// The term with the head of this text, which gets this birth, and whether the head came back.
+    /// The term with the head of this text, and whether it is stored already. Then the head comes
+    /// back, and it does so where the term is refused.
     fn term(
         &mut self,
         rt: &impl Abort,
         text: &str,
         args: &[TermRef],
-        birth: u64,
-    ) -> (TermRef, bool) {
+    ) -> Result<(TermRef, bool), Refusal> {
         let given = head(rt, &mut self.table, text);
         let expected = head(rt, &mut self.table, text);
-        let made = self.store.term(given, args).map_err(|refused| refused.why);
-        let (term, back) = made.expect(rt, "the term is made");
-        assert_eq!(rt; term.name().birth, birth);
-        let is_back = back.is_some();
-        assert!(rt; !is_back || back == Some(expected));
-        (term, is_back)
+        let (answer, back) = match self.store.term(given, args) {
+            Ok((term, back)) => (Ok((term, back.is_some())), back),
+            Err(refused) => (Err(refused.why), Some(refused.back)),
+        };
+        assert!(rt; back.is_none() || back == Some(expected));
+        answer
     }
 
     /// A term that isn't stored, which gets this birth.
     pub fn make(&mut self, rt: &impl Abort, text: &str, args: &[TermRef], birth: u64) -> TermRef {
-        let (term, is_stored) = self.term(rt, text, args, birth);
-        assert!(rt; !is_stored);
+        let (term, is_stored) = self.term(rt, text, args).expect(rt, "the term is made");
+        assert_eq!(rt; (term.name().birth, is_stored), (birth, false));
         term
     }
 
     /// A term that is stored under this birth: the head comes back.
     pub fn find(&mut self, rt: &impl Abort, text: &str, args: &[TermRef], birth: u64) -> TermRef {
-        let (term, is_stored) = self.term(rt, text, args, birth);
-        assert!(rt; is_stored);
+        let (term, is_stored) = self.term(rt, text, args).expect(rt, "the term is found");
+        assert_eq!(rt; (term.name().birth, is_stored), (birth, true));
         term
     }
 
     /// The making of a term is refused, with the head back, and there are as many terms as before.
     pub fn refuses(&mut self, rt: &impl Abort, text: &str, args: &[TermRef], why: Refusal) {
         let before = self.store.len();
-        let given = head(rt, &mut self.table, text);
-        let expected = head(rt, &mut self.table, text);
-        let answer = self.store.term(given, args).err();
-        let refused = answer.expect(rt, "the term is refused");
-        assert!(rt; refused.why == why);
-        assert!(rt; refused.back == expected);
+        let answer = self.term(rt, text, args).err();
+        assert_eq!(rt; answer, Some(why));
         assert_eq!(rt; self.store.len(), before);
     }
 
@@ -82,23 +82,17 @@ impl Scene {
         self.store.get(&head, args)
     }
 
-    /// Nothing is stored with this head over these arguments.
-    pub fn has_none(&mut self, rt: &impl Abort, text: &str, args: &[TermRef]) {
-        assert!(rt; self.get(rt, text, args).is_none());
-    }
-
     /// The term has so many owners.
     pub fn has_count(&self, rt: &impl Abort, term: TermRef, count: u64) {
-        let found = self.store.count(term).expect(rt, "a count");
-        assert_eq!(rt; found, count);
+        assert_eq!(rt; self.store.count(term), Some(count));
     }
 
     /// The term reads this head and these arguments.
     pub fn reads(&mut self, rt: &impl Abort, term: TermRef, text: &str, args: &[TermRef]) {
         let head = head(rt, &mut self.table, text);
         assert!(rt; self.store.contains(term));
-        assert!(rt; *self.store.head(term).expect(rt, "a head") == head);
-        assert!(rt; self.store.args(term).expect(rt, "arguments") == args);
+        assert!(rt; self.store.head(term) == Some(&head));
+        assert!(rt; self.store.args(term) == Some(args));
     }
 
     /// The term reads nothing.
@@ -109,48 +103,111 @@ impl Scene {
         assert!(rt; self.store.count(term).is_none());
     }
 
-    pub fn keep(&mut self, rt: &impl Abort, term: TermRef) -> Term {
-        let kept = self.store.keep(term).expect(rt, "the term is kept");
-        assert!(rt; kept.as_ref() == term);
-        kept
+    /// The store has these terms, which are distinct, and lists each once.
+    pub fn lists(&self, rt: &impl Abort, terms: &[TermRef]) {
+        let number = terms.len();
+        assert_eq!(rt;
+            (self.store.len(), self.store.iter().count()),
+            (number, number)
+        );
+        assert_eq!(rt; self.store.is_empty(), terms.is_empty());
+        for term in terms {
+            assert!(rt; self.is_listed(*term));
+        }
     }
 
-    pub fn release(&mut self, rt: &impl Abort, term: Term) {
-        let released = term.release(&mut self.store).map_err(|refused| refused.why);
-        released.expect(rt, "the term is released");
+    fn is_listed(&self, term: TermRef) -> bool {
+        for listed in self.store.iter() {
+            if listed == term {
+                return true;
+            }
+        }
+        false
     }
 
-    /// The term isn't released, for this reason, and comes back.
-    pub fn keeps_its_owner(&mut self, rt: &impl Abort, term: Term, why: Refusal) -> Term {
-        let reference = term.as_ref();
-        let refused = term.release(&mut self.store).err().expect(rt, "refused");
-        assert!(rt; refused.why == why);
-        assert!(rt; refused.back.as_ref() == reference);
-        refused.back
+    /// Each term in the trees of these, after its arguments.
+    pub fn walk(&self, rt: &impl Abort, roots: &[TermRef]) -> Vec<TermRef> {
+        self.store.walk(roots).expect(rt, "memory")
     }
 
-    pub fn collects(&mut self, rt: &impl Abort, answer: (usize, u64, usize)) {
-        told(rt, collected(&mut self.store), answer);
+    /// How the term is written, with at most so many terms.
+    pub fn written(&self, rt: &impl Abort, term: TermRef, most: usize) -> String {
+        let written = self.store.written(term, &self.table, most);
+        written.expect(rt, "memory")
     }
 
-    pub fn collects_keeping(
-        &mut self,
-        rt: &impl Abort,
-        roots: &[TermRef],
-        answer: (usize, u64, usize),
-    ) {
-        told(rt, self.store.collect_keeping(roots), answer);
+    /// The term is written so, with at most so many terms.
+    pub fn writes(&self, rt: &impl Abort, term: TermRef, most: usize, text: &str) {
+        assert_eq!(rt; self.written(rt, term, most).as_str(), text);
+    }
+
+    /// An owner of the term, unless it is due to be refused.
+    pub fn keep(&mut self, rt: &impl Abort, term: TermRef, due: Option<Refusal>) -> Option<Term> {
+        let answer = self.store.keep(term);
+        owner_of(rt, term, answer, due)
+    }
+
+    /// A second owner, unless it is due to be refused.
+    pub fn clone(&mut self, rt: &impl Abort, owner: &Term, due: Option<Refusal>) -> Option<Term> {
+        let answer = owner.clone(&mut self.store);
+        owner_of(rt, owner.as_ref(), answer, due)
+    }
+
+    /// Gives an owner up. Where that is due to be refused, it comes back.
+    pub fn release(&mut self, rt: &impl Abort, owner: Term, due: Option<Refusal>) -> Option<Term> {
+        let term = owner.as_ref();
+        let refused = owner.release(&mut self.store).err();
+        assert_eq!(rt; refused.as_ref().map(|refused| refused.why), due);
+        let back = refused?.back;
+        assert!(rt; back.as_ref() == term);
+        Some(back)
+    }
+
+    pub fn collects(&mut self, rt: &impl Abort, answer: Told) {
+        let did = self.store.collect();
+        assert_eq!(rt; told(did), Some(answer));
+    }
+
+    pub fn collects_keeping(&mut self, rt: &impl Abort, roots: &[TermRef], answer: Told) {
+        let did = self.store.collect_keeping(roots);
+        assert_eq!(rt; told(did), Some(answer));
     }
 }
 
-fn collected(store: &mut TermStore) -> Result<Collected, AllocError> {
-    store.collect()
+/// The owner that was answered, which is one of this term, unless it was due to be refused.
+fn owner_of(
+    rt: &impl Abort,
+    term: TermRef,
+    answer: Result<Term, Refusal>,
+    due: Option<Refusal>,
+) -> Option<Term> {
+    match answer {
+        Ok(owner) => {
+            assert!(rt; due.is_none());
+            assert!(rt; owner.as_ref() == term);
+            Some(owner)
+        }
+        Err(why) => {
+            assert!(rt; due == Some(why));
+            None
+        }
+    }
 }
 
-/// The visits, the mark calls and the removed terms are these.
-fn told(rt: &impl Abort, collected: Result<Collected, AllocError>, expected: (usize, u64, usize)) {
-    let did = collected.expect(rt, "the store is collected");
-    assert_eq!(rt; did.visits, expected.0);
-    assert_eq!(rt; did.mark_calls, expected.1);
-    assert_eq!(rt; did.removed, expected.2);
+/// Makes `x` and 64 terms over it, each over the one before twice. It gives the last.
+pub fn make_doubled(rt: &impl Abort, scene: &mut Scene) -> TermRef {
+    let mut term = scene.make(rt, "x", &[], 0);
+    for birth in 1..65u64 {
+        term = scene.make(rt, "f", &[term, term], birth);
+    }
+    term
+}
+
+/// Makes so many terms: `x`, and others over it, each over the one before. It gives the last.
+pub fn make_path(rt: &impl Abort, scene: &mut Scene, length: u64) -> TermRef {
+    let mut term = scene.make(rt, "x", &[], 0);
+    for birth in 1..length {
+        term = scene.make(rt, "g", &[term], birth);
+    }
+    term
 }

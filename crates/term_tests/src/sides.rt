@@ -4,7 +4,7 @@ ghost use Rattle.std.specs.Prelude.{◌<◌};
 use crate::scene::Scene;
 use crate::trees::{Due, Trees, birth_of, text_of};
 use intern_terms::{Term, TermRef, TermStore};
-use ra_ap_intern::{Limits, Refusal, SymbolTable};
+use ra_ap_intern::{Limits, SymbolTable};
 use std::alloc::Global;
 use std::process::Abort;
 
@@ -102,56 +102,33 @@ impl Side {
 
     /// The term is written as the model has it, cut off after so many heads.
     pub fn writes(&self, rt: &impl Abort, term: TermRef, most: usize) {
-        let written = self.scene.store.written(term, &self.scene.table, most);
-        let text = written.expect(rt, "memory");
+        let text = self.scene.written(rt, term, most);
         assert!(rt; self.trees.is_written(rt, term, most, text.as_str()));
     }
 
     /// Keeps the term, if the model lets it.
     pub fn keep(&mut self, rt: &impl Abort, term: TermRef) -> Option<Term> {
-        let answer = self.scene.store.keep(term);
-        self.owns(rt, term, answer)
+        let owner = self.scene.keep(rt, term, self.trees.due_owner(term))?;
+        self.trees.count_up(term);
+        Some(owner)
     }
 
     /// Makes a second owner, if the model lets it be.
     pub fn clone(&mut self, rt: &impl Abort, owner: &Term) -> Option<Term> {
-        let answer = owner.clone(&mut self.scene.store);
-        self.owns(rt, owner.as_ref(), answer)
-    }
-
-    /// The owner that was answered, which the model counts. It lets it be, or refuses it as told.
-    fn owns(
-        &mut self,
-        rt: &impl Abort,
-        term: TermRef,
-        answer: Result<Term, Refusal>,
-    ) -> Option<Term> {
-        let due = self.trees.due_owner(term);
-        match answer {
-            Ok(owner) => {
-                assert!(rt; due.is_none());
-                assert!(rt; owner.as_ref() == term);
-                self.trees.count_up(term);
-                Some(owner)
-            }
-            Err(why) => {
-                assert!(rt; due == Some(why));
-                None
-            }
-        }
+        let term = owner.as_ref();
+        let second = self.scene.clone(rt, owner, self.trees.due_owner(term))?;
+        self.trees.count_up(term);
+        Some(second)
     }
 
     /// Gives an owner up, if the model lets it. Otherwise it comes back.
     pub fn release(&mut self, rt: &impl Abort, owner: Term) -> Option<Term> {
         let term = owner.as_ref();
-        match self.trees.due_release(term) {
-            Some(why) => Some(self.scene.keeps_its_owner(rt, owner, why)),
-            None => {
-                self.scene.release(rt, owner);
-                self.trees.count_down(term);
-                None
-            }
+        let back = self.scene.release(rt, owner, self.trees.due_release(term));
+        if back.is_none() {
+            self.trees.count_down(term);
         }
+        back
     }
 
     /// A collection tells what the model does, and leaves the same terms.
@@ -176,7 +153,7 @@ impl Side {
 
     /// A walk gives each term within the trees of these terms once, after its arguments.
     pub fn walk(&self, rt: &impl Abort, roots: &[TermRef]) {
-        let walk = self.scene.store.walk(roots).expect(rt, "memory");
+        let walk = self.scene.walk(rt, roots);
         let mut seen = self.trees.none(rt);
         for term in &walk {
             self.comes_next(rt, &mut seen, *term);

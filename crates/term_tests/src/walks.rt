@@ -1,71 +1,78 @@
 //! Walks: each term of some trees once, after its arguments.
-use crate::scene::Scene;
+use crate::rows::{HERE, OTHER, Row, Step, play};
+use crate::scene::{Scene, make_doubled, make_path};
 use intern_terms::{TermRef, TermStore};
 use std::process::Abort;
 
-/// The walk over the trees of these terms gives these, in this order.
-fn walks(rt: &impl Abort, scene: &Scene, terms: &[TermRef], expected: &[TermRef]) {
-    let walk = scene.store.walk(terms).expect(rt, "memory");
-    assert!(rt; walk.as_slice() == expected);
-}
+/// Walks over `f(x, g(y))`, which is made last.
+const ARGUMENTS_FIRST: [Row; 7] = [
+    (HERE, Step::New("x", &[], 0)),
+    (HERE, Step::New("y", &[], 1)),
+    (HERE, Step::New("g", &[1], 2)),
+    (HERE, Step::New("f", &[0, 2], 3)),
+    (HERE, Step::Walks(&[3], &[0, 1, 2, 3])),
+    (HERE, Step::Walks(&[2], &[1, 2])),
+    (HERE, Step::Walks(&[0], &[0])),
+];
 
 #[test]
 fn arguments_come_first(rt: HostRuntime) {
-    let mut scene = Scene::new(rt.alloc(), 3);
-    let x = scene.make(&rt, "x", &[], 0);
-    let y = scene.make(&rt, "y", &[], 1);
-    let gy = scene.make(&rt, "g", &[y], 2);
-    let term = scene.make(&rt, "f", &[x, gy], 3);
-    walks(&rt, &scene, &[term], &[x, y, gy, term]);
-    walks(&rt, &scene, &[gy], &[y, gy]);
-    walks(&rt, &scene, &[x], &[x]);
+    play(&rt, rt.alloc(), &ARGUMENTS_FIRST);
 }
+
+/// Walks over `f(g(x), g(x), x)`, which is made last.
+const SHARED_ONCE: [Row; 6] = [
+    (HERE, Step::New("x", &[], 0)),
+    (HERE, Step::New("g", &[0], 1)),
+    (HERE, Step::New("f", &[1, 1, 0], 2)),
+    (HERE, Step::Walks(&[2], &[0, 1, 2])),
+    (HERE, Step::Walks(&[2, 1, 2, 0, 2], &[0, 1, 2])),
+    (HERE, Step::Walks(&[0, 2], &[0, 1, 2])),
+];
 
 #[test]
 fn shared_terms_come_once(rt: HostRuntime) {
-    let mut scene = Scene::new(rt.alloc(), 3);
-    let x = scene.make(&rt, "x", &[], 0);
-    let gx = scene.make(&rt, "g", &[x], 1);
-    let term = scene.make(&rt, "f", &[gx, gx, x], 2);
-    walks(&rt, &scene, &[term], &[x, gx, term]);
-    walks(&rt, &scene, &[term, gx, term, x, term], &[x, gx, term]);
-    walks(&rt, &scene, &[x, term], &[x, gx, term]);
+    play(&rt, rt.alloc(), &SHARED_ONCE);
 }
+
+/// Walks over `g(x)` and `g(y)`, which are made last.
+const ONE_AFTER_THE_OTHER: [Row; 6] = [
+    (HERE, Step::New("x", &[], 0)),
+    (HERE, Step::New("y", &[], 1)),
+    (HERE, Step::New("g", &[0], 2)),
+    (HERE, Step::New("g", &[1], 3)),
+    (HERE, Step::Walks(&[3, 2], &[1, 3, 0, 2])),
+    (HERE, Step::Walks(&[2, 3], &[0, 2, 1, 3])),
+];
 
 #[test]
 fn trees_are_walked_one_after_the_other(rt: HostRuntime) {
-    let mut scene = Scene::new(rt.alloc(), 3);
-    let x = scene.make(&rt, "x", &[], 0);
-    let y = scene.make(&rt, "y", &[], 1);
-    let gx = scene.make(&rt, "g", &[x], 2);
-    let gy = scene.make(&rt, "g", &[y], 3);
-    walks(&rt, &scene, &[gy, gx], &[y, gy, x, gx]);
-    walks(&rt, &scene, &[gx, gy], &[x, gx, y, gy]);
+    play(&rt, rt.alloc(), &ONE_AFTER_THE_OTHER);
 }
+
+/// Walks over a term of another store, one that is gone, and `g(x)`.
+const PASSED_OVER: [Row; 9] = [
+    (OTHER, Step::New("x", &[], 0)),
+    (HERE, Step::New("y", &[], 0)),
+    (HERE, Step::New("x", &[], 1)),
+    (HERE, Step::New("g", &[2], 2)),
+    (HERE, Step::CollectKeeping(&[3], (2, 1, 1))),
+    (HERE, Step::Walks(&[1, 3, 0], &[2, 3])),
+    (HERE, Step::Walks(&[0, 1], &[])),
+    (HERE, Step::Walks(&[], &[])),
+    (OTHER, Step::Walks(&[3, 0], &[0])),
+];
 
 #[test]
 fn what_cannot_be_read_is_passed_over(rt: HostRuntime) {
-    let mut scene = Scene::new(rt.alloc(), 3);
-    let mut other = Scene::new(rt.alloc(), 4);
-    let foreign = other.make(&rt, "x", &[], 0);
-    let stale = scene.make(&rt, "y", &[], 0);
-    let x = scene.make(&rt, "x", &[], 1);
-    let gx = scene.make(&rt, "g", &[x], 2);
-    scene.collects_keeping(&rt, &[gx], (2, 1, 1));
-    walks(&rt, &scene, &[stale, gx, foreign], &[x, gx]);
-    walks(&rt, &scene, &[foreign, stale], &[]);
-    walks(&rt, &scene, &[], &[]);
-    walks(&rt, &other, &[gx, foreign], &[foreign]);
+    play(&rt, rt.alloc(), &PASSED_OVER);
 }
 
 #[test]
 fn a_term_of_many_paths_is_walked_at_once(rt: HostRuntime) {
     let mut scene = Scene::new(rt.alloc(), 3);
-    let mut term = scene.make(&rt, "x", &[], 0);
-    for birth in 1..65u64 {
-        term = scene.make(&rt, "f", &[term, term], birth);
-    }
-    let walk = scene.store.walk(&[term]).expect(&rt, "memory");
+    let term = make_doubled(&rt, &mut scene);
+    let walk = scene.walk(&rt, &[term]);
     assert_eq!(rt; walk.len(), 65);
     for (place, term) in walk.iter().enumerate() {
         assert_eq!(rt; term.name().birth, place as u64);
@@ -75,11 +82,8 @@ fn a_term_of_many_paths_is_walked_at_once(rt: HostRuntime) {
 #[test]
 fn a_long_path_is_walked(rt: HostRuntime) {
     let mut scene = Scene::new(rt.alloc(), 3);
-    let mut term = scene.make(&rt, "x", &[], 0);
-    for birth in 1..10_000u64 {
-        term = scene.make(&rt, "g", &[term], birth);
-    }
-    let walk = scene.store.walk(&[term]).expect(&rt, "memory");
+    let term = make_path(&rt, &mut scene, 10_000);
+    let walk = scene.walk(&rt, &[term]);
     assert_eq!(rt; walk.len(), 10_000);
     is_in_order(&rt, &scene.store, &walk);
 }
@@ -87,13 +91,7 @@ fn a_long_path_is_walked(rt: HostRuntime) {
 /// Each term comes after its arguments: here each has at most one, right before it.
 fn is_in_order(rt: &impl Abort, store: &TermStore, walk: &[TermRef]) {
     for place in 1..walk.len() {
-        is_over(rt, store, walk[place], walk[place - 1]);
+        let argument = walk[place - 1];
+        assert!(rt; store.args(walk[place]) == Some([argument].as_slice()));
     }
-}
-
-/// The term has this argument alone.
-fn is_over(rt: &impl Abort, store: &TermStore, term: TermRef, argument: TermRef) {
-    let args = store.args(term).expect(rt, "a term");
-    assert_eq!(rt; args.len(), 1);
-    assert!(rt; args.contains(&argument));
 }

@@ -1,14 +1,14 @@
 //! The calls that read.
 ghost use Rattle.std.specs.Prelude.{◌≡◌, ◌+◌, ◌<◌, ◌≤◌, true, false};
 ghost use Rattle.intern_calls.specs.Answer.{tells, truth, tells_birth, reads_counted, reads_value, reads_slice, reads_text, tells_count, len_of, tells_uint};
-ghost use Rattle.intern_calls.specs.Held.{held_at, same, same_named};
+ghost use Rattle.intern_calls.specs.Held.{held_at, same};
 ghost use Rattle.ra_ap_intern.specs.Handle.{name_of, ref_name};
-ghost use Rattle.ra_ap_intern.specs.Registry.{same_name};
-ghost use Rattle.ra_ap_intern.specs.Symbols.{symbol_name};
+ghost use Rattle.ra_ap_intern.specs.Named.{same_name};
+ghost use Rattle.ra_ap_intern.specs.Symbols.{same_named, symbol_name};
 ghost use Rattle.intern_calls.specs.Parts.{world_of};
 ghost use Rattle.intern_calls.specs.Step.{Says};
 ghost use Rattle.ra_ap_intern.specs.Sliced.{sliced_eq};
-ghost use Rattle.ra_ap_intern.specs.Slices.{slice_of, slice_name, slice_ref_name};
+ghost use Rattle.ra_ap_intern.specs.Slices.{slice_of};
 
 use super::Parts;
 use crate::call::Which;
@@ -164,13 +164,13 @@ fn are_refs_equal<T>(a: &InternedRef<T>, b: &InternedRef<T>) -> bool
 }
 
 fn are_slices_equal<T>(a: &InternedSlice<T>, b: &InternedSlice<T>) -> bool
-    ensures { result ≡ same_name (slice_name a.now) (slice_name b.now) }
+    ensures { result ≡ same_name (name_of a.now) (name_of b.now) }
 {
     a == b
 }
 
 fn are_slice_refs_equal<T>(a: &InternedSliceRef<T>, b: &InternedSliceRef<T>) -> bool
-    ensures { result ≡ same_name (slice_ref_name a.now) (slice_ref_name b.now) }
+    ensures { result ≡ same_name (ref_name a.now) (ref_name b.now) }
 {
     a == b
 }

@@ -1,14 +1,16 @@
 //! Storages that are collected together.
+ghost use Rattle.std.specs.FinMap as map;
 ghost use Rattle.std.specs.Prelude.{◌≡◌, ◌&&◌, true, None, OnOk, length, min};
-ghost use Rattle.intern_registry.specs.Registry.{names};
+ghost use Rattle.intern_store.specs.Named.{key_name};
 ghost use Rattle.intern_store.specs.declared.names.Name.{Name as EntryName};
-ghost use Rattle.intern_trace.specs.Collector.{marks};
-ghost use Rattle.intern_trace.specs.Reach.{is_entry, children_in};
-ghost use Rattle.intern_trace.specs.Traced.{state};
-ghost use Rattle.ra_ap_intern.specs.Families.{has_number, meet, are_distinct, with_family};
+ghost use Rattle.intern_marks.specs.Learning.{Learns};
+ghost use Rattle.intern_marks.specs.Marks.{marks};
+ghost use Rattle.intern_marks.specs.Names.{has};
+ghost use Rattle.intern_marks.specs.Reach.{is_entry, children_in};
+ghost use Rattle.ra_ap_intern.specs.Families.{has_number, meet, are_distinct};
 
 use super::GarbageCollector;
-use intern_registry::Registry;
+use intern_marks::Marks;
 use intern_store::EntryKey;
 use std::alloc::AllocError;
 
@@ -31,7 +33,7 @@ pub trait Family: Numbered {
     ghost use Rattle.std.specs.Prelude.{ℕ, Bool, true, List, ◌≡◌};
     ghost use Rattle.std.specs.List.{filter};
     ghost use Rattle.intern_store.specs.declared.names.Name.{Name};
-    ghost use Rattle.intern_trace.specs.Reach.{Entry, is_entry};
+    ghost use Rattle.intern_marks.specs.Reach.{Entry, is_entry};
     ghost use Rattle.ra_ap_intern.specs.Families.{has_number};
 
     // The entries, each with its name, its count, and the names that its value declares.
@@ -55,24 +57,23 @@ pub trait Family: Numbered {
     fn is_distinct(&self) -> bool
         ensures { result ≡ are_distinct (Self.numbers self.now) };
 
-    /// Registers the entries of all storages. Where there is no memory for that, `AllocError`, and
-    /// the registry may have some of them.
-    fn learn(&self, registry: &mut Registry) -> Result<(), AllocError>
+    /// Registers the entries of all storages. With `roots`, the counted ones are marked at once. Where
+    /// there is no memory for that, `AllocError`, and some of them may be registered.
+    fn learn(&self, marks: &mut Marks, roots: bool) -> Result<(), AllocError>
         requires distinct { are_distinct (Self.numbers self.now) ≡ true }
         requires new { (x : EntryName) → has_number (Self.numbers self.now) x.storage ≡ true →
-            (names registry.old).flags x ≡ None }
-        ensures { let r = names registry.new in OnOk result
-            (r ≡ with_family (names registry.old) (entries self.now) r.name_at r.storage) };
+            map.get marks.old.registered x ≡ None }
+        ensures { OnOk result (Learns roots (entries self.now) marks.old marks.new) };
 
     /// Visits the entry of a key, if it is there, and says whether it is.
     fn visit(&self, key: EntryKey, gc: &mut GarbageCollector) -> bool
-        ensures found { result ≡ is_entry (entries self.now) key.name }
-        ensures state { state gc.new
-            ≡ marks (state gc.old) (children_in (entries self.now) key.name) };
+        ensures found { result ≡ is_entry (entries self.now) (key_name key) }
+        ensures marks { gc.new
+            ≡ marks gc.old (children_in (entries self.now) (key_name key)) };
 
     /// Removes each entry that isn't marked. It takes no memory.
     fn sweep(&mut self, gc: &GarbageCollector)
-        ensures { self.new ≡ kept self.old (state gc.now).marked };
+        ensures { self.new ≡ kept self.old (has gc.now.marked) };
 
     // What is kept are the entries whose names are in the set.
     ghost kept_entries: { (f : Self) (set : Name → Bool) →
@@ -134,7 +135,7 @@ impl Family for NoStorages {
         true
     }
 
-    fn learn(&self, _registry: &mut Registry) -> Result<(), AllocError> {
+    fn learn(&self, _marks: &mut Marks, _roots: bool) -> Result<(), AllocError> {
         Ok(())
     }
 
@@ -204,9 +205,9 @@ impl<A: Family, B: Family> Family for Pair<A, B> {
         self.first.is_distinct() && self.second.is_distinct() && !self.first.meets(&self.second)
     }
 
-    fn learn(&self, registry: &mut Registry) -> Result<(), AllocError> {
-        self.first.learn(registry)?;
-        self.second.learn(registry)
+    fn learn(&self, marks: &mut Marks, roots: bool) -> Result<(), AllocError> {
+        self.first.learn(marks, roots)?;
+        self.second.learn(marks, roots)
     }
 
     fn visit(&self, key: EntryKey, gc: &mut GarbageCollector) -> bool {

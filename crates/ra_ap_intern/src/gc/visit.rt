@@ -1,7 +1,6 @@
 //! What values declare.
 ghost use Rattle.std.specs.Prelude.{◌≡◌};
-ghost use Rattle.intern_trace.specs.Collector.{marks};
-ghost use Rattle.intern_trace.specs.Traced.{state};
+ghost use Rattle.intern_marks.specs.Marks.{marks};
 
 use super::GarbageCollector;
 use crate::intern_slice::SliceInternable;
@@ -18,9 +17,9 @@ pub trait GcInternedVisit {
     // The names that a value declares.
     ghost children: { Self → List Name };
 
-    /// Marks what the value declares, one after the other.
+    /// Marks what the value declares, in the order of `children`.
     fn visit_with(&self, gc: &mut GarbageCollector)
-        ensures { state gc.new ≡ marks (state gc.old) (children self.now) };
+        ensures { gc.new ≡ marks gc.old (children self.now) };
 }
 
 /// A kind of slices whose headers and items declare which entries they need.
@@ -34,11 +33,11 @@ pub trait GcInternedSliceVisit: SliceInternable {
     // The names that a list of items declares.
     ghost slice_children: { List Self.SliceType → List Name };
 
-    /// Marks what a header declares, one after the other.
+    /// Marks what a header declares, in the order of `header_children`.
     fn visit_header(header: &Self::Header, gc: &mut GarbageCollector)
-        ensures { state gc.new ≡ marks (state gc.old) (header_children header.now) };
+        ensures { gc.new ≡ marks gc.old (header_children header.now) };
 
-    /// Marks what a list of items declares, one after the other.
+    /// Marks what a list of items declares, in the order of `slice_children`.
     fn visit_slice(slice: &[Self::SliceType], gc: &mut GarbageCollector)
-        ensures { state gc.new ≡ marks (state gc.old) (slice_children slice.now) };
+        ensures { gc.new ≡ marks gc.old (slice_children slice.now) };
 }

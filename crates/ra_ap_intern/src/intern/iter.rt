@@ -3,7 +3,8 @@ ghost use Rattle.std.specs.Iterator.{YieldsFirstBy, item_count};
 ghost use Rattle.ra_ap_intern.specs.Handle.{ref_name};
 
 use super::InternedRef;
-use crate::typed_key::TypedKey;
+use crate::storage::Ref;
+use intern_store::EntryKey;
 use intern_table::Iter as TableIter;
 use std::marker::Model;
 
@@ -35,7 +36,7 @@ impl<'a, T> Iterator for Iter<'a, T> {
 
     fn next(&mut self) -> Option<(InternedRef<T>, &'a T)> {
         let (spot, value, _) = self.entries.next()?;
-        let key = TypedKey::new(spot.in_storage(self.number));
-        Some((InternedRef { key }, value))
+        let storage = self.number;
+        Some((Ref::new(EntryKey { storage, spot }), value))
     }
 }

@@ -1,10 +1,11 @@
 //! The entries of a storage of slices, one after the other.
 ghost use Rattle.std.specs.Iterator.{YieldsFirstBy, item_count};
 ghost use Rattle.intern_table.specs.Read.{read};
-ghost use Rattle.ra_ap_intern.specs.Slices.{slice_ref_name};
+ghost use Rattle.ra_ap_intern.specs.Handle.{ref_name};
 
 use super::{InternedSliceRef, SliceInternable};
-use crate::typed_key::TypedKey;
+use crate::storage::Ref;
+use intern_store::EntryKey;
 use intern_table::{HeaderSlice, SliceIter as TableIter};
 use std::marker::Model;
 
@@ -34,7 +35,7 @@ impl<'a, T: SliceInternable> Iterator for SliceIter<'a, T> {
         HeaderSlice<'a, T::Header, T::SliceType>,
     );
 
-    ghost next_gives = { YieldsFirstBy (λ e. (slice_ref_name e.0, read e.1)) (λ rest. rest) };
+    ghost next_gives = { YieldsFirstBy (λ e. (ref_name e.0, read e.1)) (λ rest. rest) };
 
     ghost remaining = { item_count (λ rest. rest) };
 
@@ -47,7 +48,7 @@ impl<'a, T: SliceInternable> Iterator for SliceIter<'a, T> {
         ),
     > {
         let (spot, slice) = self.entries.next()?;
-        let key = TypedKey::new(spot.in_storage(self.number));
-        Some((InternedSliceRef { key }, slice))
+        let storage = self.number;
+        Some((Ref::new(EntryKey { storage, spot }), slice))
     }
 }

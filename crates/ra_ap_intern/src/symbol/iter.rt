@@ -2,7 +2,8 @@
 ghost use Rattle.std.specs.Iterator.{YieldsFirstBy, item_count};
 ghost use Rattle.ra_ap_intern.specs.Symbols.{symbol_ref_name};
 
-use super::{Kind, SymbolRef};
+use super::{Source, SymbolRef};
+use intern_store::EntryKey;
 use intern_table::{Iter as TableIter, Text};
 use std::marker::Model;
 
@@ -34,7 +35,8 @@ impl<'a> Iterator for SymbolIter<'a> {
 
     fn next(&mut self) -> Option<(SymbolRef, &'a str)> {
         let (spot, text, _) = self.entries.next()?;
-        let symbol = SymbolRef(Kind::Runtime(spot.in_storage(self.number)));
+        let storage = self.number;
+        let symbol = SymbolRef(Source::Runtime(EntryKey { storage, spot }));
         Some((symbol, text.as_str()))
     }
 }

@@ -6,7 +6,7 @@ use Rattle.intern_index.proofs.sweep.keep_marked.Goals as goal
 
 pub returns : goal.returns
 returns g c = λ p.
-    let marked = g.M.Marks.marked c.args.marks.now in
+    let marked = g.M.Keeps.marked c.args.marks.now in
     let end = c.loop-place-test.false in
     let all = c.capacity-place-end.ensures.slots in
     elim (cases_lt p c.loop-place.place) [

@@ -1,4 +1,4 @@
-use Rattle.std.proofs.Common.{◌≡◌, ◌⊎◌, ℕ, ◌+◌, ◌≤◌, true, Some, length, Contains}
+use Rattle.std.proofs.Common.{◌≡◌, ◌⊎◌, ℕ, ◌+◌, true, Some, length, Contains}
 use Rattle.slab.specs.Slab.{get, slab_len}
 use Rattle.intern_buckets.specs.Filling.{homes_of, homes_for, full_of}
 use Rattle.intern_buckets.specs.Leading.{leads}

@@ -1,7 +1,7 @@
 use Rattle.std.proofs.Common.{sym, subst}
-use Rattle.intern_trace.specs.Collector.{has}
-use Rattle.intern_trace.specs.Reach.{IsClosed}
-use Rattle.intern_trace.proofs.Reaching.{closed_again}
+use Rattle.intern_marks.specs.Names.{has}
+use Rattle.intern_marks.specs.Reach.{IsClosed}
+use Rattle.intern_marks.proofs.Reaching.{closed_again}
 use Rattle.ra_ap_intern.proofs.laws.a_closed_family_stays_closed.Goals as goal
 
 pub returns : goal.returns

@@ -1,6 +1,6 @@
 use Rattle.std.proofs.Common.{◌∙◌, ap}
-use Rattle.intern_trace.specs.Collector.{has}
-use Rattle.intern_trace.specs.Reach.{entry_of}
+use Rattle.intern_marks.specs.Names.{has}
+use Rattle.intern_marks.specs.Reach.{entry_of}
 use Rattle.ra_ap_intern.proofs.Collections.{entry_kept}
 use Rattle.ra_ap_intern.proofs.laws.a_collection_leaves_what_it_keeps.Goals as goal
 

@@ -1,5 +1,5 @@
 use Rattle.std.proofs.Common.{sym, ◌∙◌, ap}
-use Rattle.intern_trace.specs.Reach.{is_entry}
+use Rattle.intern_marks.specs.Reach.{is_entry}
 use Rattle.ra_ap_intern.proofs.Collections.{kept_in}
 use Rattle.ra_ap_intern.proofs.laws.a_cut_family_is_cut_no_more.Goals as goal
 

@@ -1,4 +1,4 @@
-use Rattle.intern_trace.specs.Collector.{has}
+use Rattle.intern_marks.specs.Names.{has}
 use Rattle.ra_ap_intern.proofs.Collections.{reaches_all, none_removed}
 use Rattle.ra_ap_intern.proofs.laws.a_second_collection_removes_nothing.Goals as goal
 

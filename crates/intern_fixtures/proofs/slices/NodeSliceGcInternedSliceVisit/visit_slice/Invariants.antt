@@ -1,11 +1,10 @@
 use Rattle.std.proofs.Common.{◌≡◌, map, drop}
-use Rattle.ra_ap_intern.specs.Collector.{marks}
-use Rattle.ra_ap_intern.specs.Traced.{state}
+use Rattle.ra_ap_intern.specs.Marks.{marks}
 use Rattle.ra_ap_intern.specs.Handle.{ref_name}
 use Rattle.intern_fixtures.proofs.slices.NodeSliceGcInternedSliceVisit.visit_slice.Given as goal
 
--- the marks that are left make of the state what all of them make of the first
+-- the marks that are left make of the collector what all of them make of the first
 abbrev pub invariant-loop-child : goal.invariant-loop-child
 invariant-loop-child l =
-    marks (state l.gc) (map ref_name (drop l.child-index l.slice))
-    ≡ marks (state l.fn.gc) (map ref_name l.slice)
+    marks l.gc (map ref_name (drop l.child-index l.slice))
+    ≡ marks l.fn.gc (map ref_name l.slice)

@@ -1,14 +1,13 @@
 use Rattle.std.proofs.Common.{is_some, refl, ap, sym, ◌∙◌}
 use native.Mathlib.Bridge.{le_prop}
 use Rattle.std.specs.Option.{option_map}
-use Rattle.std.specs.FinMap as map
 use Rattle.std.proofs.lemmas.Option.{same_Some}
 use Rattle.slab.proofs.SlabLemmas.{Updates-with_value}
 use Rattle.intern_index.specs.IndexEntry.{IndexEntry, with_payload}
 use Rattle.intern_index.specs.Entries.{seen}
 use Rattle.intern_index.specs.declared.entry.Entry.{Entry}
 use Rattle.intern_index.proofs.Held.{entry_there, at_seen, seen_at}
-use Rattle.intern_index.proofs.Changes.{repaid_tied, written_seen}
+use Rattle.intern_index.proofs.Changes.{repaid_tied, repaid_seen}
 use Rattle.intern_index.proofs.index.Index.change.Goals as goal
 
 pub same-self : goal.same-self
@@ -39,15 +38,10 @@ returns-clause-payload g c =
 
 pub returns-clause-state : goal.returns-clause-state
 returns-clause-state g c =
-    let s = c.self.inside.slots in
     let there = c.index_mut-entry.ensures.value in
-    let birth = c.args.spot.birth in
+    let entry = c.index_mut-entry.result.now in
     let at = at_seen c.self.inside.slots _ c.self.view_is c.args.spot.birth c.in_ok-place.place c.in_ok-place.field-0-1.now c.in_ok-place.ensures in
-    let here = same_Some _ _ (sym (ap (option_map (λ (e : Entry g.row.T.Denot g.row.N.Denot). e.birth)) there) ∙ at) in
-    let entry = ap (option_map (seen c.in_ok-place.place)) (sym there) ∙ seen_at s _ c.self.view_is c.self.invariant.apart c.in_ok-place.place birth at in
-    written_seen s _ _ _ c.self.invariant _ c.self.view_is c.in_ok-place.place birth _ here
-    (λ p had. c.self.invariant.apart p c.in_ok-place.place birth had at)
-    (λ d had. ap (λ (e : Entry g.row.T.Denot g.row.N.Denot). e.birth) (same_Some _ _ (sym had ∙ there)) ∙ here)
-    (Updates-with_value s c.in_ok-place.place _ (ap is_some there))
-    ∙ ap (λ p. map.insert c.args.self.now birth (record { place = c.in_ok-place.place; hash = c.index_mut-entry.result.now.hash; value = c.index_mut-entry.result.now.value; payload = p })) c.changed-entry.ensures
-    ∙ ap (with_payload (g.C.Change.changed c.args.change.now) c.args.self.now birth) entry
+    let birth = same_Some _ _ (sym (ap (option_map (λ (e : Entry g.row.T.Denot g.row.N.Denot). e.birth)) there) ∙ at) in
+    repaid_seen c.self.inside.slots _ _ _ c.self.invariant _ c.self.view_is c.in_ok-place.place c.args.spot.birth (g.C.Change.changed c.args.change.now) entry _ there birth
+    (ap (λ p. record entry { payload = p }) c.changed-entry.ensures)
+    (Updates-with_value c.self.inside.slots c.in_ok-place.place _ (ap is_some there))

@@ -8,9 +8,9 @@ pub invariant_of-self : goal.invariant_of-self
 invariant_of-self g c =
     let s = c.self.inside.slots in
     let new = c.keep_marked.new.slots in
-    let was = was_there (g.M.Marks.marked c.args.marks.now) s new c.keep_marked.ensures in
+    let was = was_there (g.M.Keeps.marked c.args.marks.now) s new c.keep_marked.ensures in
     less_tied s new _ _ c.self.invariant _ was
     (c.forget.ensures (birth_at s) c.self.invariant.found (λ p b is. let w = entry_there new p b is in birth_there s p b w.0 (was p w.0 w.1) w.2))
 
 pub returns : goal.returns
-returns g c = swept_seen (g.M.Marks.marked c.args.marks.now) c.self.inside.slots c.keep_marked.new.slots c.keep_marked.ensures _ c.self.view_is c.self.invariant.apart
+returns g c = swept_seen (g.M.Keeps.marked c.args.marks.now) c.self.inside.slots c.keep_marked.new.slots c.keep_marked.ensures _ c.self.view_is c.self.invariant.apart

@@ -10,6 +10,6 @@ was_there false o some = absurd (cc)
 pub invariant_of-self : goal.invariant_of-self
 invariant_of-self g c = record {
   below = λ b some.
-      c.args.self.now.below b (was_there (g.M.Marks.marked c.args.marks.now b) _
+      c.args.self.now.below b (was_there (g.M.Keeps.marked c.args.marks.now b) _
       (sym (ap (λ m. is_some (map_get m b)) c.keep.ensures ∙ ap is_some (get-retained c.args.self.now.index _ b)) ∙ some));
 }

@@ -1,5 +1,6 @@
 use Rattle.std.proofs.Common.{Some, ap, ◌∙◌}
 use Rattle.std.specs.Option.{option_map}
+use Rattle.intern_store.specs.declared.names.Spot.{Spot}
 use Rattle.intern_store.specs.State.{entry_at, freed, released, taken}
 use Rattle.intern_store.proofs.States.{last_freed, last_released}
 use Rattle.intern_store.proofs.store.Store.release.Goals as goal
@@ -10,7 +11,7 @@ returns-then-not-stays-clause-value g c =
     c.take.ensures.value
     ∙ ap (λ t. option_map (λ k. k.value) (entry_at t b)) c.in_ok-count.ensures.state
     ∙ last_freed c.args.stays c.args.self.now b c.if-not-stays.true (c.in_ok-count.ensures.ok.1 ∙ ap Some c.if-count-eq1.true)
-    ∙ ap (freed c.args.stays c.args.self.now) c.in_ok-spot.ensures.own.1
+    ∙ ap (λ (s : Spot). freed c.args.stays c.args.self.now s.birth) c.in_ok-spot.ensures.own.1
 
 pub returns-then-not-stays-clause-state : goal.returns-then-not-stays-clause-state
 returns-then-not-stays-clause-state g c =
@@ -18,4 +19,4 @@ returns-then-not-stays-clause-state g c =
     c.take.ensures.state
     ∙ ap (λ t. taken t b) c.in_ok-count.ensures.state
     ∙ last_released c.args.stays c.args.self.now b c.if-not-stays.true (c.in_ok-count.ensures.ok.1 ∙ ap Some c.if-count-eq1.true)
-    ∙ ap (released c.args.stays c.args.self.now) c.in_ok-spot.ensures.own.1
+    ∙ ap (λ (s : Spot). released c.args.stays c.args.self.now s.birth) c.in_ok-spot.ensures.own.1

@@ -14,7 +14,7 @@ returns-clause-found g c =
     rw c.ok_or.ensures.value (finds (sliced_entry c.self.inside.items.items) (λ v. hash_of (input v)) _ eq v
     (λ r. ap (λ xs. eq v (record { header = r.value; items = take r.payload.length (drop r.payload.start xs) })) c.as_slice.ensures.value)
     (λ w e. ap (hash_of) (sliced_input-same g.H.Hash.hash_input g.S.Hash.hash_input g.H.PartialEq.eq g.S.PartialEq.eq g.met.H.Hash.respects_eq g.met.S.Hash.respects_eq v w e))
-    _ _ c.self.invariant.hashed c.self.view_is c.find.result c.hash_value-hash.result c.find.ensures.found)
+    _ _ c.self.invariant.hashed c.self.view_is (λ s. s.birth) c.find.result c.hash_value-hash.result c.find.ensures.found)
 
 pub returns-clause-none : goal.returns-clause-none
 returns-clause-none g c =

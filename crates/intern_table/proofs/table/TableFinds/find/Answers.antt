@@ -8,7 +8,7 @@ pub returns-clause-found : goal.returns-clause-found
 returns-clause-found g c =
     let v = g.O.Offer.value c.args.offer.now in
     rw c.ok_or.ensures.value (finds kept_entry (λ v. hash_of (g.T.Hash.hash_input v)) (λ w n. g.T.PartialEq.eq v w) g.T.PartialEq.eq v (λ r. refl)
-    (λ w e. ap hash_of (g.met.T.Hash.respects_eq v w e)) _ _ c.self.invariant c.self.view_is c.find.result c.hashed-hash.result c.find.ensures.found)
+    (λ w e. ap hash_of (g.met.T.Hash.respects_eq v w e)) _ _ c.self.invariant c.self.view_is (λ s. s.birth) c.find.result c.hashed-hash.result c.find.ensures.found)
 
 pub returns-clause-none : goal.returns-clause-none
 returns-clause-none g c =

@@ -7,8 +7,8 @@ use Rattle.intern_store.proofs.Maps.{map_values-retain}
 use Rattle.intern_table.proofs.table.TableSweeps.keep.Goals as goal
 
 pub invariant_of-self : goal.invariant_of-self
-invariant_of-self g c = retained_hashed kept_entry (λ v. hash_of (g.T.Hash.hash_input v)) _ _ (g.M.Marks.marked c.args.marks.now) c.self.invariant c.keep.ensures
+invariant_of-self g c = retained_hashed kept_entry (λ v. hash_of (g.T.Hash.hash_input v)) _ _ (g.M.Keeps.marked c.args.marks.now) c.self.invariant c.keep.ensures
 
 pub returns : goal.returns
 returns g c =
-    map_values-retain kept_entry _ _ (g.M.Marks.marked c.args.marks.now) c.keep.ensures ∙ ap (λ m. retain_keys m (g.M.Marks.marked c.args.marks.now)) c.self.view_is
+    map_values-retain kept_entry _ _ (g.M.Keeps.marked c.args.marks.now) c.keep.ensures ∙ ap (λ m. retain_keys m (g.M.Keeps.marked c.args.marks.now)) c.self.view_is

@@ -1,5 +1,5 @@
 use Rattle.std.proofs.Common.{refl, ap, ◌∙◌}
-use Rattle.ra_ap_intern.specs.Collector.{has}
+use Rattle.ra_ap_intern.specs.Names.{has}
 use Rattle.intern_terms.specs.Handle.{term_name}
 use Rattle.intern_terms.proofs.Walks.{found_by}
 use Rattle.intern_terms.proofs.found.Found.contains.Goals as goal

@@ -1,5 +1,5 @@
 use Rattle.std.proofs.Common.{◌≡◌, inl, inr, ◌<◌, true, List, ◌∷◌, [], ◌++◌, refl, sym, ap, subst, ◌∙◌}
-use Rattle.ra_ap_intern.specs.Collector.{has}
+use Rattle.ra_ap_intern.specs.Names.{has}
 use Rattle.ra_ap_intern.specs.Name.{Name}
 use Rattle.intern_terms.specs.Handle.{term_name}
 use Rattle.intern_terms.specs.Walk.{IsWalk, with_name}

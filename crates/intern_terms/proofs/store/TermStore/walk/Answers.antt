@@ -8,7 +8,7 @@ use Rattle.ra_ap_intern.specs.Name.{Name}
 use Rattle.ra_ap_intern.specs.Reach.{IsReachedSet}
 use Rattle.intern_terms.specs.Store.{terms_of}
 use Rattle.intern_terms.specs.Walk.{begins_at}
-use Rattle.ra_ap_intern.specs.Collector.{has}
+use Rattle.ra_ap_intern.specs.Names.{has}
 use Rattle.ra_ap_intern.specs.State.{reads}
 use Rattle.intern_terms.specs.Handle.{term_name}
 use Rattle.intern_terms.specs.declared.handle.TermRef.{TermRef}

@@ -1,6 +1,6 @@
 use Rattle.std.proofs.Common.{◌≡◌, ℕ, ◌<◌, map, true, Some, IsSome}
 use Rattle.std.specs.List.{slice_get}
-use Rattle.ra_ap_intern.specs.Collector.{has}
+use Rattle.ra_ap_intern.specs.Names.{has}
 use Rattle.ra_ap_intern.specs.State.{reads}
 use Rattle.intern_terms.specs.Handle.{term_name}
 use Rattle.intern_terms.specs.Walk.{IsWalk}

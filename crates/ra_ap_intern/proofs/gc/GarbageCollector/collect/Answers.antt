@@ -1,7 +1,7 @@
 use Rattle.std.proofs.Common.{◌≡◌, Bool, List, [], IfOk, subst}
 use Rattle.intern_store.specs.declared.names.Name.{Name}
-use Rattle.intern_trace.specs.Collector.{has}
-use Rattle.intern_trace.proofs.Traces.{starts_with_none}
+use Rattle.intern_marks.specs.Names.{has}
+use Rattle.intern_marks.proofs.Traces.{starts_with_none}
 use Rattle.ra_ap_intern.specs.Families.{IsCollection}
 use Rattle.ra_ap_intern.proofs.gc.GarbageCollector.collect.Goals as goal
 

@@ -1,8 +1,13 @@
-use Rattle.std.proofs.Common.{◌≡◌, ◌+◌, ◌≤◌, length, List, sym, ◌∙◌, ap, arith}
-use Rattle.intern_trace.specs.Collector.{Collector, has}
-use Rattle.intern_trace.specs.Reach.{Entry, starts_with}
-use Rattle.intern_trace.specs.Traced.{state}
-use Rattle.ra_ap_intern.proofs.Following.{roots_begin, roots_size, all_visited, none_left_out, removed_are, is_collection}
+use Rattle.std.proofs.Common.{◌≡◌, ◌+◌, ◌≤◌, true, length, List, sym, ◌∙◌, ap, subst, arith}
+use Rattle.std.specs.FinMap.{len}
+use Rattle.intern_marks.specs.Marks.{Marks, root}
+use Rattle.intern_marks.specs.Names.{has}
+use Rattle.intern_marks.specs.Reach.{Entry, starts_with}
+use Rattle.intern_marks.specs.Trace.{IsTrace}
+use Rattle.intern_marks.proofs.Steps.{root_places, each-registered}
+use Rattle.intern_marks.proofs.Traces.{trace_begins}
+use Rattle.ra_ap_intern.proofs.Following.{none_left_out, removed_are, is_collection}
+use Rattle.ra_ap_intern.proofs.Registering.{learnt_size}
 use Rattle.ra_ap_intern.proofs.gc.GarbageCollector.collect_keeping.Goals as goal
 use Rattle.ra_ap_intern.proofs.gc.GarbageCollector.collect_keeping.Goals.{then-visits-entries, else-visits-entries}
 
@@ -12,24 +17,25 @@ returns-clause-ok g c =
     let new = c.if-visits-entries.family in
     let all = g.F.Family.entries old in
     let listed = c.args.roots.now in
-    let last = state c.follow.new.self in
-    let size = c.len-entries.ensures ∙ ap (λ (s : Collector). s.size) (ap state c.self-2.view_is) ∙ c.follow.ensures.size
-    ∙ roots_size all listed (state c.learn.new.self) (state c.root.new.self) c.in_ok-learn.ensures.ok c.root.ensures in
-    let t = c.follow.ensures.trace listed
-    (roots_begin all listed (state c.learn.new.self) (state c.root.new.self) c.in_ok-learn.ensures.ok c.root.ensures) in
-    let visited = all_visited (starts_with listed all) all t.0 last t.1 c.follow.ensures.done in
-    let swept : new ≡ g.F.Family.kept old (has t.0) =
+    let last = c.follow.new.self in
+    let learnt = c.in_ok-learn.ensures.ok in
+    let size = c.len-entries.ensures.size ∙ ap (λ (m : Marks). len m.registered) c.self-2.view_is ∙ ap len c.follow.ensures.registered
+    ∙ ap (λ (m : Marks). len m.registered) c.root.ensures ∙ ap len (each-registered true root root_places c.learn.new.self listed)
+    ∙ learnt_size true all c.learn.new.self learnt in
+    let t = c.follow.ensures.trace listed (subst (IsTrace (starts_with listed all) all) (sym c.root.ensures) (trace_begins all listed c.learn.new.self learnt)) in
+    let done = c.follow.ensures.done in
+    let swept : new ≡ g.F.Family.kept old (has last.marked) =
     elim c.if-visits-entries.branch [
-      | then-visits-entries w ↦ w.family-is ∙ w.sweep.ensures ∙ ap (g.F.Family.kept old) visited
+      | then-visits-entries w ↦ w.family-is ∙ w.sweep.ensures
       | else-visits-entries w ↦
           let many : length all ≤ last.visits = omega (arith, size, c.visits.ensures, w.if-visits-entries.false) in
-          w.family-is ∙ sym (g.met.F.Family.kept_whole old (has t.0) (none_left_out all listed t.0 last t.1 c.follow.ensures.done many))
+          w.family-is ∙ sym (g.met.F.Family.kept_whole old (has last.marked) (none_left_out all listed last t done many))
     ] in
-    let left = ap g.F.Family.entries swept ∙ g.met.F.Family.kept_entries old (has t.0) in
-    let removed = removed_are all (g.F.Family.entries new) (has t.0) c.len-entries.result c.len.result c.saturating_sub.result
+    let left = ap g.F.Family.entries swept ∙ g.met.F.Family.kept_entries old (has last.marked) in
+    let removed = removed_are all (g.F.Family.entries new) (has last.marked) c.len-entries.result c.len.result c.saturating_sub.result
     left c.len-entries.type_inv size c.len.ensures c.saturating_sub.ensures in (
-      t.0,
-      is_collection all listed t.0 last _ t.1 c.follow.ensures.done c.visits-2.ensures c.mark_calls.ensures
+      last.marked,
+      is_collection all listed last t done _ c.visits-2.ensures c.mark_calls.ensures
           (ap (λ (es : List Entry). c.saturating_sub.result + length es) (sym left) ∙ removed),
       swept,
     )

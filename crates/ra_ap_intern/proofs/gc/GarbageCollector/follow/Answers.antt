@@ -1,47 +1,50 @@
-use Rattle.std.proofs.Common.{◌≡◌, ◌+◌, sym, ◌∙◌, ap, subst, arith}
-use Rattle.intern_trace.specs.Collector.{Collector, is_free, mark, marks, begun}
-use Rattle.intern_trace.specs.Reach.{children_in, starts_with}
-use Rattle.intern_trace.specs.Trace.{Traces}
-use Rattle.intern_trace.specs.Traced.{state}
-use Rattle.intern_trace.proofs.Steps.{mark_places, each-size, each-visits}
-use Rattle.ra_ap_intern.proofs.Following.{goes_on}
+use Rattle.std.proofs.Common.{◌≡◌, ◌+◌, ◌<◌, false, List, sym, ap, ◌∙◌, subst, arith}
+use Rattle.std.specs.FinMap.{len}
+use Rattle.std.specs.List.{slice_get}
+use Rattle.intern_marks.specs.Marks.{Marks, begun, mark, marks}
+use Rattle.intern_marks.specs.Reach.{children_in, starts_with}
+use Rattle.intern_marks.specs.Trace.{IsTrace}
+use Rattle.intern_marks.proofs.Steps.{mark_places, each-registered, each-visits}
+use Rattle.intern_marks.proofs.Traces.{visit_keeps, counted_begin}
+use Rattle.intern_store.specs.Named.{key_name}
+use Rattle.intern_store.specs.declared.names.Name.{Name}
 use Rattle.ra_ap_intern.proofs.gc.GarbageCollector.follow.Goals as goal
+use Rattle.ra_ap_intern.proofs.gc.GarbageCollector.follow.Goals.{After-visit-is_there}
+use Rattle.ra_ap_intern.proofs.gc.GarbageCollector.follow.Given.{Over}
+
+-- a turn is a visit
+module _ (g : Over) (c : After-visit-is_there g) where
+  abbrev kids : List Name
+  kids = children_in (g.F.Family.entries c.args.family.now) (key_name c.in-Some.key)
+
+  gone : c.visit-is_there.new.gc ≡ marks (begun c.loop-key.self) kids
+  gone = c.visit-is_there.ensures.marks ∙ ap (λ m. marks m kids) (c.in-Some.ensures.some ∙ ap begun c.self.view_is)
+
+  kept : c.visit-is_there.new.gc.registered ≡ c.loop-key.self.registered
+  kept = ap (λ (m : Marks). m.registered) gone ∙ each-registered false mark mark_places (begun c.loop-key.self) kids
+
+  visits : c.visit-is_there.new.gc.visits ≡ c.loop-key.self.visits + 1
+  visits = ap (λ (m : Marks). m.visits) gone ∙ each-visits false mark mark_places (begun c.loop-key.self) kids
 
 pub loop-key-smaller : goal.loop-key-smaller
 loop-key-smaller g c =
-    let old = state c.loop-key.self in
-    let moved = state c.next.new.self in
-    let new = state c.visit-is_there.new.gc in
-    let kids = children_in (g.F.Family.entries c.args.family.now) c.in-Some.key.name in
-    let left : moved ≡ begun old c.in-Some.key.name = c.in-Some.ensures.begun ∙ ap (λ (s : Collector). begun s c.in-Some.key.name) (ap state c.self.view_is) in
-    let visited : new ≡ marks moved kids = c.visit-is_there.ensures.state in
-    let size : new.size ≡ old.size = ap (λ (s : Collector). s.size) visited ∙ each-size is_free mark mark_places moved kids ∙ ap (λ (s : Collector). s.size) left in
-    let same : moved.size ≡ old.size = ap (λ (s : Collector). s.size) left in
-    let visits : new.visits ≡ old.visits + 1 =
-    ap (λ (s : Collector). s.visits) visited ∙ each-visits is_free mark mark_places moved kids ∙ ap (λ (s : Collector). s.visits) left in
-    let more : moved.visits ≡ old.visits + 1 = ap (λ (s : Collector). s.visits) left in
-    let within = c.in-Some.ensures.within in
+    let within = subst (λ (m : Marks). m.visits < len m.registered) c.self.view_is c.in-Some.ensures.within in
+    let same = ap len (kept g c) in
+    let more = visits g c in
     omega arith
 
 pub loop-key-preserved : goal.loop-key-preserved
 loop-key-preserved g c =
-    let old = state c.loop-key.self in
-    let moved = state c.next.new.self in
     let all = g.F.Family.entries c.args.family.now in
-    let name = c.in-Some.key.name in
-    let view = ap state c.self.view_is in
-    let left : moved ≡ begun old name = c.in-Some.ensures.begun ∙ ap (λ (s : Collector). begun s name) view in
     record {
-      trace = λ listed t. goes_on all listed old name moved (state c.visit-is_there.new.gc) left c.visit-is_there.ensures.state
-          (ap (λ (s : Collector). s.pending name) (sym view) ∙ c.in-Some.ensures.waited) (c.loop-key.invariant.trace listed t);
-      size = ap (λ (s : Collector). s.size) c.visit-is_there.ensures.state
-          ∙ each-size is_free mark mark_places moved (children_in all name) ∙ ap (λ (s : Collector). s.size) left ∙ c.loop-key.invariant.size;
+      trace = λ listed t.
+          subst (IsTrace (starts_with listed all) all) (sym (gone g c))
+          (visit_keeps (starts_with listed all) all c.loop-key.self (c.loop-key.invariant.trace listed t) (counted_begin all listed) (key_name c.in-Some.key)
+          (sym (c.in-Some.ensures.name ∙ ap (λ (m : Marks). slice_get m.marked m.visits) c.self.view_is)));
+      registered = kept g c ∙ c.loop-key.invariant.registered;
     }
 
 pub returns-clause-trace : goal.returns-clause-trace
 returns-clause-trace g c = λ listed t.
     let all = g.F.Family.entries c.args.family.now in
-    subst (λ s. Traces (starts_with listed all) all s) (sym (c.in_default.ensures.same ∙ ap state c.self.view_is)) (c.loop-key.invariant.trace listed t)
-
-pub returns-clause-done : goal.returns-clause-done
-returns-clause-done g c = λ x. ap (λ (s : Collector). s.pending x) c.in_default.ensures.same ∙ c.in_default.ensures.none x
+    subst (IsTrace (starts_with listed all) all) (sym (c.in_default.ensures.none ∙ c.self.view_is)) (c.loop-key.invariant.trace listed t)

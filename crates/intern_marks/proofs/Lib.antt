@@ -1,0 +1,10 @@
+pub mod Counting
+pub mod Kept
+pub mod Names
+pub mod Parted
+pub mod Reaching
+pub mod Slotted
+pub mod Sound
+pub mod Steps
+pub mod Tied
+pub mod Traces

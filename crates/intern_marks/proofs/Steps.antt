@@ -1,0 +1,131 @@
+-- What a mark call and the placing of a root do.
+use Rattle.std.proofs.Common.{ℕ, ◌≡◌, ◌+◌, ◌-◌, ◌^◌, ◌≤◌, min, take, length, Bool, true, false, not, cond, ◌&&◌, ◌||◌, List, [], ◌∷◌, ◌++◌, refl, sym, ◌∙◌, ap, inl, inr, arith, length-append}
+use Rattle.std.specs.List.{IsDistinct, fold}
+use Rattle.std.specs.FinMap.{FinMap, get}
+use Rattle.std.proofs.Math.Bool.{or-false}
+use Rattle.std.proofs.lemmas.Bool.{cases_Bool}
+use Rattle.std.proofs.lemmas.List.{take-append-le}
+use Rattle.std.proofs.lemmas.Map.Keys.{IsDistinct-push}
+use Rattle.intern_store.specs.declared.names.Name.{Name}
+use Rattle.intern_store.specs.Named.{same_name}
+use Rattle.intern_marks.specs.Names.{has, name_cmp}
+use Rattle.intern_marks.specs.Marks.{Marks, may_be, placed, tick, mark, marks, root, roots}
+use Rattle.intern_store.proofs.Named.{names_same}
+use Rattle.intern_marks.proofs.Names.{same_name_is_equivalence, has_append}
+
+-- the list with a name, where it may be marked and isn't
+abbrev pub listed : Bool → List Name → Name → List Name
+listed may names n = cond (may && not (has names n)) (names ++ n ∷ []) names
+
+and-true : (b : Bool) → (b || false) ≡ (b && true)
+and-true true = refl
+and-true false = refl
+
+and-false : (a b : Bool) → a ≡ (a || (b && false))
+and-false true b = refl
+and-false false true = refl
+and-false false false = refl
+
+-- the list with a name behind it, or not
+pub grown_has : (b : Bool) (names : List Name) (n x : Name) → has (cond b (names ++ n ∷ []) names) x ≡ (has names x || (same_name x n && b))
+grown_has true names n x = has_append names (n ∷ []) x ∙ ap (λ b. has names x || b) (and-true (same_name x n))
+grown_has false names n x = and-false (has names x) (same_name x n)
+
+already : (a s : Bool) → (s ≡ true → a ≡ true) → a ≡ (a || (s && true))
+already true s is = refl
+already false true is = is refl
+already false false is = refl
+
+pub listed_has : (may : Bool) (names : List Name) (n x : Name) → has (listed may names n) x ≡ (has names x || (same_name x n && may))
+listed_has false names n x = and-false (has names x) (same_name x n)
+listed_has true names n x = elim (cases_Bool (has names n)) [
+  | inl old ↦ ap (λ b. has (cond (not b) (names ++ n ∷ []) names) x) old
+      ∙ already (has names x) (same_name x n) (λ same. ap (has names) (names_same x n same) ∙ old)
+  | inr new ↦ ap (λ b. has (cond (not b) (names ++ n ∷ []) names) x) new ∙ grown_has true names n x
+]
+
+pub listed_once : (may : Bool) (names : List Name) (n : Name) → IsDistinct same_name names → IsDistinct same_name (listed may names n)
+listed_once false names n once = once
+listed_once true names n once = go (has names n) refl
+  where
+    go : (b : Bool) → has names n ≡ b → IsDistinct same_name (cond (not b) (names ++ n ∷ []) names)
+    go true old = once
+    go false new = IsDistinct-push same_name_is_equivalence names n once new
+
+-- what was listed stays in front
+pub listed_front : (b : Bool) (names : List Name) (n : Name) (k : ℕ) → k ≤ length names
+    → (k ≤ length (cond b (names ++ n ∷ []) names)) × (take k (cond b (names ++ n ∷ []) names) ≡ take k names)
+listed_front true names n k within = (omega (arith, length-append names (n ∷ [])), take-append-le k names (n ∷ []) within)
+listed_front false names n k within = (within, refl)
+
+-- a step that lists a name where it may be marked
+pub record IsPlacing (b : Bool) (step : Marks → Name → Marks) : Type 0 where
+  pub registered : (m : Marks) (n : Name) → (step m n).registered ≡ m.registered
+  pub visits : (m : Marks) (n : Name) → (step m n).visits ≡ m.visits
+  pub marked : (m : Marks) (n : Name) → (step m n).marked ≡ listed (may_be b (get m.registered n)) m.marked n
+
+pub mark_places : IsPlacing false mark
+unfolding placed
+mark_places = record { registered = λ m n. refl; visits = λ m n. refl; marked = λ m n. refl }
+
+pub root_places : IsPlacing true root
+unfolding placed
+root_places = record { registered = λ m n. refl; visits = λ m n. refl; marked = λ m n. refl }
+
+-- one name more in the list that is asked
+more : (a b c s k l : Bool) → c ≡ (a || (s && k)) → (s ≡ true → k ≡ l) → (c || (b && l)) ≡ (a || ((s || b) && l))
+more true b c s k l is same = ap (λ c. c || (b && l)) is
+more false b c false k l is same = ap (λ c. c || (b && l)) is
+more false b c true true true is same = ap (λ c. c || (b && true)) is
+more false b c true false false is same = ap (λ c. c || (b && false)) is ∙ sym (and-false false b)
+more false b c true true false is same = let no = same refl in cc
+more false b c true false true is same = let no = same refl in cc
+
+module _ (b : Bool) (step : Marks → Name → Marks) (places : IsPlacing b step) where
+  pub each-registered : (m : Marks) (ns : List Name) → (fold step m ns).registered ≡ m.registered
+  each-registered m [] = refl
+  each-registered m (n ∷ ns) = each-registered (step m n) ns ∙ places.registered m n
+
+  pub each-visits : (m : Marks) (ns : List Name) → (fold step m ns).visits ≡ m.visits
+  each-visits m [] = refl
+  each-visits m (n ∷ ns) = each-visits (step m n) ns ∙ places.visits m n
+
+  -- what is marked was marked, or is among these names and may be
+  pub each-has : (m : Marks) (ns : List Name) (x : Name) → has (fold step m ns).marked x ≡ (has m.marked x || (has ns x && may_be b (get m.registered x)))
+  each-has m [] x = sym (or-false (has m.marked x))
+  each-has m (n ∷ ns) x =
+      each-has (step m n) ns x
+      ∙ ap (λ (r : FinMap name_cmp Bool). has (step m n).marked x || (has ns x && may_be b (get r x))) (places.registered m n)
+      ∙ more (has m.marked x) (has ns x) (has (step m n).marked x) (same_name x n) (may_be b (get m.registered n)) (may_be b (get m.registered x))
+      (ap (λ l. has l x) (places.marked m n) ∙ listed_has (may_be b (get m.registered n)) m.marked n x)
+      (λ same. ap (λ y. may_be b (get m.registered y)) (sym (names_same x n same)))
+
+  pub each-once : (m : Marks) (ns : List Name) → IsDistinct same_name m.marked → IsDistinct same_name (fold step m ns).marked
+  each-once m [] once = once
+  each-once m (n ∷ ns) once = each-once (step m n) ns (rw (places.marked m n) (listed_once (may_be b (get m.registered n)) m.marked n once))
+
+  pub each-front : (m : Marks) (ns : List Name) (k : ℕ) → k ≤ length m.marked → (k ≤ length (fold step m ns).marked) × (take k (fold step m ns).marked ≡ take k m.marked)
+  each-front m [] k within = (within, refl)
+  each-front m (n ∷ ns) k within =
+      let front = listed_front (may_be b (get m.registered n) && not (has m.marked n)) m.marked n k within in
+      let rest = each-front (step m n) ns k (rw (places.marked m n) front.0) in
+      (rest.0, rest.1 ∙ ap (take k) (places.marked m n) ∙ front.1)
+
+mark-calls : (m : Marks) (n : Name) → (mark m n).calls ≡ tick m.calls
+mark-calls m n = refl
+
+ticked : (a b top : ℕ) → a ≤ top → min (min (a + 1) top + b) top ≡ min (a + (b + 1)) top
+ticked a b top h = omega arith
+
+-- the tally rises by one a call, up to the greatest u64
+pub marks-calls : (m : Marks) (ns : List Name) → m.calls ≤ 2 ^ 64 - 1 → (marks m ns).calls ≡ min (m.calls + length ns) (2 ^ 64 - 1)
+marks-calls m [] h = omega arith
+marks-calls m (n ∷ ns) h =
+    let fits : (mark m n).calls ≤ 2 ^ 64 - 1 = omega arith in
+    marks-calls (mark m n) ns fits ∙ ticked m.calls (length ns) (2 ^ 64 - 1) h ∙ omega arith
+
+-- roots are no mark calls
+pub roots-calls : (m : Marks) (ns : List Name) → (roots m ns).calls ≡ m.calls
+unfolding placed
+roots-calls m [] = refl
+roots-calls m (n ∷ ns) = roots-calls (root m n) ns

@@ -1,0 +1,124 @@
+use Rattle.std.proofs.Common.{◌≡◌, ℕ, ◌+◌, ◌≤◌, Bool, true, false, cond, List, [], ◌∷◌, ◌++◌, None, vec_capacity, refl, sym, ap, ◌∙◌, subst, arith}
+use Rattle.std.specs.FinMap.{FinMap, get, insert}
+use Rattle.intern_store.specs.Named.{key_name}
+use Rattle.intern_store.specs.declared.names.Name.{Name}
+use Rattle.intern_marks.specs.Names.{name_cmp}
+use Rattle.intern_marks.specs.Marks.{Marks, added}
+use Rattle.intern_marks.specs.Slotted.{names_in, names_at}
+use Rattle.intern_marks.specs.Tied.{IsKept}
+use Rattle.intern_marks.proofs.Tied.{seen, same_names_in, names_added}
+use Rattle.intern_marks.proofs.Kept.{fewer_slots, same_kept, same_marked, added_kept, added_marked}
+use Rattle.intern_marks.proofs.marks.Marks.add.Goals as goal
+use Rattle.intern_marks.proofs.marks.Marks.add.Goals.{After-make_room, After-put}
+
+pub overflow_sub-self-inside : goal.overflow_sub-self-inside
+overflow_sub-self-inside c =
+    let a = c.self.inside in
+    omega (arith, fewer_slots a.marked c.self.invariant, c.len.ensures)
+
+-- once there is room, the slots have in them what they had
+roomy : (c : After-make_room) → let a = c.self.inside in IsKept c.make_room.new.self a.table a.size a.marked.items a.visits (vec_capacity a.marked)
+roomy c =
+    same_kept c.self.invariant c.make_room.new.self c.make_room.ensures.same c.make_room.ensures.count
+    (c.make_room.ensures.follow c.self.invariant.tied.follow)
+
+pub invariant_of-self : goal.invariant_of-self
+invariant_of-self c = roomy (goal.at.invariant_of-self c).After-make_room
+
+pub invariant_of-self-in_err-reserve : goal.invariant_of-self-in_err-reserve
+invariant_of-self-in_err-reserve c =
+    let a = c.self.inside in
+    subst (λ l. IsKept c.make_room.new.self a.table a.size l a.visits (vec_capacity c.reserve.new.self)) (sym c.in_err-reserve.ensures.items)
+    (subst (λ n. IsKept c.make_room.new.self a.table a.size a.marked.items a.visits n) (sym c.in_err-reserve.ensures.err)
+    (roomy (goal.at.invariant_of-self-in_err-reserve c).After-make_room))
+
+-- the entry is put
+module _ (c : After-put) where
+  abbrev items : List ℕ
+  items = c.self.inside.marked.items
+
+  kept : let a = c.self.inside in IsKept c.make_room.new.self a.table a.size items a.visits (vec_capacity a.marked)
+  kept =
+      same_kept c.self.invariant c.make_room.new.self c.make_room.ensures.same c.make_room.ensures.count
+      (c.make_room.ensures.follow c.self.invariant.tied.follow)
+
+  same_names : names_in c.make_room.new.self ≡ names_in c.self.inside.slots
+  same_names =
+      same_names_in c.self.invariant.tied c.make_room.new.self c.make_room.ensures.same c.make_room.ensures.count
+
+  unknown : get (names_in c.make_room.new.self) (key_name c.args.key) ≡ None
+  unknown = ap (λ (m : FinMap name_cmp Bool). get m (key_name c.args.key)) same_names ∙ ap (λ (m : Marks). get m.registered (key_name c.args.key)) c.self.view_is ∙ c.requires
+
+  -- the slots of what is marked then, where it is known whether the entry is
+  abbrev grown : Bool → List ℕ
+  grown b = cond b (items ++ c.in_ok-slot.slot ∷ []) items
+
+  put_kept : (more : ℕ) → c.self.inside.size + 1 ≤ more
+      → IsKept c.put.new.self (record { buckets = c.self.inside.table.buckets; is_filled = false }) (c.self.inside.size + 1) (grown c.args.flags.is_marked) c.self.inside.visits more
+  put_kept more fits =
+      let e = c.in_ok-slot.ensures in
+      added_kept kept
+      c.in_ok-slot.slot (key_name c.args.key) c.args.flags unknown e.behind c.put.new.self (c.put.ensures.put c.args.key.storage e.last) c.put.ensures.count
+      _ more refl (c.put.ensures.follow c.args.key.storage e.last) e.told fits
+
+  put_names : names_in c.put.new.self ≡ insert (names_in c.self.inside.slots) (key_name c.args.key) c.args.flags.is_counted
+  put_names =
+      let e = c.in_ok-slot.ensures in
+      names_added kept.tied
+      c.in_ok-slot.slot (key_name c.args.key) c.args.flags unknown e.behind c.put.new.self (c.put.ensures.put c.args.key.storage e.last) c.put.ensures.count
+      ∙ ap (λ (m : FinMap name_cmp Bool). insert m (key_name c.args.key) c.args.flags.is_counted) same_names
+
+  put_marked : (b : Bool) → let old = names_at c.self.inside.slots items in names_at c.put.new.self (grown b) ≡ cond b (old ++ key_name c.args.key ∷ []) old
+  put_marked b =
+      let e = c.in_ok-slot.ensures in
+      added_marked kept
+      c.in_ok-slot.slot (key_name c.args.key) c.args.flags unknown e.behind c.put.new.self (c.put.ensures.put c.args.key.storage e.last) c.put.ensures.count b
+      ∙ ap (λ (l : List Name). cond b (l ++ key_name c.args.key ∷ []) l)
+      (same_marked c.self.invariant c.make_room.new.self c.make_room.ensures.same c.make_room.ensures.count)
+
+  fits : c.self.inside.size + 1 ≤ vec_capacity c.reserve.new.self
+  fits = let a = c.self.inside in omega (arith, fewer_slots a.marked c.self.invariant, c.len.ensures, c.in_ok-reserve.ensures.ok, c.in_ok-reserve.ensures.len)
+
+  -- the invariant and the view, with the slots of what is marked then
+  put_invariant : (l : List ℕ) (more : ℕ) → l ≡ grown c.args.flags.is_marked → more ≡ vec_capacity c.reserve.new.self
+      → IsKept c.put.new.self (record { buckets = c.self.inside.table.buckets; is_filled = false }) (c.self.inside.size + 1) l c.self.inside.visits more
+  put_invariant l more is room =
+      subst (λ l. IsKept c.put.new.self (record { buckets = c.self.inside.table.buckets; is_filled = false }) (c.self.inside.size + 1) l c.self.inside.visits more) (sym is)
+      (put_kept more (let fits = fits in omega arith))
+
+  put_view : (l : List ℕ) → l ≡ grown c.args.flags.is_marked
+      → seen (names_in c.put.new.self) (names_at c.put.new.self l) c.self.inside.visits c.self.inside.calls ≡ added c.args.self.now (key_name c.args.key) c.args.flags.is_counted c.args.flags.is_marked
+  put_view l is =
+      (λ j. seen (put_names j) ((ap (names_at c.put.new.self) is ∙ put_marked c.args.flags.is_marked) j) c.self.inside.visits c.self.inside.calls)
+      ∙ ap (λ (m : Marks). added m (key_name c.args.key) c.args.flags.is_counted c.args.flags.is_marked) c.self.view_is
+
+  marks_it : c.args.flags.is_marked ≡ true → (l : List ℕ) → l ≡ c.reserve.new.self.items ++ c.in_ok-slot.slot ∷ [] → l ≡ grown c.args.flags.is_marked
+  marks_it it l is = is ∙ ap (λ (l : List ℕ). l ++ c.in_ok-slot.slot ∷ []) c.in_ok-reserve.ensures.items ∙ sym (ap grown it)
+
+  leaves_it : c.args.flags.is_marked ≡ false → c.reserve.new.self.items ≡ grown c.args.flags.is_marked
+  leaves_it it = c.in_ok-reserve.ensures.items ∙ sym (ap grown it)
+
+pub push_reserved-requires : goal.push_reserved-requires
+push_reserved-requires c =
+    let a = c.self.inside in
+    omega (arith, fewer_slots a.marked c.self.invariant, c.len.ensures, c.in_ok-reserve.ensures.ok, c.in_ok-reserve.ensures.len)
+
+pub invariant_of-self-then-flags : goal.invariant_of-self-then-flags
+invariant_of-self-then-flags c =
+    let put = (goal.at.invariant_of-self-then-flags c).After-put in
+    put_invariant put _ _ (marks_it put c.if-flags.true _ c.push_reserved.ensures.items) c.push_reserved.ensures.capacity
+
+pub invariant_of-self-else-flags : goal.invariant_of-self-else-flags
+invariant_of-self-else-flags c =
+    let put = (goal.at.invariant_of-self-else-flags c).After-put in
+    put_invariant put _ _ (leaves_it put c.if-flags.false) refl
+
+pub returns-then-flags-clause-ok : goal.returns-then-flags-clause-ok
+returns-then-flags-clause-ok c =
+    let put = (goal.at.returns-then-flags-clause-ok c).After-put in
+    put_view put _ (marks_it put c.if-flags.true _ c.push_reserved.ensures.items)
+
+pub returns-else-flags-clause-ok : goal.returns-else-flags-clause-ok
+returns-else-flags-clause-ok c =
+    let put = (goal.at.returns-else-flags-clause-ok c).After-put in
+    put_view put _ (leaves_it put c.if-flags.false)

@@ -1,0 +1,16 @@
+use Rattle.std.proofs.Common.{refl, vec_capacity}
+use Rattle.intern_marks.specs.Slotted.{names_at}
+use Rattle.intern_marks.proofs.Kept.{nothing_kept}
+use Rattle.intern_marks.proofs.Tied.{nothing_names, seen}
+use Rattle.intern_marks.proofs.marks.Marks.with_room.Goals as goal
+
+pub invariant_of-result : goal.invariant_of-result
+invariant_of-result c =
+    let s = c.in_ok-with_room.field-0 in
+    let marked = c.in_ok-with_capacity.field-0 in
+    nothing_kept s _ marked.items (vec_capacity marked) c.in_ok-with_room.ensures.count c.in_ok-with_room.ensures.parts refl c.in_ok-with_capacity.ensures.items
+
+pub returns : goal.returns
+returns c =
+    let s = c.in_ok-with_room.field-0 in
+    λ j. seen (nothing_names s c.in_ok-with_room.ensures.count j) (names_at s (c.in_ok-with_capacity.ensures.items j)) 0 0

@@ -1,0 +1,9 @@
+pub mod Learning
+pub mod Marks
+pub mod Names
+pub mod Parts
+pub mod Reach
+pub mod Slotted
+pub mod StorageMarks
+pub mod Tied
+pub mod Trace

@@ -1,4 +1,0 @@
-pub mod Parted
-pub mod Listed
-pub mod Named
-pub mod Changed

@@ -1,8 +1,0 @@
-use Rattle.std.proofs.Common.{◌∙◌, ◌==◌, rules, tests}
-use Rattle.std.proofs.lemmas.Iterator.{YieldsList-from_slice}
-use Rattle.std.proofs.lemmas.Iterator.Search.{find_from_yields_List}
-use Rattle.intern_registry.proofs.part.part_of.Goals as goal
-
-pub returns : goal.returns
-returns c =
-    c.copied.ensures ∙ find_from_yields_List (λ p. p.number == c.args.number) _ _ _ c.find.ensures.ran (YieldsList-from_slice c.args.parts.now cc) (λ x b q k. search (rules, tests))

@@ -1,4 +1,0 @@
-pub mod Parts
-pub mod Registry
-pub mod Slotted
-pub mod Tied

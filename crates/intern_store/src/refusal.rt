@@ -1,0 +1,55 @@
+//! Why a call is refused.
+ghost use Rattle.std.specs.Prelude.{◌≡◌};
+ghost use Rattle.intern_store.specs.Outcome.{refusal_number};
+
+use thiserror::Error;
+
+/// Why a call was refused. A refused call leaves the storage as it was.
+///
+/// The reasons are looked for in this order, and a call answers the first that holds.
+#[derive(Clone, Copy, Debug, PartialEq, Eq, Error)]
+pub enum Refusal {
+    /// The handle is of a storage of another number.
+    #[error("the handle is of another storage")]
+    Foreign,
+    /// The storage has no entry of this birth now.
+    #[error("the entry is gone, or was never there")]
+    Gone,
+    /// The entry's count is zero, and the call would lower it or take one over.
+    #[error("the entry's count is zero already")]
+    CountZero,
+    /// The entry's count is at its limit, and the call would raise it.
+    #[error("the entry's count is at its limit")]
+    CountFull,
+    /// The value isn't stored, and the storage has given all its births.
+    #[error("the storage has given all its births")]
+    NumbersUsedUp,
+    /// A growth that the call needs was refused.
+    #[error("out of memory")]
+    OutOfMemory,
+}
+
+/// A refusal, with what the call consumed.
+#[derive(Debug, Drop)]
+pub struct Refused<H> {
+    /// The reason.
+    pub why: Refusal,
+    /// The value, header or handle that the call was given.
+    pub back: H,
+}
+
+impl Refusal {
+    /// The rank of the reason in their order, from 1.
+    pub fn number(self) -> u8
+        ensures { result ≡ refusal_number self }
+    {
+        match self {
+            Refusal::Foreign => 1,
+            Refusal::Gone => 2,
+            Refusal::CountZero => 3,
+            Refusal::CountFull => 4,
+            Refusal::NumbersUsedUp => 5,
+            Refusal::OutOfMemory => 6,
+        }
+    }
+}

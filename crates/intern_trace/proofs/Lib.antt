@@ -1,7 +1,0 @@
-pub mod Counting
-pub mod Names
-pub mod Reaching
-pub mod Rooting
-pub mod Seeing
-pub mod Steps
-pub mod Traces

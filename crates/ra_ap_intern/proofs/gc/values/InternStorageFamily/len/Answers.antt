@@ -1,8 +1,0 @@
-use Rattle.std.proofs.Common.{ap, arith}
-use Rattle.std.specs.FinMap.{len}
-use Rattle.intern_store.specs.State.{State}
-use Rattle.ra_ap_intern.proofs.Entries.{entries-length}
-use Rattle.ra_ap_intern.proofs.gc.values.InternStorageFamily.len.Goals as goal
-
-pub returns : goal.returns
-returns g c = omega (arith, c.len.type_inv, entries-length g.T.GcInternedVisit.children c.args.self.now, ap (λ (s : State _). len s.map) c.self.view_is)

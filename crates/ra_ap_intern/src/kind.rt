@@ -1,0 +1,47 @@
+//! What kinds of entries storages keep.
+ghost use Rattle.std.specs.Prelude.{Bool};
+
+use crate::intern::Internable;
+use crate::intern_slice::SliceInternable;
+use intern_store::Entries;
+use intern_table::{SliceTable, Table};
+use std::marker::PhantomData;
+
+/// What a storage keeps, and in which table: [`Values`] or [`Slices`].
+pub trait Kind {
+    /// The table of the entries.
+    type Table: Entries;
+
+    /// Whether entries stay until a collection (collected mode), or go with their last owner
+    /// (counted mode).
+    const USE_GC: bool;
+
+    ghost USE_GC: { Bool };
+}
+
+/// Single values of a type.
+// The pointer lets a type hold handles of itself.
+pub struct Values<T> {
+    marker: PhantomData<*const T>,
+}
+
+/// Headers with lists of items, of a kind.
+pub struct Slices<T> {
+    marker: PhantomData<*const T>,
+}
+
+impl<T: Internable> Kind for Values<T> {
+    type Table = Table<T>;
+
+    const USE_GC: bool = T::USE_GC;
+
+    ghost USE_GC = { T.Internable.USE_GC };
+}
+
+impl<T: SliceInternable> Kind for Slices<T> {
+    type Table = SliceTable<T::Header, T::SliceType>;
+
+    const USE_GC: bool = T::USE_GC;
+
+    ghost USE_GC = { T.SliceInternable.USE_GC };
+}

@@ -1,0 +1,176 @@
+//! A storage of any kind, its owned handles and its references.
+//!
+//! What differs by kind, which is reading, interning and what a release gives back, is in `intern`
+//! and `intern_slice`.
+ghost use Rattle.std.specs.Prelude.{◌≡◌, ◌<◌, ◌==◌, IfOk};
+ghost use Rattle.std.specs.FinMap as map;
+ghost use Rattle.intern_store.specs.Named.{key_name};
+ghost use Rattle.intern_store.specs.Outcome.{Owes, Becomes};
+ghost use Rattle.intern_store.specs.State.{IsState, new_state, counts, counted_up, counted_down, due, full, zero_count};
+ghost use Rattle.ra_ap_intern.specs.Handle.{name_of, ref_name};
+
+use crate::kind::Kind;
+use intern_store::{EntryKey, Limits, Name, Refusal, Store};
+use std::alloc::Global;
+use std::marker::{Model, PhantomData};
+
+/// A storage of entries of a kind, each value kept once: an `InternStorage` or an
+/// `InternSliceStorage`.
+///
+/// Interning takes one hash, one look-up, and a comparison with each stored value of that hash.
+/// Only a value that isn't stored takes memory. Where storing it builds the tables anew, that takes
+/// time in proportion to the most entries that there were at once, which is constant time a call on
+/// average. Reads, counts and removals go straight to the entry; `from_raw` looks its birth up.
+#[derive(Drop)]
+pub struct Storage<K: Kind> {
+    pub(crate) store: Store<K::Table>,
+}
+
+impl<K: Kind> Model for Storage<K> {
+    ghost use Rattle.intern_store.specs.State.{State, state_code};
+
+    ghost Value = { State K.Table.Value };
+
+    ghost coded = { state_code K.Table.Value.code };
+
+    ghost view = { λ a. a.store };
+}
+
+/// An owned handle, which counts one: an `Interned` or an `InternedSlice`.
+///
+/// Handles are compared and hashed by their names alone, so two of one storage are equal exactly
+/// if the values that they read are. Beside the name a handle holds the place of its entry, 24
+/// bytes in all.
+#[derive(Drop)]
+#[derive_where(PartialEq, Eq, Hash)]
+pub struct Owned<K> {
+    pub(crate) reference: Ref<K>,
+}
+
+/// A reference, which counts nothing: an `InternedRef` or an `InternedSliceRef`. It is compared,
+/// ordered and hashed by its name alone: the storage's number, and then the birth.
+#[derive_where(Clone, Copy, PartialEq, Eq, PartialOrd, Ord, Hash)]
+pub struct Ref<K> {
+    pub(crate) key: EntryKey,
+    // The pointer lets a type hold handles of itself.
+    #[derive_where(skip)]
+    marker: PhantomData<*const K>,
+}
+
+impl<K: Kind> Storage<K> {
+    /// An empty storage with the largest limits. It takes no memory.
+    ///
+    /// Handles tell storages apart by their numbers alone: give each storage one of its own.
+    pub fn new(alloc: Global, number: u64) -> Self
+        ensures { result ≡ new_state number u64.MAX u64.MAX }
+    {
+        Storage {
+            store: Store::new(alloc, number),
+        }
+    }
+
+    /// An empty storage with limits of its own. It takes no memory.
+    pub fn with_limits(alloc: Global, number: u64, limits: Limits) -> Self
+        requires { 0 < limits.top }
+        ensures { result ≡ new_state number limits.top limits.numbers }
+    {
+        Storage {
+            store: Store::with_limits(alloc, number, limits),
+        }
+    }
+
+    /// The storage's number.
+    pub fn number(&self) -> u64
+        ensures number { result ≡ self.now.number }
+        ensures state { IsState K.Table.Value.eq self.now }
+    {
+        self.store.number()
+    }
+
+    /// How many entries there are.
+    pub fn len(&self) -> usize
+        ensures { result ≡ map.len self.now.map }
+    {
+        self.store.len()
+    }
+
+    /// Whether there is no entry.
+    pub fn is_empty(&self) -> bool
+        ensures { result ≡ (map.len self.now.map == 0) }
+    {
+        self.store.is_empty()
+    }
+
+    /// The count of the entry that a reference names: how many owners it has.
+    /// None for a reference of another storage, or of an entry that is gone.
+    pub fn count(&self, reference: Ref<K>) -> Option<u64>
+        ensures { result ≡ counts self.now (ref_name reference) }
+    {
+        self.store.count(reference.key)
+    }
+}
+
+impl<K: Kind> Owned<K> {
+    /// A second owned handle, which counts one more. Refused: `Foreign`, `Gone`, `CountFull`.
+    pub fn clone(&self, storage: &mut Storage<K>) -> Result<Owned<K>, Refusal>
+        ensures ok { IfOk result (λ h. name_of h ≡ name_of self.now) }
+        ensures refused { Owes result
+            (due storage.old (name_of self.now) (full storage.old.top)) }
+        ensures state { Becomes result storage.old storage.new
+            (counted_up storage.old (name_of self.now).birth) }
+    {
+        self.reference.to_owned(storage)
+    }
+}
+
+impl<K> Owned<K> {
+    /// A reference to the same entry.
+    pub fn as_ref(&self) -> Ref<K>
+        ensures { ref_name result ≡ name_of self.now }
+    {
+        self.reference
+    }
+}
+
+impl<K: Kind> Ref<K> {
+    /// An owned handle of the entry, which counts one more, also from zero.
+    /// Refused: `Foreign`, `Gone`, `CountFull`.
+    pub fn to_owned(self, storage: &mut Storage<K>) -> Result<Owned<K>, Refusal>
+        ensures ok { IfOk result (λ h. name_of h ≡ ref_name self) }
+        ensures refused { Owes result (due storage.old (ref_name self) (full storage.old.top)) }
+        ensures state { Becomes result storage.old storage.new
+            (counted_up storage.old (ref_name self).birth) }
+    {
+        storage.store.count_up(self.key)?;
+        Ok(Owned { reference: self })
+    }
+
+    /// Takes back the count of a handle that was dropped without `release`. The entry stays, also
+    /// at zero and in counted mode. Refused: `Foreign`, `Gone`, `CountZero`.
+    pub fn decrement_refcount(self, storage: &mut Storage<K>) -> Result<(), Refusal>
+        ensures refused { Owes result (due storage.old (ref_name self) zero_count) }
+        ensures state { Becomes result storage.old storage.new
+            (counted_down storage.old (ref_name self).birth) }
+    {
+        storage.store.count_down(self.key)
+    }
+}
+
+impl<K> Ref<K> {
+    // The reference of a key.
+    pub(crate) fn new(key: EntryKey) -> Ref<K>
+        ensures { ref_name result ≡ key_name key }
+    {
+        Ref {
+            key,
+            marker: PhantomData,
+        }
+    }
+
+    /// The entry's name: the storage's number and the birth.
+    pub fn name(self) -> Name
+        ensures { result ≡ ref_name self }
+    {
+        self.key.name()
+    }
+}
