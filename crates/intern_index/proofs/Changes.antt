@@ -137,15 +137,11 @@ unremoved {X} m b none = same_map nat_cmp_total nat_cmp-IsAntisymmetric m (remov
     go q false t = refl
 
 -- room for more changes no place: an entry that is put where there is room
-pub put_roomy : {X : Type 0} (s roomy new : Slab X) (key place : ℕ) (o : Option X) → roomy ≡ record s { capacity = roomy.capacity } → key ≡ roomy.vacant_key → place ≡ roomy.vacant_key → get roomy place ≡ None → Updates roomy new key o
-    → record { vacant : get s place ≡ None; updates : Updates s new place o }
-put_roomy {X} s roomy new key place o kept key_is place_is vacant updates = record {
-  vacant = sym (same place) ∙ vacant;
-  updates = record {
-    changed = ap (get new) (place_is ∙ sym key_is) ∙ updates.changed;
-    others = λ p differs. updates.others p (λ is. differs (is ∙ key_is ∙ sym place_is)) ∙ same p;
-  };
+pub put_roomy : {X : Type 0} (s roomy new : Slab X) (key place : ℕ) (o : Option X) → roomy ≡ record s { capacity = roomy.capacity } → key ≡ roomy.vacant_key → place ≡ s.vacant_key → Updates roomy new key o → Updates s new place o
+put_roomy {X} s roomy new key place o kept key_is place_is updates = record {
+  changed = ap (get new) (sym here) ∙ updates.changed;
+  others = λ p differs. updates.others p (λ is. differs (is ∙ here)) ∙ ap (λ (r : Slab X). get r p) kept;
 }
   where
-    same : (p : ℕ) → get roomy p ≡ get s p
-    same p = ap (λ (r : Slab X). get r p) kept
+    here : key ≡ place
+    here = key_is ∙ ap (λ (r : Slab X). r.vacant_key) kept ∙ sym place_is

@@ -1,7 +1,9 @@
 pub mod Entries
 pub mod IndexEntry
+pub mod Keyed
 pub mod Listed
 pub mod Ordered
 pub mod Room
+pub mod Row
 pub mod Seen
 pub mod Swept

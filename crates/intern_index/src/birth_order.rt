@@ -60,10 +60,7 @@ impl BirthOrder {
 impl Births for BirthOrder {
     ghost IsFor = { λ t at. IsOrder t.places.items at };
 
-    ghost HasRoom = { λ t. vec_len t.places < vec_capacity t.places };
-
-    // It is no table: it is right as it is.
-    ghost IsBuilt = { λ _ _ _. Unit {0} };
+    ghost HasRoom = { λ t _ _. vec_len t.places < vec_capacity t.places };
 
     fn new(alloc: Global) -> BirthOrder {
         BirthOrder {
@@ -82,21 +79,18 @@ impl Births for BirthOrder {
         }
     }
 
-    fn reserve(&mut self) -> Result<(), AllocError> {
+    fn make_room<T, N: Copy>(
+        &mut self,
+        _alloc: Global,
+        _slots: &Slab<Entry<T, N>>,
+        _birth: u64,
+        _place: usize,
+    ) -> Result<(), AllocError> {
         self.places.reserve(1)
     }
 
     fn enter(&mut self, _birth: u64, place: usize) {
         self.places.push_reserved(place);
-    }
-
-    fn rebuild<T, N: Copy>(
-        &mut self,
-        _alloc: Global,
-        _slots: &Slab<Entry<T, N>>,
-        _room: usize,
-    ) -> Result<(), AllocError> {
-        Ok(())
     }
 
     fn forget<T, N: Copy>(&mut self, slots: &Slab<Entry<T, N>>) {

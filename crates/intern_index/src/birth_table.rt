@@ -1,22 +1,27 @@
-//! Births in a table of buckets.
-ghost use Rattle.std.specs.Prelude.{◌≡◌, ◌==◌, ℕ, true, Some};
-ghost use Rattle.intern_buckets.specs.Filling.{HasRoom as HasBucket, homes_of, homes_for, full_of};
+//! Births in row, and a table of the others.
+ghost use Rattle.std.specs.Prelude.{◌≡◌, ◌==◌, ◌+◌, ◌<◌, ℕ, true, Some, IfSome, OnOk};
+ghost use Rattle.intern_buckets.specs.Filling.{HasRoom as HasBucket};
 ghost use Rattle.intern_buckets.specs.Leading.{leads};
-ghost use Rattle.intern_buckets.specs.Mixed.{mixed};
-ghost use Rattle.intern_index.specs.Entries.{passes_at};
+ghost use Rattle.intern_index.specs.Entries.{birth_at, passes_at, AreTold};
+ghost use Rattle.intern_index.specs.Row.{row_key};
 
 use crate::births::Births;
 use crate::entry::Entry;
-use crate::table_of::{Key, table_of};
-use intern_buckets::{Buckets, Test, mix, search};
+use crate::row::Row;
+use crate::table::Table;
+use intern_buckets::{Test, mix, search};
 use slab::Slab;
 use std::alloc::{AllocError, Global};
 
-/// The places of births in a table of buckets. A birth that goes leaves its bucket behind, until
-/// the table is built anew.
+/// Births of which most are in row with their places, as they are until a slot is used again. A
+/// table has the others. A birth that goes leaves its bucket behind, until the table is built anew.
+///
+/// A new row begins once no entry is left, and where the table would be built anew while no slot
+/// is vacant.
 #[derive(Drop)]
 pub struct BirthTable {
-    buckets: Buckets,
+    row: Row,
+    others: Table,
 }
 
 // The place of the entry of a birth.
@@ -37,61 +42,93 @@ impl<T, N: Copy> Test for OfBirth<'_, T, N> {
     }
 }
 
-// Entries are entered under their births.
-#[derive(Clone, Copy)]
-struct ByBirth;
-
-impl<T, N: Copy> Key<T, N> for ByBirth {
-    ghost key = { λ _ e. mixed e.birth };
-
-    fn key(&self, entry: &Entry<T, N>) -> u64 {
-        mix(entry.birth)
-    }
-}
-
-#[cfg(test)]
 impl BirthTable {
+    // The row that a birth begins at a place, if it does.
+    fn next_row<T, N: Copy>(
+        &self,
+        slots: &Slab<Entry<T, N>>,
+        birth: u64,
+        place: usize,
+    ) -> Option<Row>
+        ensures { IfSome result (λ r. place + r.shift ≡ birth) }
+    {
+        if slots.is_empty() || (self.others.is_full() && place == slots.len()) {
+            let shift = birth.checked_sub(place as u64)?;
+            return Some(Row { shift });
+        }
+        None
+    }
+
+    // Begins a row, and enters what isn't in it.
+    fn begin<T, N: Copy>(
+        &mut self,
+        alloc: Global,
+        slots: &Slab<Entry<T, N>>,
+        row: Row,
+    ) -> Result<(), AllocError>
+        requires known { (p b : ℕ) → birth_at slots.now p ≡ Some b →
+            IfSome (row_key self.old.row.shift p b) (λ h. leads self.old.others.buckets h p ≡ true) }
+        requires told { AreTold slots.now }
+        ensures finds { (p b : ℕ) → birth_at slots.now p ≡ Some b →
+            IfSome (row_key self.new.row.shift p b) (λ h. leads self.new.others.buckets h p ≡ true) }
+        ensures row { OnOk result (self.new.row ≡ row) }
+    {
+        if !slots.is_empty() {
+            self.others.rebuild(alloc, slots, &row)?;
+        }
+        self.row = row;
+        Ok(())
+    }
+
     /// How many buckets there is room for.
+    #[cfg(test)]
     pub(crate) fn capacity(&self) -> usize {
-        self.buckets.capacity()
+        self.others.buckets.capacity()
     }
 }
 
 impl Births for BirthTable {
-    ghost IsFor = { λ t at. (p b : ℕ) →
-        at p ≡ Some b → leads t.buckets (mixed b) p ≡ true };
+    ghost IsFor = { λ t at. (p b : ℕ) → at p ≡ Some b →
+        IfSome (row_key t.row.shift p b) (λ h. leads t.others.buckets h p ≡ true) };
 
-    ghost HasRoom = { λ t. HasBucket t.buckets };
-
-    ghost IsBuilt = { λ t n room. (full_of t.buckets ≡ n) × (homes_of t.buckets ≡ homes_for room) };
+    ghost HasRoom = { λ t b p. IfSome (row_key t.row.shift p b)
+        (λ _. HasBucket t.others.buckets × (0 < t.others.left)) };
 
     fn new(alloc: Global) -> BirthTable {
         BirthTable {
-            buckets: Buckets::new(alloc),
+            row: Row { shift: 0 },
+            others: Table::new(alloc),
         }
     }
 
     #[cold]
     fn find<T, N: Copy>(&self, slots: &Slab<Entry<T, N>>, birth: u64) -> Option<usize> {
-        search(&self.buckets, mix(birth), &OfBirth { slots, birth })
+        match self.row.find(slots, birth) {
+            Some(place) => Some(place),
+            None => search(&self.others.buckets, mix(birth), &OfBirth { slots, birth }),
+        }
     }
 
-    fn reserve(&mut self) -> Result<(), AllocError> {
-        self.buckets.reserve()
-    }
-
-    fn enter(&mut self, birth: u64, place: usize) {
-        self.buckets.enter(mix(birth), place)
-    }
-
-    fn rebuild<T, N: Copy>(
+    fn make_room<T, N: Copy>(
         &mut self,
         alloc: Global,
         slots: &Slab<Entry<T, N>>,
-        room: usize,
+        birth: u64,
+        place: usize,
     ) -> Result<(), AllocError> {
-        self.buckets = table_of(alloc, slots, room, &ByBirth)?;
-        Ok(())
+        if self.row.has(birth, place) {
+            return Ok(());
+        }
+        match self.next_row(slots, birth, place) {
+            Some(row) => self.begin(alloc, slots, row),
+            None => self.others.make_room(alloc, slots, &self.row),
+        }
+    }
+
+    fn enter(&mut self, birth: u64, place: usize) {
+        if !self.row.has(birth, place) {
+            self.others.enter(mix(birth), place);
+        }
     }
 
     fn forget<T, N: Copy>(&mut self, _slots: &Slab<Entry<T, N>>) {}

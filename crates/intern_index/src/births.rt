@@ -1,7 +1,6 @@
 //! How the place of a birth is found.
 ghost use Rattle.std.specs.Prelude.{◌≡◌, ◌≢◌, ℕ, ◌+◌, ◌<◌, ◌^◌};
 ghost use Rattle.std.specs.Prelude.{Some, None, Option, IfSome, IfNone, OnOk};
-ghost use Rattle.slab.specs.Slab.{slab_len};
 ghost use Rattle.intern_index.specs.Entries.{birth_at, AreTold};
 
 use crate::entry::Entry;
@@ -13,11 +12,8 @@ pub trait Births: Sized {
     // Whether it finds each of these births, by their places.
     ghost IsFor: { Self → (ℕ → Option ℕ) → Type 0 };
 
-    // Whether one more can be entered.
-    ghost HasRoom: { Self → Type 0 };
-
-    // Whether it was built from so many births, with room for so many.
-    ghost IsBuilt: { Self → ℕ → ℕ → Type 0 };
+    // Whether a birth can be entered with a place.
+    ghost HasRoom: { Self → ℕ → ℕ → Type 0 };
 
     /// One that knows no birth. It takes no memory.
     fn new(alloc: Global) -> Self
@@ -30,31 +26,27 @@ pub trait Births: Sized {
         ensures found { IfSome result (λ p. birth_at slots.now p ≡ Some birth) }
         ensures absent { IfNone result ((p : ℕ) → birth_at slots.now p ≢ Some birth) };
 
-    /// Makes room for one more.
-    fn reserve(&mut self) -> Result<(), AllocError>
-        ensures same { (at : ℕ → Option ℕ) → IsFor self.old at → IsFor self.new at }
-        ensures room { OnOk result (HasRoom self.new) };
+    /// Makes room for a birth at a place.
+    fn make_room<T, N: Copy>(
+        &mut self,
+        alloc: Global,
+        slots: &Slab<Entry<T, N>>,
+        birth: u64,
+        place: usize,
+    ) -> Result<(), AllocError>
+        requires known { IsFor self.old (birth_at slots.now) }
+        requires told { AreTold slots.now }
+        ensures finds { IsFor self.new (birth_at slots.now) }
+        ensures room { OnOk result (HasRoom self.new birth place) };
 
     /// Enters a birth above all others.
     fn enter(&mut self, birth: u64, place: usize)
-        requires room { HasRoom self.old }
+        requires room { HasRoom self.old birth place }
         requires small { place + 1 < 2 ^ 48 }
         ensures { (old new : ℕ → Option ℕ) → IsFor self.old old
             → old place ≡ None → ((p b : ℕ) → old p ≡ Some b → b < birth)
             → new place ≡ Some birth → ((p : ℕ) → p ≢ place → new p ≡ old p)
             → IsFor self.new new };
-
-    /// Built anew from these entries, with room for this many births.
-    fn rebuild<T, N: Copy>(
-        &mut self,
-        alloc: Global,
-        slots: &Slab<Entry<T, N>>,
-        room: usize,
-    ) -> Result<(), AllocError>
-        requires known { IsFor self.old (birth_at slots.now) }
-        requires told { AreTold slots.now }
-        ensures finds { IsFor self.new (birth_at slots.now) }
-        ensures built { OnOk result (IsBuilt self.new (slab_len slots.now) room) };
 
     /// Forgets the births that are gone. It takes no memory.
     fn forget<T, N: Copy>(&mut self, slots: &Slab<Entry<T, N>>)

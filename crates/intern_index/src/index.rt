@@ -16,7 +16,7 @@ use crate::iter::Iter;
 use crate::offer::Offer;
 use crate::query::{OfHash, Query};
 use crate::sweep::keep_marked;
-use crate::tables::Tables;
+use crate::table::{Key, Table};
 use intern_buckets::{PLACES, search};
 use intern_store::{Keeps, Spot};
 use slab::Slab;
@@ -31,7 +31,20 @@ use std::marker::Model;
 pub struct Index<T, N: Copy, B: Births> {
     alloc: Global,
     slots: Slab<Entry<T, N>>,
-    tables: Tables<B>,
+    by_hash: Table,
+    births: B,
+}
+
+// Entries are entered under their hashes.
+#[derive(Clone, Copy)]
+struct ByHash;
+
+impl<T, N: Copy> Key<T, N> for ByHash {
+    ghost key = { λ _ _ e. Some e.hash };
+
+    fn key(&self, _place: usize, entry: &Entry<T, N>) -> Option<u64> {
+        Some(entry.hash)
+    }
 }
 
 impl<T, N: Copy, B: Births> Model for Index<T, N, B> {
@@ -48,7 +61,7 @@ impl<T, N: Copy, B: Births> Model for Index<T, N, B> {
 
     ghost view = { λ a. held a.slots.slots };
 
-    ghost invariant = { λ a. IsTied a.slots a.tables.by_hash (B.IsFor a.tables.births) };
+    ghost invariant = { λ a. IsTied a.slots a.by_hash.buckets (B.IsFor a.births) };
 }
 
 impl<T, N: Copy, B: Births> Index<T, N, B> {
@@ -59,7 +72,8 @@ impl<T, N: Copy, B: Births> Index<T, N, B> {
         Index {
             alloc,
             slots: Slab::new(alloc),
-            tables: Tables::new(alloc),
+            by_hash: Table::new(alloc),
+            births: B::new(alloc),
         }
     }
 
@@ -74,7 +88,7 @@ impl<T, N: Copy, B: Births> Index<T, N, B> {
     pub fn place(&self, birth: u64) -> Option<usize>
         ensures { result ≡ option_map (λ e. e.place) (map.get self.now birth) }
     {
-        self.tables.births.find(&self.slots, birth)
+        self.births.find(&self.slots, birth)
     }
 
     // The entry of a birth, and its place, which is looked up only where the spot's is wrong.
@@ -84,7 +98,7 @@ impl<T, N: Copy, B: Births> Index<T, N, B> {
         match self.slots.get(spot.place) {
             Some(entry) if entry.birth == spot.birth => Some((spot.place, entry)),
             _ => {
-                let place = self.tables.births.find(&self.slots, spot.birth)?;
+                let place = self.births.find(&self.slots, spot.birth)?;
                 Some((place, &self.slots[place]))
             }
         }
@@ -138,7 +152,7 @@ impl<T, N: Copy, B: Births> Index<T, N, B> {
     {
         let (place, _) = self.entry(spot)?;
         let entry = self.slots.remove(place);
-        self.tables.births.forget(&self.slots);
+        self.births.forget(&self.slots);
         let Entry { value, .. } = entry;
         Some(value)
     }
@@ -160,16 +174,17 @@ impl<T, N: Copy, B: Births> Index<T, N, B> {
         ensures err { OnErr result (self.new ≡ self.old) }
         ensures back { IfErr result (λ back. back ≡ offer) }
     {
-        let (Ok(()), Ok(())) = (
-            self.tables.make_room(self.alloc, &self.slots),
-            self.slots.reserve(1),
-        ) else {
-            return Err(offer);
-        };
         let place = self.slots.vacant_key();
         if place >= PLACES - 1 {
             return Err(offer);
         }
+        let (Ok(()), Ok(()), Ok(())) = (
+            self.by_hash.make_room(self.alloc, &self.slots, &ByHash),
+            self.births.make_room(self.alloc, &self.slots, birth, place),
+            self.slots.reserve(1),
+        ) else {
+            return Err(offer);
+        };
         match offer.into_value(self.alloc) {
             Ok(value) => {
                 self.slots.insert_reserved(Entry {
@@ -178,7 +193,8 @@ impl<T, N: Copy, B: Births> Index<T, N, B> {
                     value,
                     payload,
                 });
-                self.tables.enter(hash, birth, place);
+                self.by_hash.enter(hash, place);
+                self.births.enter(birth, place);
                 Ok(place)
             }
             Err(back) => Err(back),
@@ -200,7 +216,7 @@ impl<T, N: Copy, B: Births> Index<T, N, B> {
             hash,
             query,
         };
-        let place = search(&self.tables.by_hash, hash, &test)?;
+        let place = search(&self.by_hash.buckets, hash, &test)?;
         let birth = self.slots[place].birth;
         Some(Spot { birth, place })
     }
@@ -232,7 +248,7 @@ impl<T, N: Copy, B: Births> Index<T, N, B> {
             hash,
             query,
         };
-        let place = search(&self.tables.by_hash, hash, &test)?;
+        let place = search(&self.by_hash.buckets, hash, &test)?;
         let entry = &mut self.slots[place];
         let birth = entry.birth;
         let payload = entry.payload;
@@ -256,7 +272,7 @@ impl<T, N: Copy, B: Births> Index<T, N, B> {
         ensures { self.new ≡ map.retain_keys self.old (M.marked marks.now) }
     {
         keep_marked(&mut self.slots, marks);
-        self.tables.births.forget(&self.slots);
+        self.births.forget(&self.slots);
     }
 }
 
@@ -268,7 +284,7 @@ impl<T, N: Copy> Index<T, N, BirthOrder> {
         ensures place { IfSome result (λ s.
             option_map (λ e. e.place) (map.get self.now s.birth) ≡ Some s.place) }
     {
-        let place = self.tables.births.place(at)?;
+        let place = self.births.place(at)?;
         let entry = &self.slots[place];
         Some(Spot {
             birth: entry.birth,
@@ -281,11 +297,11 @@ impl<T, N: Copy> Index<T, N, BirthOrder> {
 impl<T, N: Copy, B: Births> Index<T, N, B> {
     /// How many slots, and how many buckets of the hash table, there is room for.
     pub(crate) fn capacity(&self) -> (usize, usize) {
-        (self.slots.capacity(), self.tables.by_hash.capacity())
+        (self.slots.capacity(), self.by_hash.buckets.capacity())
     }
 
     /// What finds the places of births.
     pub(crate) fn births(&self) -> &B {
-        &self.tables.births
+        &self.births
     }
 }

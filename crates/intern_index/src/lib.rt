@@ -10,9 +10,9 @@ mod index;
 mod iter;
 mod offer;
 mod query;
+mod row;
 mod sweep;
-mod table_of;
-mod tables;
+mod table;
 #[cfg(test)]
 mod tests;
 

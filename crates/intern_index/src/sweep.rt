@@ -7,7 +7,8 @@ use crate::entry::Entry;
 use intern_store::{Keeps, Spot};
 use slab::Slab;
 
-/// Keeps the entries of marked births, each at its place. It takes no memory.
+/// Keeps the entries of marked births, each at its place. Where none is left, the next one lies at
+/// the first place again. It takes no memory.
 pub(crate) fn keep_marked<T: Drop, N: Copy, M: Keeps>(slots: &mut Slab<Entry<T, N>>, marks: &M)
     ensures { (p : ℕ) → get slots.new p ≡ if_marked (M.marked marks.now) (get slots.old p) }
 {
@@ -22,5 +23,8 @@ pub(crate) fn keep_marked<T: Drop, N: Copy, M: Keeps>(slots: &mut Slab<Entry<T, 
         if is_stale {
             let _ = slots.try_remove(place);
         }
+    }
+    if slots.is_empty() {
+        slots.clear();
     }
 }

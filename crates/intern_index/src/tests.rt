@@ -245,6 +245,40 @@ fn an_index_of_one_hash_stays_small(rt: HostRuntime) {
     shares_a_hash(&rt, rt.alloc(), u64::MAX);
 }
 
+// Births in row are in no table, also where they begin anew, once a sweep has left nothing.
+#[test]
+fn births_in_row_take_no_table(rt: HostRuntime) {
+    let alloc = rt.alloc();
+    let mut numbers = Numbers::<BirthTable>::new(alloc, SPREAD);
+    for _ in 0..3 {
+        let spots = added(&rt, alloc, &mut numbers, 1_000);
+        all_there(&rt, &numbers, &spots);
+        numbers.keep(&Below(0));
+        for spot in &spots {
+            numbers.has_not(&rt, *spot);
+        }
+        assert_eq!(rt; numbers.index.births().capacity(), 0);
+    }
+}
+
+// Where the first used slot breaks the row, there are 90 entries, so there is room for 90 births
+// beside. Once these were entered a new row begins, and the table is built for twice the 180
+// entries that lie before it, with a seventh more homes: the births behind leave it as it is.
+#[test]
+fn a_new_row_begins_behind_used_slots(rt: HostRuntime) {
+    let alloc = rt.alloc();
+    let mut numbers = Numbers::<BirthTable>::new(alloc, SPREAD);
+    let staying = added(&rt, alloc, &mut numbers, 90);
+    let mut going = added(&rt, alloc, &mut numbers, 10);
+    replace(&rt, &mut numbers, &mut going);
+    let behind = added(&rt, alloc, &mut numbers, 1_000);
+    all_there(&rt, &numbers, &staying);
+    all_there(&rt, &numbers, &going);
+    all_there(&rt, &numbers, &behind);
+    let buckets = numbers.index.births().capacity();
+    assert!(rt; 0 < buckets && buckets <= 411 + 64, "{buckets} buckets");
+}
+
 // Building the tables goes over all slots, vacant ones too. As many insertions as there are slots
 // come before the next time, or a storage that was large once would be slow ever after.
 #[test]

@@ -134,9 +134,6 @@ none_marked : (names : List Name) → ((x : Name) → has names x ≡ false) →
 none_marked [] none = refl
 none_marked (n ∷ names) none = let head = has_head n names in let no = none n in absurd (cc)
 
-either_false : (b : Bool) → (false || (false && b)) ≡ false
-either_false b = refl
-
 pub learnt_alone : (family : List Entry) (m : Marks) → Learns false family (fresh empty) m → m ≡ fresh (known family)
 learnt_alone family m is = λ i. record {
   registered = same_map name_cmp_total name_cmp-IsAntisymmetric m.registered (known family) (λ x.

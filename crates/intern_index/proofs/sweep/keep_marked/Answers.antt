@@ -4,8 +4,8 @@ use Rattle.std.proofs.lemmas.List.{get_or_past}
 use Rattle.intern_index.specs.Swept.{if_marked}
 use Rattle.intern_index.proofs.sweep.keep_marked.Goals as goal
 
-pub returns : goal.returns
-returns g c = λ p.
+pub returns-else-is_empty : goal.returns-else-is_empty
+returns-else-is_empty g c = λ p.
     let marked = g.M.Keeps.marked c.args.marks.now in
     let end = c.loop-place-test.false in
     let all = c.capacity-place-end.ensures.slots in

@@ -11,7 +11,7 @@ use Rattle.intern_index.proofs.Changes.{repaid_tied, repaid_seen}
 use Rattle.intern_index.proofs.index.Index.change.Goals as goal
 
 pub same-self : goal.same-self
-same-self g c = ap (λ h. record c.self.inside { tables = record c.self.inside.tables { homed = h } }) (le_prop _ _)
+same-self g c = ap (λ h. record c.self.inside { by_hash = record c.self.inside.by_hash { homed = h } }) (le_prop _ _)
 
 pub returns-in_err-place-clause-payload : goal.returns-in_err-place-clause-payload
 returns-in_err-place-clause-payload g c =

@@ -10,12 +10,12 @@ use Rattle.intern_index.proofs.Finds.{none_fits, one_fits, one_hashed, one_place
 use Rattle.intern_index.proofs.index.Index.find_and_change.Goals as goal
 
 pub same-self : goal.same-self
-same-self g c = ap (λ h. record c.self.inside { tables = record c.self.inside.tables { homed = h } }) (le_prop _ _)
+same-self g c = ap (λ h. record c.self.inside { by_hash = record c.self.inside.by_hash { homed = h } }) (le_prop _ _)
 
 pub returns-in_err-place-clause-none : goal.returns-in_err-place-clause-none
 returns-in_err-place-clause-none g c =
     rw c.from_residual.ensures
-    (none_fits (g.Q.Query.fits c.args.query.now) c.args.hash c.self.inside.slots c.self.inside.tables.by_hash _ c.self.invariant _ c.self.view_is c.in_err-place.ensures.none)
+    (none_fits (g.Q.Query.fits c.args.query.now) c.args.hash c.self.inside.slots c.self.inside.by_hash.buckets _ c.self.invariant _ c.self.view_is c.in_err-place.ensures.none)
 
 pub invariant_of-self : goal.invariant_of-self
 invariant_of-self g c =
@@ -25,15 +25,15 @@ invariant_of-self g c =
 
 pub returns-clause-found : goal.returns-clause-found
 returns-clause-found g c =
-    one_fits (g.Q.Query.fits c.args.query.now) c.args.hash c.self.inside.slots c.self.inside.tables.by_hash _ c.self.invariant _ c.self.view_is c.in_ok-place.place c.index_mut-entry.result.now c.index_mut-entry.ensures.value c.in_ok-place.ensures.found
+    one_fits (g.Q.Query.fits c.args.query.now) c.args.hash c.self.inside.slots c.self.inside.by_hash.buckets _ c.self.invariant _ c.self.view_is c.in_ok-place.place c.index_mut-entry.result.now c.index_mut-entry.ensures.value c.in_ok-place.ensures.found
 
 pub returns-clause-place : goal.returns-clause-place
 returns-clause-place g c =
-    one_placed (g.Q.Query.fits c.args.query.now) c.args.hash c.self.inside.slots c.self.inside.tables.by_hash _ c.self.invariant _ c.self.view_is c.in_ok-place.place c.index_mut-entry.result.now c.index_mut-entry.ensures.value
+    one_placed (g.Q.Query.fits c.args.query.now) c.args.hash c.self.inside.slots c.self.inside.by_hash.buckets _ c.self.invariant _ c.self.view_is c.in_ok-place.place c.index_mut-entry.result.now c.index_mut-entry.ensures.value
 
 pub returns-clause-hash : goal.returns-clause-hash
 returns-clause-hash g c =
-    one_hashed (g.Q.Query.fits c.args.query.now) c.args.hash c.self.inside.slots c.self.inside.tables.by_hash _ c.self.invariant _ c.self.view_is c.in_ok-place.place c.index_mut-entry.result.now c.index_mut-entry.ensures.value c.in_ok-place.ensures.found
+    one_hashed (g.Q.Query.fits c.args.query.now) c.args.hash c.self.inside.slots c.self.inside.by_hash.buckets _ c.self.invariant _ c.self.view_is c.in_ok-place.place c.index_mut-entry.result.now c.index_mut-entry.ensures.value c.in_ok-place.ensures.found
 
 pub returns-clause-payload : goal.returns-clause-payload
 returns-clause-payload g c =

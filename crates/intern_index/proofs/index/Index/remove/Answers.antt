@@ -8,7 +8,7 @@ use Rattle.intern_index.proofs.Changes.{less_tied, left_there, removed_seen, unr
 use Rattle.intern_index.proofs.index.Index.remove.Goals as goal
 
 pub same-self : goal.same-self
-same-self g c = ap (λ h. record c.self.inside { tables = record c.self.inside.tables { homed = h } }) (le_prop _ _)
+same-self g c = ap (λ h. record c.self.inside { by_hash = record c.self.inside.by_hash { homed = h } }) (le_prop _ _)
 
 pub returns-in_err-place-clause-value : goal.returns-in_err-place-clause-value
 returns-in_err-place-clause-value g c =
