@@ -1,9 +1,8 @@
 //! Births in row, and a table of the others.
-ghost use Rattle.std.specs.Prelude.{◌≡◌, ◌==◌, ◌+◌, ◌<◌, ℕ, true, Some, IfSome, OnOk};
+ghost use Rattle.std.specs.Prelude.{◌≡◌, ◌==◌, ◌+◌, ◌<◌, IfSome, OnOk};
 ghost use Rattle.intern_buckets.specs.Filling.{HasRoom as HasBucket};
-ghost use Rattle.intern_buckets.specs.Leading.{leads};
 ghost use Rattle.intern_index.specs.Entries.{birth_at, passes_at, AreTold};
-ghost use Rattle.intern_index.specs.Row.{row_key};
+ghost use Rattle.intern_index.specs.Row.{row_key, AreFound};
 
 use crate::births::Births;
 use crate::entry::Entry;
@@ -66,11 +65,9 @@ impl BirthTable {
         slots: &Slab<Entry<T, N>>,
         row: Row,
     ) -> Result<(), AllocError>
-        requires known { (p b : ℕ) → birth_at slots.now p ≡ Some b →
-            IfSome (row_key self.old.row.shift p b) (λ h. leads self.old.others.buckets h p ≡ true) }
+        requires known { AreFound self.old.row.shift self.old.others.buckets (birth_at slots.now) }
         requires told { AreTold slots.now }
-        ensures finds { (p b : ℕ) → birth_at slots.now p ≡ Some b →
-            IfSome (row_key self.new.row.shift p b) (λ h. leads self.new.others.buckets h p ≡ true) }
+        ensures finds { AreFound self.new.row.shift self.new.others.buckets (birth_at slots.now) }
         ensures row { OnOk result (self.new.row ≡ row) }
     {
         if !slots.is_empty() {
@@ -88,8 +85,7 @@ impl BirthTable {
 }
 
 impl Births for BirthTable {
-    ghost IsFor = { λ t at. (p b : ℕ) → at p ≡ Some b →
-        IfSome (row_key t.row.shift p b) (λ h. leads t.others.buckets h p ≡ true) };
+    ghost IsFor = { λ t at. AreFound t.row.shift t.others.buckets at };
 
     ghost HasRoom = { λ t b p. IfSome (row_key t.row.shift p b)
         (λ _. HasBucket t.others.buckets × (0 < t.others.left)) };

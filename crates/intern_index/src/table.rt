@@ -1,5 +1,5 @@
 //! A table of buckets that is built from the entries.
-ghost use Rattle.std.specs.Prelude.{◌≡◌, ◌≤◌, ◌<◌, ◌+◌, ◌^◌, ℕ, true, Option, Some, IfOk, OnOk, OnErr};
+ghost use Rattle.std.specs.Prelude.{◌≡◌, ◌==◌, ◌≤◌, ◌<◌, ◌+◌, ◌^◌, ℕ, true, Option, Some, IfOk, OnOk, OnErr};
 ghost use Rattle.slab.specs.Slab.{slab_len};
 ghost use Rattle.intern_buckets.specs.Filling.{homes_of, homes_for, full_of, HasRoom};
 ghost use Rattle.intern_buckets.specs.Leading.{leads};
@@ -69,7 +69,9 @@ impl Table {
     }
 
     /// Whether it is built anew before one more is entered.
-    pub(crate) fn is_full(&self) -> bool {
+    pub(crate) fn is_full(&self) -> bool
+        ensures { result ≡ (self.now.left == 0) }
+    {
         self.left == 0
     }
 
