@@ -29,6 +29,8 @@ mod readme;
 #[cfg(test)]
 mod roots;
 #[cfg(test)]
+mod shelves;
+#[cfg(test)]
 mod steps;
 #[cfg(test)]
 mod texts;

@@ -6,5 +6,5 @@ pub mod Maps
 pub mod Named
 pub mod Sorted
 pub mod States
-mod Births
+pub mod Births
 pub mod Reading

@@ -21,7 +21,7 @@ module _ {V : Type 0} where
   entry_reads s b k at = ap (λ t. cond t (option_map (λ (x : Kept V). x.value) (entry_at s b)) None) (eq-eqb s.number s.number refl) ∙ ap (option_map (λ x. x.value)) at
 
   -- where an entry is told by a value, it reads an equal one
-  equal_read : (eq : V → V → Bool) (s : State V) (v : V) (b : ℕ) → is_at eq v (entry_at s b) ≡ true → (w : V) × (reads s (name_in s b) ≡ Some w) × (eq v w ≡ true)
+  pub equal_read : (eq : V → V → Bool) (s : State V) (v : V) (b : ℕ) → is_at eq v (entry_at s b) ≡ true → (w : V) × (reads s (name_in s b) ≡ Some w) × (eq v w ≡ true)
   equal_read eq s v b is = go (entry_at s b) refl is
     where
       go : (o : Option (Kept V)) → entry_at s b ≡ o → is_at eq v o ≡ true → (w : V) × (reads s (name_in s b) ≡ Some w) × (eq v w ≡ true)

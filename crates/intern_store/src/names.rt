@@ -1,6 +1,8 @@
 //! What handles are made of.
-ghost use Rattle.std.specs.Prelude.{◌≡◌};
+ghost use Rattle.std.specs.Prelude.{◌≡◌, ◌-◌, ◌^◌};
 ghost use Rattle.intern_store.specs.Named.{key_name};
+
+use std::fmt;
 
 /// A storage's limits.
 #[derive(Clone, Copy, Debug, PartialEq, Eq)]
@@ -13,13 +15,20 @@ pub struct Limits {
 
 /// What a handle names: an entry, by the number of its storage and by its birth.
 ///
-/// The births of a storage begin at 0, rise by one, and are never given twice.
+/// The births of a storage begin at 0, rise by one, and are never given twice. A name is shown as
+/// `#3.5`: birth 5 of the storage of number 3.
 #[derive(Clone, Copy, Debug, PartialEq, Eq, PartialOrd, Ord, Hash)]
 pub struct Name {
     /// The storage's number.
     pub storage: u64,
     /// The entry's birth.
     pub birth: u64,
+}
+
+impl fmt::Display for Name {
+    fn fmt<W: fmt::Write>(&self, f: &mut fmt::Formatter<W>) -> fmt::Result {
+        write!(f, "#{}.{}", self.storage, self.birth)
+    }
 }
 
 /// Where an entry is: its birth, and the place where it was found.
@@ -43,6 +52,22 @@ pub struct EntryKey {
     pub storage: u64,
     /// Where the entry is.
     pub spot: Spot,
+}
+
+impl Limits {
+    /// The largest limits, which a storage has that is given none.
+    pub const MAX: Limits = Limits {
+        top: u64::MAX,
+        numbers: u64::MAX,
+    };
+}
+
+impl Default for Limits {
+    ghost is_default = { λ limits. (limits.top ≡ 2 ^ 64 - 1) × (limits.numbers ≡ 2 ^ 64 - 1) };
+
+    fn default() -> Limits {
+        Limits::MAX
+    }
 }
 
 impl EntryKey {

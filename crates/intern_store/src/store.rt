@@ -54,11 +54,7 @@ impl<E: Entries> Store<E> {
     pub fn new(alloc: Global, number: u64) -> Store<E>
         ensures { result ≡ new_state number u64.MAX u64.MAX }
     {
-        let limits = Limits {
-            top: u64::MAX,
-            numbers: u64::MAX,
-        };
-        Store::with_limits(alloc, number, limits)
+        Store::with_limits(alloc, number, Limits::MAX)
     }
 
     /// An empty store. It takes no memory.

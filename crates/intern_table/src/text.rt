@@ -1,8 +1,9 @@
 //! The texts that a table keeps.
-ghost use Rattle.std.specs.Prelude.{◌≡◌, ◌≤◌, length, IfOk, IsOk, nat_eq};
+ghost use Rattle.std.specs.Prelude.{◌≡◌, ◌≤◌, length, IfOk, IsOk, nat_eq, string_bytes};
 ghost use Rattle.std.specs.Cmp.Lexicographic.{pointwise};
 ghost use Rattle.std.specs.Cmp.Rules.{comparing, hashing};
 ghost use Rattle.std.specs.Hash as fed;
+ghost use Rattle.std.specs.Str.{bytes_eq};
 ghost use Rattle.std.proofs.Common.{rules};
 
 use crate::equivalent::{Equivalent, hash_value};
@@ -17,8 +18,8 @@ use std::marker::Model;
 /// How many bytes a short text has at most.
 const SHORT: usize = 24;
 
-/// A text that is kept. A short one lies in the entry itself. Contracts see its bytes, and not the
-/// room that they lie in.
+/// A text that is kept. A short one that was copied lies in the entry itself. Contracts see its
+/// bytes, and not the room that they lie in.
 #[derive(Drop)]
 pub struct Text {
     form: Form,
@@ -63,6 +64,23 @@ impl fmt::Debug for Text {
     }
 }
 
+impl fmt::Display for Text {
+    fn fmt<W: fmt::Write>(&self, f: &mut fmt::Formatter<W>) -> fmt::Result {
+        fmt::Display::fmt(self.as_str(), f)
+    }
+}
+
+// What is a string already is kept as it is, with the memory that it has.
+impl From<String> for Text {
+    ghost from_gives = { λ string text. text ≡ string_bytes string };
+
+    fn from(string: String) -> Text {
+        Text {
+            form: Form::Long(string),
+        }
+    }
+}
+
 impl Hash for Text {
     ghost hash_input = { fed.str };
 
@@ -94,6 +112,13 @@ impl Text {
             Form::Short(text) => text.as_str(),
             Form::Long(text) => text.as_str(),
         }
+    }
+
+    /// Whether it is this text.
+    pub fn is(&self, text: &str) -> bool
+        ensures { result ≡ bytes_eq self.now text.now }
+    {
+        self.as_str() == text
     }
 }
 

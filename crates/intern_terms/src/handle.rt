@@ -53,25 +53,15 @@ pub struct Term {
     pub(crate) owned: InternedSlice<Terms>,
 }
 
-// A name, written as `#3.5`: the entry of birth 5 in the storage of number 3.
-#[derive(Clone, Copy)]
-pub(crate) struct Shown(pub(crate) Name);
-
-impl fmt::Display for Shown {
-    fn fmt<W: fmt::Write>(&self, f: &mut fmt::Formatter<W>) -> fmt::Result {
-        write!(f, "#{}.{}", self.0.storage, self.0.birth)
-    }
-}
-
 impl fmt::Debug for TermRef {
     fn fmt<W: fmt::Write>(&self, f: &mut fmt::Formatter<W>) -> fmt::Result {
-        write!(f, "TermRef({})", Shown(self.name()))
+        write!(f, "TermRef({})", self.name())
     }
 }
 
 impl fmt::Debug for Term {
     fn fmt<W: fmt::Write>(&self, f: &mut fmt::Formatter<W>) -> fmt::Result {
-        write!(f, "Term({})", Shown(self.as_ref().name()))
+        write!(f, "Term({})", self.as_ref().name())
     }
 }
 

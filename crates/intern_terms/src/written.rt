@@ -1,5 +1,5 @@
 //! Terms as texts.
-use crate::handle::{Shown, TermRef};
+use crate::handle::TermRef;
 use crate::store::TermStore;
 use ra_ap_intern::SymbolTable;
 use std::alloc::AllocError;
@@ -51,10 +51,10 @@ impl TermStore {
         text: &mut String,
     ) -> Result<(), AllocError> {
         let Some(head) = self.head(term) else {
-            return text.push_str(&format!(in self.alloc(); "{}", Shown(term.name()))?);
+            return text.push_str(&format!(in self.alloc(); "{}", term.name())?);
         };
         match (head.as_str(table), head.name()) {
-            (None, Some(name)) => text.push_str(&format!(in self.alloc(); "{}", Shown(name))?),
+            (None, Some(name)) => text.push_str(&format!(in self.alloc(); "{}", name)?),
             (shown, _) => text.push_str(shown.unwrap_or("")),
         }
     }

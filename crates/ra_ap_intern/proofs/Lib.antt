@@ -1,6 +1,11 @@
 mod Answered
 mod Births
+mod CallerCollections
+mod CallerInterning
 pub mod CallerLemmas
+mod CallerReads
+mod CallerSlices
+mod CallerStates
 mod Collections
 mod Entries
 mod Following
@@ -10,3 +15,4 @@ mod Pairs
 mod Registering
 mod Tables
 mod Texts
+pub mod Visitors

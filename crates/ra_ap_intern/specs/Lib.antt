@@ -5,6 +5,7 @@ pub mod PairLaws
 pub mod Slices
 pub mod StorageLaws
 pub mod Symbols
+pub mod Visitors
 pub use Rattle.intern_marks.specs.Learning
 pub use Rattle.intern_marks.specs.Marks
 pub use Rattle.intern_marks.specs.Names

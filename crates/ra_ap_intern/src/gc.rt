@@ -19,6 +19,7 @@ mod family;
 mod learn;
 mod storages;
 mod visit;
+mod visitors;
 
 use crate::intern::{InternStorage, Internable, InternedRef};
 use crate::intern_slice::{InternSliceStorage, InternedSliceRef, SliceInternable};

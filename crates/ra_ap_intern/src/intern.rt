@@ -58,6 +58,18 @@ impl<T: Internable> InternStorage<T> {
     }
 }
 
+impl<'a, T: Internable> IntoIterator for &'a InternStorage<T> {
+    type Item = (InternedRef<T>, &'a T);
+
+    type IntoIter = Iter<'a, T>;
+
+    ghost into_iter_gives = { λ storage entries. IsPermutation entries (named_values storage.now) };
+
+    fn into_iter(self) -> Iter<'a, T> {
+        self.iter()
+    }
+}
+
 impl<T: Internable> Interned<T> {
     /// Counted mode: the owned handle of the value, which is counted once more.
     ///

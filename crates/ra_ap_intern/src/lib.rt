@@ -22,4 +22,4 @@ pub use intern_store::{Limits, Name, Refusal, Refused};
 pub use intern_table::{HeaderSlice, HeaderWithLength, Text};
 pub use kind::{Kind, Slices, Values};
 pub use storage::{Owned, Ref, Storage};
-pub use symbol::{Symbol, SymbolIter, SymbolRef, SymbolTable, symbols as sym};
+pub use symbol::{Symbol, SymbolDisplay, SymbolIter, SymbolRef, SymbolTable, symbols as sym};

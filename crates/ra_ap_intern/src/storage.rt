@@ -2,16 +2,17 @@
 //!
 //! What differs by kind, which is reading, interning and what a release gives back, is in `intern`
 //! and `intern_slice`.
-ghost use Rattle.std.specs.Prelude.{◌≡◌, ◌<◌, ◌==◌, IfOk};
+ghost use Rattle.std.specs.Prelude.{◌≡◌, ◌<◌, ◌==◌, is_some, IfOk};
 ghost use Rattle.std.specs.FinMap as map;
 ghost use Rattle.intern_store.specs.Named.{key_name};
 ghost use Rattle.intern_store.specs.Outcome.{Owes, Becomes};
-ghost use Rattle.intern_store.specs.State.{IsState, new_state, counts, counted_up, counted_down, due, full, zero_count};
+ghost use Rattle.intern_store.specs.State.{IsState, new_state, reads, counts, counted_up, counted_down, due, full, zero_count};
 ghost use Rattle.ra_ap_intern.specs.Handle.{name_of, ref_name};
 
 use crate::kind::Kind;
 use intern_store::{EntryKey, Limits, Name, Refusal, Store};
 use std::alloc::Global;
+use std::fmt;
 use std::marker::{Model, PhantomData};
 
 /// A storage of entries of a kind, each value kept once: an `InternStorage` or an
@@ -38,23 +39,35 @@ impl<K: Kind> Model for Storage<K> {
 
 /// An owned handle, which counts one: an `Interned` or an `InternedSlice`.
 ///
-/// Handles are compared and hashed by their names alone, so two of one storage are equal exactly
-/// if the values that they read are. Beside the name a handle holds the place of its entry, 24
-/// bytes in all.
+/// Handles are compared, ordered, hashed and shown by their names alone, so two of one storage are
+/// equal exactly if the values that they read are. Beside the name a handle holds the place of its
+/// entry, 24 bytes in all.
 #[derive(Drop)]
-#[derive_where(PartialEq, Eq, Hash)]
+#[derive_where(PartialEq, Eq, PartialOrd, Ord, Hash)]
 pub struct Owned<K> {
     pub(crate) reference: Ref<K>,
 }
 
 /// A reference, which counts nothing: an `InternedRef` or an `InternedSliceRef`. It is compared,
-/// ordered and hashed by its name alone: the storage's number, and then the birth.
+/// ordered, hashed and shown by its name alone: the storage's number, and then the birth.
 #[derive_where(Clone, Copy, PartialEq, Eq, PartialOrd, Ord, Hash)]
 pub struct Ref<K> {
     pub(crate) key: EntryKey,
     // The pointer lets a type hold handles of itself.
     #[derive_where(skip)]
     marker: PhantomData<*const K>,
+}
+
+impl<K> fmt::Debug for Owned<K> {
+    fn fmt<W: fmt::Write>(&self, f: &mut fmt::Formatter<W>) -> fmt::Result {
+        write!(f, "Owned({})", self.name())
+    }
+}
+
+impl<K> fmt::Debug for Ref<K> {
+    fn fmt<W: fmt::Write>(&self, f: &mut fmt::Formatter<W>) -> fmt::Result {
+        write!(f, "Ref({})", self.name())
+    }
 }
 
 impl<K: Kind> Storage<K> {
@@ -108,6 +121,13 @@ impl<K: Kind> Storage<K> {
     {
         self.store.count(reference.key)
     }
+
+    /// Whether the entry that a reference names is here.
+    pub fn contains(&self, reference: Ref<K>) -> bool
+        ensures { result ≡ is_some (reads self.now (ref_name reference)) }
+    {
+        self.count(reference).is_some()
+    }
 }
 
 impl<K: Kind> Owned<K> {
@@ -129,6 +149,21 @@ impl<K> Owned<K> {
         ensures { ref_name result ≡ name_of self.now }
     {
         self.reference
+    }
+
+    /// The entry's name: the storage's number and the birth.
+    pub fn name(&self) -> Name
+        ensures { result ≡ name_of self.now }
+    {
+        self.reference.name()
+    }
+}
+
+impl<'a, K> From<&'a Owned<K>> for Ref<K> {
+    ghost from_gives = { λ handle reference. ref_name reference ≡ name_of handle.now };
+
+    fn from(handle: &'a Owned<K>) -> Ref<K> {
+        handle.as_ref()
     }
 }
 

@@ -10,13 +10,15 @@ ghost use Rattle.std.specs.Option.{option_map};
 ghost use Rattle.std.specs.Str.{bytes_eq};
 ghost use Rattle.intern_store.specs.Outcome.{Owes, OwesBack, MayWant, Becomes};
 ghost use Rattle.intern_store.specs.State.{IsState, new_state, counted_up, full, any_count, released};
-ghost use Rattle.ra_ap_intern.specs.Symbols.{IsTable, symbol_name, symbol_ref_name, named_in, named_texts, entry_name, text_of, count_of, symbol_in, due_of, due_symbol, is_new_text, at_entry};
+ghost use Rattle.ra_ap_intern.specs.Symbols.{IsTable, symbol_name, symbol_ref_name, named_in, named_texts, entry_name, own_text, text_of, count_of, symbol_in, due_of, due_symbol, is_new_text, at_entry};
 ghost use Rattle.ra_ap_intern.specs.declared.symbol.symbols.TheConstants as sym;
 
+mod display;
 mod iter;
 mod numbered;
 pub mod symbols;
 
+pub use display::SymbolDisplay;
 use intern_store::{EntryKey, Limits, Name, Refusal, Refused, Store};
 use intern_table::{Table, Text};
 pub use iter::SymbolIter;
@@ -48,18 +50,19 @@ impl Model for SymbolTable {
 
 /// A symbol: a preset, or a handle of a text in a table, which counts one.
 ///
-/// Symbols are compared and hashed by what they name alone, so two of one table are equal exactly
-/// if their texts are.
+/// Symbols are compared, ordered and hashed by what they name alone, so two of one table are equal
+/// exactly if their texts are. Their order is that of presets and then of names, and not of texts.
 #[derive(Drop)]
-#[derive(PartialEq, Eq, Hash)]
+#[derive(PartialEq, Eq, PartialOrd, Ord, Hash)]
 pub struct Symbol(Source);
 
-/// A reference to a symbol, which counts nothing. It is compared and hashed by what it names alone.
-#[derive(Clone, Copy, PartialEq, Eq, Hash)]
+/// A reference to a symbol, which counts nothing. It is compared, ordered and hashed by what it
+/// names alone.
+#[derive(Clone, Copy, PartialEq, Eq, PartialOrd, Ord, Hash)]
 pub struct SymbolRef(Source);
 
 // Where the text of a symbol is.
-#[derive(Clone, Copy, PartialEq, Eq, Hash)]
+#[derive(Clone, Copy, PartialEq, Eq, PartialOrd, Ord, Hash)]
 enum Source {
     Preset(u16),
     Runtime(EntryKey),
@@ -196,6 +199,11 @@ impl Symbol {
         self.as_ref().as_str(table)
     }
 
+    /// The symbol as it is written by `{}`: its text, or its name where that can't be read.
+    pub fn display<'a>(&self, table: &'a SymbolTable) -> SymbolDisplay<'a> {
+        self.as_ref().display(table)
+    }
+
     /// A second symbol of the same text, which counts one more unless it is a preset.
     /// Refused, never for a preset: `Foreign`, `Gone`, `CountFull`.
     pub fn clone(&self, table: &mut SymbolTable) -> Result<Symbol, Refusal>
@@ -233,6 +241,14 @@ impl Symbol {
     }
 }
 
+impl<'a> From<&'a Symbol> for SymbolRef {
+    ghost from_gives = { λ symbol reference. symbol_ref_name reference ≡ symbol_name symbol.now };
+
+    fn from(symbol: &'a Symbol) -> SymbolRef {
+        symbol.as_ref()
+    }
+}
+
 impl SymbolRef {
     /// The name of the symbol's entry: the table's number and the birth. None for a preset.
     pub fn name(self) -> Option<Name>
@@ -258,6 +274,14 @@ impl SymbolRef {
         }
     }
 
+    /// The symbol as it is written by `{}`: its text, or its name where that can't be read.
+    pub fn display(self, table: &SymbolTable) -> SymbolDisplay<'_> {
+        SymbolDisplay {
+            symbol: self,
+            table,
+        }
+    }
+
     /// A symbol of the same text, which counts one more unless it is a preset.
     /// Refused, never for a preset: `Foreign`, `Gone`, `CountFull`.
     pub fn to_owned(self, table: &mut SymbolTable) -> Result<Symbol, Refusal>
@@ -273,6 +297,18 @@ impl SymbolRef {
                 table.store.count_up(key)?;
                 Ok(Symbol(self.0))
             }
+        }
+    }
+}
+
+impl SymbolRef {
+    // The text of a preset.
+    fn preset_text(self) -> Option<&'static str>
+        ensures { option_map (λ t. t.now) result ≡ own_text (symbol_ref_name self) }
+    {
+        match self.0 {
+            Source::Preset(place) => intern_presets::text(place),
+            Source::Runtime(_) => None,
         }
     }
 }

@@ -20,4 +20,6 @@ mod ported;
 #[cfg(test)]
 mod presets;
 #[cfg(test)]
+mod shown;
+#[cfg(test)]
 mod steps;

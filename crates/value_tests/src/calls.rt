@@ -91,16 +91,36 @@ fn x_twice_and_y(
 fn refusals(rt: HostRuntime) {
     let alloc = rt.alloc();
     for (why, number, text) in [
-        (Refusal::Foreign, 1, "the handle is of another storage"),
-        (Refusal::Gone, 2, "the entry is gone, or was never there"),
-        (Refusal::CountZero, 3, "the entry's count is zero already"),
-        (Refusal::CountFull, 4, "the entry's count is at its limit"),
+        (
+            Refusal::Foreign,
+            1,
+            "the handle is of another storage; use it with the one that gave it",
+        ),
+        (
+            Refusal::Gone,
+            2,
+            "the entry is gone, or was never there; intern its value anew",
+        ),
+        (
+            Refusal::CountZero,
+            3,
+            "the entry's count is zero already; no owner is left to release",
+        ),
+        (
+            Refusal::CountFull,
+            4,
+            "the entry's count is at its limit; release an owner first",
+        ),
         (
             Refusal::NumbersUsedUp,
             5,
-            "the storage has given all its births",
+            "the storage has given all its births; begin another one",
         ),
-        (Refusal::OutOfMemory, 6, "out of memory"),
+        (
+            Refusal::OutOfMemory,
+            6,
+            "out of memory; the storage is as it was",
+        ),
     ] {
         assert_eq!(rt; why.number(), number);
         is_printed(&rt, alloc, why, text);

@@ -25,6 +25,8 @@ mod ported;
 #[cfg(test)]
 mod readme;
 #[cfg(test)]
+mod shown;
+#[cfg(test)]
 mod steps;
 #[cfg(test)]
 mod strings;

@@ -1,4 +1,4 @@
-use Rattle.intern_store.proofs.Reading.{interned_reads}
+use Rattle.ra_ap_intern.proofs.CallerLemmas.{interned_reads}
 use Rattle.ra_ap_intern.proofs.laws.what_is_interned_is_read.Goals as goal
 
 pub returns : goal.returns

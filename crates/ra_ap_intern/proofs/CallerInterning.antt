@@ -1,0 +1,203 @@
+-- What interning gives, what look-ups answer, and whether two names are one.
+use Rattle.std.proofs.Common.{◌≡◌, ℕ, ◌+◌, ◌<◌, Bool, true, false, cond, Option, Some, None, IsSome, is_some, ◌⊎◌, inl, inr, refl, sym, ap, subst, ◌∙◌, arith}
+use Rattle.std.specs.Prelude.{◌↔◌}
+use Rattle.std.specs.Option.{option_map}
+use Rattle.std.specs.Cmp.{IsEquivalence}
+use Rattle.std.proofs.lemmas.Bool.{and_from, eq-eqb}
+use Rattle.std.proofs.lemmas.Option.{same_Some}
+use Rattle.intern_store.proofs.Births.{not_stored, is_stored}
+use Rattle.intern_store.proofs.Named.{names_same}
+use Rattle.intern_store.proofs.Reading.{interned_reads, equal_read}
+use Rattle.ra_ap_intern.specs.Kept.{is_at}
+use Rattle.ra_ap_intern.specs.Name.{Name}
+use Rattle.ra_ap_intern.specs.Named.{same_name}
+use Rattle.ra_ap_intern.specs.State.{State, IsState, name_in, reads, counts, counted_up, due, zero_count, added, or_added, interned, interned_name, interned_counted, birth_of, name_of_value}
+use Rattle.ra_ap_intern.proofs.CallerReads.{read_at, read_below, read_once, reads-added, counts_read, counts-recounted, due_counted, counted_up_reads, interned_reads_given}
+
+module _ {V : Type 0} (eq : V → V → Bool) where
+  -- a value equal to v is read under a name
+  abbrev pub ReadsEqual : State V → Name → V → Type 0
+  ReadsEqual s name v = (w : V) × (reads s name ≡ Some w) × (eq v w ≡ true)
+
+  -- ---- what an interning gives is read
+
+  -- in counted mode
+  pub interned_counted_reads : IsEquivalence eq → (s : State V) (v : V)
+      → ReadsEqual (interned_counted eq s v) (interned_name eq s v) v
+  interned_counted_reads laws s v =
+      let r = interned_reads eq laws s v in
+      (r.0, counted_up_reads (interned eq s v).state (interned eq s v).birth _ ∙ r.1, r.2)
+
+  -- an entry is read
+  pub interned_is_read : IsEquivalence eq → (s : State V) (v : V)
+      → IsSome (reads (interned eq s v).state (interned_name eq s v))
+  interned_is_read laws s v = ap is_some (interned_reads eq laws s v).1
+
+  pub interned_counted_is_read : IsEquivalence eq → (s : State V) (v : V)
+      → IsSome (reads (interned_counted eq s v) (interned_name eq s v))
+  interned_counted_is_read laws s v = ap is_some (interned_counted_reads laws s v).1
+
+  -- its count isn't zero in counted mode, so the handle can be released
+  pub interned_counted_counts : IsEquivalence eq → (s : State V) (v : V)
+      → (n : ℕ) × (counts (interned_counted eq s v) (interned_name eq s v) ≡ Some (n + 1))
+  interned_counted_counts laws s v =
+      let i = interned eq s v in
+      let name = interned_name eq s v in
+      let c = counts_read i.state name (interned_is_read laws s v) in
+      let here : same_name name (name_in i.state i.birth) ≡ true =
+      and_from _ _ (eq-eqb s.number i.state.number (sym number)) (eq-eqb i.birth i.birth refl) in (
+        c.0,
+        counts-recounted (λ n. n + 1) i.state i.birth name
+            ∙ ap (λ t. cond t (option_map (λ n. n + 1) (counts i.state name)) (counts i.state name)) here
+            ∙ ap (option_map (λ n. n + 1)) c.1,
+      )
+    where
+      number : (interned eq s v).state.number ≡ s.number
+      number = go (birth_of eq s v)
+        where
+          go : (o : Option ℕ) → (or_added o s v).state.number ≡ s.number
+          go (Some b) = refl
+          go None = refl
+
+  pub interned_counted_due : IsEquivalence eq → (s : State V) (v : V)
+      → due (interned_counted eq s v) (interned_name eq s v) zero_count ≡ None
+  interned_counted_due laws s v =
+      let c = interned_counted_counts laws s v in
+      due_counted (interned_counted eq s v) (interned_name eq s v) c.0 c.1
+
+  -- ---- what a look-up answers
+
+  -- it reads an equal value
+  pub found_reads : (s : State V) (v : V) (name : Name) → name_of_value eq s v ≡ Some name
+      → ReadsEqual s name v
+  found_reads s v name is = go (birth_of eq s v) refl is
+    where
+      go : (o : Option ℕ) → birth_of eq s v ≡ o → option_map (name_in s) o ≡ Some name
+          → ReadsEqual s name v
+      go (Some b) stored h =
+          let same : name_in s b ≡ name = cc in
+          subst (λ n. ReadsEqual s n v) same (equal_read eq s v b (is_stored eq s v b stored))
+      go None stored h = absurd (cc)
+
+  -- where it answers nothing, no name reads an equal value
+  pub none_found : (s : State V) (v : V) → name_of_value eq s v ≡ None → (name : Name) (w : V)
+      → reads s name ≡ Some w → eq v w ≡ false
+  none_found s v none name w read = go (birth_of eq s v) refl none
+    where
+      go : (o : Option ℕ) → birth_of eq s v ≡ o → option_map (name_in s) o ≡ None
+          → eq v w ≡ false
+      go (Some b) is h = absurd (cc)
+      go None is h =
+          let r = read_at s name w read in
+          ap (eq v) (sym r.same) ∙ sym (ap (is_at eq v) r.at) ∙ not_stored eq s v is name.birth
+
+  -- the look-up of what is read answers its name
+  pub read_found : IsEquivalence eq → (s : State V) → IsState eq s → (v : V) (name : Name) (w : V)
+      → reads s name ≡ Some w → eq v w ≡ true → name_of_value eq s v ≡ Some name
+  read_found laws s ok v name w read same = go (name_of_value eq s v) refl
+    where
+      go : (o : Option Name) → name_of_value eq s v ≡ o → o ≡ Some name
+      go None none = let no = none_found s v none name w read in absurd (cc)
+      go (Some n) is =
+          let r = found_reads s v n is in
+          let alike = sym (laws.congr v r.0 w r.2) ∙ same in
+          ap Some (read_once eq s ok n name r.0 w r.1 read alike)
+
+  -- ---- whether two names are one
+
+  -- what names need to tell values: each that is read was given, and no two read equal values
+  record IsTelling (s : State V) : Type 0 where
+    pub below : (name : Name) (v : V) → reads s name ≡ Some v → name.birth < s.next
+    pub apart : (n m : Name) (v w : V) → reads s n ≡ Some v → reads s m ≡ Some w
+        → eq v w ≡ true → n ≡ m
+
+  state_telling : (s : State V) → IsState eq s → IsTelling s
+  state_telling s ok = record {
+    below = λ name v read. read_below eq s ok name (ap is_some read);
+    apart = read_once eq s ok;
+  }
+
+  counted_telling : (s : State V) (b : ℕ) → IsTelling s → IsTelling (counted_up s b)
+  counted_telling s b is = record {
+    below = λ name v read. is.below name v (sym (counted_up_reads s b name) ∙ read);
+    apart = λ n m v w first second. is.apart n m v w
+        (sym (counted_up_reads s b n) ∙ first) (sym (counted_up_reads s b m) ∙ second);
+  }
+
+  -- what is read of a state with a new entry is that entry, or was read
+  new_or_old : (s : State V) (v : V) (name : Name) (w : V) → reads (added s v) name ≡ Some w
+      → ((name ≡ name_in s s.next) × (v ≡ w)) ⊎ (reads s name ≡ Some w)
+  new_or_old s v name w read =
+      go (same_name name (name_in s s.next)) refl (sym (reads-added s v name) ∙ read)
+    where
+      go : (t : Bool) → same_name name (name_in s s.next) ≡ t
+          → cond t (Some v) (reads s name) ≡ Some w
+          → ((name ≡ name_in s s.next) × (v ≡ w)) ⊎ (reads s name ≡ Some w)
+      go true here h = inl (names_same _ _ here, same_Some _ _ h)
+      go false other h = inr h
+
+  added_telling : IsEquivalence eq → (s : State V) (v : V) → IsTelling s
+      → name_of_value eq s v ≡ None → IsTelling (added s v)
+  added_telling laws s v is none = record {
+    below = λ name w read. elim (new_or_old s v name w read) [
+      | inl new ↦ let birth = ap (λ (n : Name). n.birth) new.0 in omega arith
+      | inr old ↦ let below = is.below name w old in omega arith
+    ];
+    apart = λ n m x y first second same. elim (new_or_old s v n x first) [
+      | inl new ↦ elim (new_or_old s v m y second) [
+        | inl too ↦ new.0 ∙ sym too.0
+        | inr old ↦
+            let no = none_found s v none m y old in
+            let yes : eq v y ≡ true = ap (λ z. eq z y) new.1 ∙ same in
+            absurd (cc)
+      ]
+      | inr was ↦ elim (new_or_old s v m y second) [
+        | inl too ↦
+            let no = none_found s v none n x was in
+            let yes : eq v x ≡ true = laws.symm v x ∙ ap (eq x) too.1 ∙ same in
+            absurd (cc)
+        | inr old ↦ is.apart n m x y was old same
+      ]
+    ];
+  }
+
+  interned_telling : IsEquivalence eq → (s : State V) (v : V) → IsTelling s
+      → IsTelling (interned eq s v).state
+  interned_telling laws s v is = go (birth_of eq s v) refl
+    where
+      go : (o : Option ℕ) → birth_of eq s v ≡ o → IsTelling (or_added o s v).state
+      go (Some b) found = is
+      go None none = added_telling laws s v is (ap (option_map (name_in s)) none)
+
+  -- a value that is interned gets the name of what is read exactly if the two are equal
+  named_alike : IsEquivalence eq → (s : State V) (name : Name) (v x w : V) → IsTelling s
+      → reads s name ≡ Some x → eq v x ≡ true → (name ≡ interned_name eq s w) ↔ (eq v w ≡ true)
+  named_alike laws s name v x w is read same =
+      let t = (interned eq s w).state in
+      let r = interned_reads eq laws s w in
+      let stays = interned_reads_given eq s w name (is.below name x read) ∙ read in (
+        λ one.
+            let both : x ≡ r.0 =
+            same_Some _ _ (sym stays ∙ ap (reads t) one ∙ r.1) in
+            laws.congr v x w same ∙ laws.symm x w ∙ ap (eq w) both ∙ r.2,
+        λ alike.
+            (interned_telling laws s w is).apart name (interned_name eq s w) x r.0 stays r.1
+            (sym (laws.congr v x r.0 same) ∙ laws.congr v w r.0 alike ∙ r.2),
+      )
+
+  -- two values that are interned one after the other get one name exactly if they are equal
+  pub interned_twice : IsEquivalence eq → (s : State V) → IsState eq s → (v w : V)
+      → (interned_name eq s v ≡ interned_name eq (interned eq s v).state w) ↔ (eq v w ≡ true)
+  interned_twice laws s ok v w =
+      let r = interned_reads eq laws s v in
+      named_alike laws (interned eq s v).state (interned_name eq s v) v r.0 w
+      (interned_telling laws s v (state_telling s ok)) r.1 r.2
+
+  -- and so in counted mode
+  pub interned_counted_twice : IsEquivalence eq → (s : State V) → IsState eq s → (v w : V)
+      → (interned_name eq s v ≡ interned_name eq (interned_counted eq s v) w) ↔ (eq v w ≡ true)
+  interned_counted_twice laws s ok v w =
+      let i = interned eq s v in
+      let r = interned_counted_reads laws s v in
+      named_alike laws (interned_counted eq s v) (interned_name eq s v) v r.0 w
+      (counted_telling i.state i.birth (interned_telling laws s v (state_telling s ok))) r.1 r.2

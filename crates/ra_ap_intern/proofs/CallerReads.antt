@@ -1,0 +1,234 @@
+-- What names read, and what they read after each change of a storage.
+use Rattle.std.proofs.Common.{◌≡◌, ◌≢◌, ℕ, ◌+◌, ◌-◌, ◌<◌, Bool, true, false, cond, not, ◌&&◌, ◌==◌, Option, Some, None, IsSome, is_some, nat_eq, refl, sym, ap, subst, ◌∙◌, arith, lt_irrefl}
+use Rattle.std.specs.Option.{option_map, option_eq}
+use Rattle.std.proofs.lemmas.Bool.{and_parts, and_right, eq-eqb, eqb-true, ne_eqb}
+use Rattle.std.proofs.lemmas.Option.{same_Some}
+use Rattle.intern_store.proofs.Compared.{get-inserted, get-removed, get-modified}
+use Rattle.intern_store.proofs.Reading.{recounted_reads}
+use Rattle.ra_ap_intern.specs.Kept.{Kept, recount}
+use Rattle.ra_ap_intern.specs.Name.{Name}
+use Rattle.ra_ap_intern.specs.Named.{same_name}
+use Rattle.ra_ap_intern.specs.Refusal.{Refusal}
+use Rattle.ra_ap_intern.specs.Refusal.TheVariants.{Foreign, CountZero}
+use Rattle.ra_ap_intern.specs.State.{State, IsState, entry_at, name_in, reads, counts, count_at, with_count, counted_up, counted_down, taken, is_last, released, due, due_at, any_count, zero_count, added, or_added, interned, interned_counted, birth_of}
+
+module _ {V : Type 0} where
+  abbrev value : Option (Kept V) → Option V
+  value = option_map (λ k. k.value)
+
+  -- what is read is that of an entry
+  pub record IsReadAt (s : State V) (name : Name) (v : V) : Type 0 where
+    pub home : name.storage ≡ s.number
+    pub kept : Kept V
+    pub at : entry_at s name.birth ≡ Some kept
+    pub same : kept.value ≡ v
+
+  pub read_at : (s : State V) (name : Name) (v : V) → reads s name ≡ Some v → IsReadAt s name v
+  read_at s name v is = go (name.storage == s.number) (entry_at s name.birth) refl refl is
+    where
+      go : (t : Bool) (o : Option (Kept V)) → (name.storage == s.number) ≡ t
+          → entry_at s name.birth ≡ o → cond t (value o) None ≡ Some v → IsReadAt s name v
+      go true (Some k) home at h = record {
+        home = eqb-true _ _ home;
+        kept = k;
+        at = at;
+        same = cc;
+      }
+      go true None home at h = absurd (cc)
+      go false o home at h = absurd (cc)
+
+  -- some value, where there is one
+  pub some_read : (o : Option V) → IsSome o → (v : V) × (o ≡ Some v)
+  some_read (Some v) is = (v, refl)
+  some_read None is = absurd (cc)
+
+  -- the birth of what is read was given
+  pub read_below : (eq : V → V → Bool) (s : State V) → IsState eq s → (name : Name)
+      → IsSome (reads s name) → name.birth < s.next
+  read_below eq s ok name is =
+      let v = some_read _ is in
+      let r = read_at s name v.0 v.1 in
+      ok.below name.birth (ap is_some r.at)
+
+  -- names that read equal values are equal
+  pub read_once : (eq : V → V → Bool) (s : State V) → IsState eq s → (n m : Name) (v w : V)
+      → reads s n ≡ Some v → reads s m ≡ Some w → eq v w ≡ true → n ≡ m
+  read_once eq s ok n m v w first second same =
+      let r = read_at s n v first in
+      let q = read_at s m w second in
+      let birth = ok.apart n.birth m.birth r.kept q.kept r.at q.at
+      (ap (λ x. eq x q.kept.value) r.same ∙ ap (eq v) q.same ∙ same) in
+      let storage = r.home ∙ sym q.home in
+      λ i. record { storage = storage i; birth = birth i }
+
+  -- a name has an entry, which this test of its count lets pass
+  pub record IsThere (s : State V) (name : Name) (test : ℕ → Option Refusal) : Type 0 where
+    pub kept : Kept V
+    pub home : name.storage ≡ s.number
+    pub at : entry_at s name.birth ≡ Some kept
+    pub passes : test kept.count ≡ None
+
+  -- where nothing is due
+  pub is_there : (s : State V) (name : Name) (test : ℕ → Option Refusal) → due s name test ≡ None
+      → IsThere s name test
+  is_there s name test is = go (name.storage == s.number) (entry_at s name.birth) refl refl is
+    where
+      go : (t : Bool) (o : Option (Kept V)) → (name.storage == s.number) ≡ t
+          → entry_at s name.birth ≡ o → cond t (due_at o test) (Some Foreign) ≡ None
+          → IsThere s name test
+      go true (Some k) home at h = record {
+        kept = k;
+        home = eqb-true name.storage s.number home;
+        at = at;
+        passes = h;
+      }
+      go true None home at h = absurd (cc)
+      go false o home at h = absurd (cc)
+
+  -- a name is read where nothing is due of it
+  pub read_due : (s : State V) (name : Name) → due s name any_count ≡ None → IsSome (reads s name)
+  read_due s name is =
+      let there = is_there s name any_count is in
+      ap (λ t. is_some (cond t (value (entry_at s name.birth)) None)) (eq-eqb _ _ there.home)
+      ∙ ap (λ o. is_some (value o)) there.at
+
+  -- a new entry reads its value, and each other name what it read
+  pub reads-added : (s : State V) (w : V) (name : Name)
+      → reads (added s w) name ≡ cond (same_name name (name_in s s.next)) (Some w) (reads s name)
+  reads-added s w name =
+      ap (λ o. cond (name.storage == s.number) (value o) None)
+      (get-inserted s.map s.next (record { value = w; count = 0 }) name.birth)
+      ∙ go (name.storage == s.number) (nat_eq name.birth s.next)
+    where
+      go : (t u : Bool)
+          → cond t (value (cond u (Some (record { value = w; count = 0 })) (entry_at s name.birth))) None
+          ≡ cond (t && u) (Some w) (cond t (value (entry_at s name.birth)) None)
+      go true true = refl
+      go true false = refl
+      go false u = refl
+
+  -- ---- counts
+
+  -- what is read has a count
+  pub counts_read : (s : State V) (name : Name) → IsSome (reads s name)
+      → (n : ℕ) × (counts s name ≡ Some n)
+  counts_read s name is = go (name.storage == s.number) (entry_at s name.birth) is
+    where
+      go : (t : Bool) (o : Option (Kept V)) → IsSome (cond t (value o) None)
+          → (n : ℕ) × (cond t (option_map (λ k. k.count) o) None ≡ Some n)
+      go true (Some k) h = (k.count, refl)
+      go true None h = absurd (cc)
+      go false o h = absurd (cc)
+
+  -- a handle whose entry has a count can be released
+  pub due_counted : (s : State V) (name : Name) (n : ℕ) → counts s name ≡ Some (n + 1)
+      → due s name zero_count ≡ None
+  due_counted s name n is = go (name.storage == s.number) (entry_at s name.birth) is
+    where
+      go : (t : Bool) (o : Option (Kept V)) → cond t (option_map (λ k. k.count) o) None ≡ Some (n + 1)
+          → cond t (due_at o zero_count) (Some Foreign) ≡ None
+      go true (Some k) h =
+          let same : k.count ≡ n + 1 = same_Some _ _ h in
+          ap (λ t. cond t (Some CountZero) None) (ne_eqb k.count 0 (λ none. absurd (omega (arith, same, none))))
+      go true None h = absurd (cc)
+      go false o h = absurd (cc)
+
+  -- a change of a count changes that of its name alone
+  pub counts-recounted : (f : ℕ → ℕ) (s : State V) (b : ℕ) (name : Name)
+      → counts (with_count f s b (entry_at s b)) name
+      ≡ cond (same_name name (name_in s b)) (option_map f (counts s name)) (counts s name)
+  counts-recounted f s b name =
+      ap (λ o. cond (name.storage == s.number) (option_map (λ (k : Kept V). k.count) o) None)
+      (get-modified (recount f) s.map b name.birth)
+      ∙ go (name.storage == s.number) (nat_eq name.birth b) (entry_at s name.birth)
+    where
+      go : (t u : Bool) (o : Option (Kept V))
+          → cond t (option_map (λ k. k.count) (cond u (option_map (recount f) o) o)) None
+          ≡ cond (t && u) (option_map f (cond t (option_map (λ k. k.count) o) None)) (cond t (option_map (λ k. k.count) o) None)
+      go true true (Some k) = refl
+      go true true None = refl
+      go true false o = refl
+      go false u o = refl
+
+  -- ---- after a count
+
+  pub counted_up_reads : (s : State V) (b : ℕ) (name : Name)
+      → reads (counted_up s b) name ≡ reads s name
+  counted_up_reads s b name = recounted_reads (λ n. n + 1) s b name
+
+  pub counted_down_reads : (s : State V) (b : ℕ) (name : Name)
+      → reads (counted_down s b) name ≡ reads s name
+  counted_down_reads s b name = recounted_reads (λ n. n - 1) s b name
+
+  -- ---- after an interning
+
+  -- a name whose birth was given reads what it read
+  pub interned_reads_given : (eq : V → V → Bool) (s : State V) (w : V) (name : Name)
+      → name.birth < s.next → reads (interned eq s w).state name ≡ reads s name
+  interned_reads_given eq s w name given = go (birth_of eq s w)
+    where
+      other : (t : Bool) → same_name name (name_in s s.next) ≡ t
+          → cond t (Some w) (reads s name) ≡ reads s name
+      other true here =
+          let birth : name.birth ≡ s.next = eqb-true _ _ (and_parts _ _ here).1 in
+          absurd (lt_irrefl s.next (subst (λ b. b < s.next) birth given))
+      other false differs = refl
+
+      go : (o : Option ℕ) → reads (or_added o s w).state name ≡ reads s name
+      go (Some b) = refl
+      go None = reads-added s w name ∙ other (same_name name (name_in s s.next)) refl
+
+  -- the same where it is counted once more
+  pub interned_counted_reads_given : (eq : V → V → Bool) (s : State V) (w : V) (name : Name)
+      → name.birth < s.next → reads (interned_counted eq s w) name ≡ reads s name
+  interned_counted_reads_given eq s w name given =
+      counted_up_reads (interned eq s w).state (interned eq s w).birth name
+      ∙ interned_reads_given eq s w name given
+
+  -- what is read is read after an interning
+  pub interned_reads_on : (eq : V → V → Bool) (s : State V) → IsState eq s → (w : V) (name : Name)
+      (v : V) → reads s name ≡ Some v → reads (interned eq s w).state name ≡ Some v
+  interned_reads_on eq s ok w name v read =
+      interned_reads_given eq s w name (read_below eq s ok name (ap is_some read)) ∙ read
+
+  pub interned_counted_reads_on : (eq : V → V → Bool) (s : State V) → IsState eq s → (w : V)
+      (name : Name) (v : V) → reads s name ≡ Some v → reads (interned_counted eq s w) name ≡ Some v
+  interned_counted_reads_on eq s ok w name v read =
+      interned_counted_reads_given eq s w name (read_below eq s ok name (ap is_some read)) ∙ read
+
+  -- ---- after a release
+
+  -- a name of another birth reads what it read
+  pub taken_reads : (s : State V) (b : ℕ) (name : Name) → name.birth ≢ b
+      → reads (taken s b) name ≡ reads s name
+  taken_reads s b name other =
+      ap (λ o. cond (name.storage == s.number) (value o) None)
+      (get-removed s.map b name.birth
+      ∙ ap (λ t. cond t None (entry_at s name.birth)) (ne_eqb name.birth b other))
+
+  pub released_reads : (stays : Bool) (s : State V) (b : ℕ) (name : Name) → name.birth ≢ b
+      → reads (released stays s b) name ≡ reads s name
+  released_reads stays s b name other = go (is_last stays s b)
+    where
+      go : (t : Bool) → reads (cond t (taken s b) (counted_down s b)) name ≡ reads s name
+      go true = taken_reads s b name other
+      go false = counted_down_reads s b name
+
+  -- where the entry isn't taken out, each name does
+  pub released_reads_all : (stays : Bool) (s : State V) (b : ℕ) → is_last stays s b ≡ false
+      → (name : Name) → reads (released stays s b) name ≡ reads s name
+  released_reads_all stays s b more name =
+      ap (λ t. reads (cond t (taken s b) (counted_down s b)) name) more
+      ∙ counted_down_reads s b name
+
+  -- an entry that is counted more than once isn't taken out
+  pub not_last : (stays : Bool) (s : State V) (b n : ℕ) → count_at s b ≡ Some n → 1 < n
+      → is_last stays s b ≡ false
+  not_last stays s b n is more =
+      ap (λ o. not stays && option_eq ◌==◌ o (Some 1)) is
+      ∙ ap (λ t. not stays && t) (ne_eqb n 1 (λ same. absurd (omega (arith, same, more))))
+      ∙ and_right (not stays) false refl
+
+  -- nor is one in collected mode
+  pub stays_not_last : (s : State V) (b : ℕ) → is_last true s b ≡ false
+  stays_not_last s b = refl

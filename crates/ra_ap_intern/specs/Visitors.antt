@@ -1,0 +1,14 @@
+-- What references declare, and what is made of visitors.
+use Rattle.std.specs.Prelude.{List, [], ◌∷◌, Option, Some, None}
+use Rattle.intern_store.specs.declared.names.Name.{Name}
+use Rattle.ra_ap_intern.specs.Handle.{ref_name}
+use Rattle.ra_ap_intern.specs.declared.storage.Ref.{Ref}
+
+-- a reference declares the name of its entry
+abbrev pub own_name : {K : Type 0} → Ref K → List Name
+own_name reference = ref_name reference ∷ []
+
+-- an option declares what is in it
+abbrev pub of_option : {V : Type 0} → (V → List Name) → Option V → List Name
+of_option children None = []
+of_option children (Some v) = children v

@@ -1,0 +1,41 @@
+//! Look-ups in collected mode: what is found reads an equal value.
+#![tactic(auto)]
+
+ghost use Rattle.std.specs.Prelude.{◌≡◌, true, false, Some, IfOk, IfSome, IfNone};
+ghost use Rattle.ra_ap_intern.specs.Handle.{ref_name};
+ghost use Rattle.ra_ap_intern.specs.Name.{Name};
+ghost use Rattle.ra_ap_intern.specs.Outcome.{Becomes, MayWantBack};
+ghost use Rattle.ra_ap_intern.specs.State.{reads, is_new, interned, interned_name, due_interning, any_count};
+
+use ra_ap_intern::{InternStorage, Internable, Interned, InternedRef, Refused};
+
+/// The reference of a value, which is stored where no equal one is. Refused, with the value back:
+/// `NumbersUsedUp` and `OutOfMemory` where it isn't stored.
+pub fn find_or_intern<T: Internable + Drop>(
+    storage: &mut InternStorage<T>,
+    value: T,
+) -> Result<InternedRef<T>, Refused<T>>
+    requires { T.Internable.USE_GC ≡ true }
+    ensures name { IfOk result (λ r. ref_name r ≡ interned_name T.eq storage.old value) }
+    ensures refused { MayWantBack result (due_interning T.eq storage.old value any_count)
+        (is_new T.eq storage.old value) value }
+    ensures state { Becomes result storage.old storage.new
+        (interned T.eq storage.old value).state }
+    ensures reads { IfOk result (λ r. (w : T)
+        × (reads storage.new (ref_name r) ≡ Some w) × (T.eq value w ≡ true)) }
+{
+    let (reference, _) = Interned::new_gc(storage, value)?;
+    Ok(reference)
+}
+
+/// The stored value that equals this one. None where there is none.
+pub fn find<'a, T: Internable>(storage: &'a InternStorage<T>, value: &T) -> Option<&'a T>
+    ensures found { IfSome result (λ w. T.eq value.now w.now ≡ true) }
+    ensures none { IfNone result ((n : Name) (w : T) →
+        reads storage.now n ≡ Some w → T.eq value.now w ≡ false) }
+{
+    storage.get(value)?.get(storage)
+}
+
+#[cfg(test)]
+mod tests;

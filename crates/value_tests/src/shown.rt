@@ -1,0 +1,93 @@
+//! The small calls on handles, texts and refusals: how they are written, converted and found.
+use crate::words::{Words, frees, intern_new};
+use intern_fixtures::{Word, allowed, make_word};
+use ra_ap_intern::{InternStorage, Interned, InternedRef, Limits, Refusal, Text};
+use std::alloc::Global;
+use std::process::Abort;
+
+#[test]
+fn handles_are_shown_by_their_names(rt: HostRuntime) {
+    let alloc = rt.alloc();
+    let mut storage = InternStorage::new(alloc, 3);
+    let x = intern_new(&rt, alloc, &mut storage, "x", 0);
+    let y = intern_new(&rt, alloc, &mut storage, "y", 1);
+    let shown: Result<_, _> = format!(in alloc; "{:?} {:?} {}", x, y.as_ref(), y.name());
+    assert_eq!(rt;
+        shown.expect(&rt, "memory").as_str(),
+        "Owned(#3.0) Ref(#3.1) #3.1"
+    );
+    assert!(rt; x < y);
+}
+
+#[test]
+fn a_reference_is_made_from_a_handle(rt: HostRuntime) {
+    let alloc = rt.alloc();
+    let mut storage = InternStorage::new(alloc, 1);
+    let x = intern_new(&rt, alloc, &mut storage, "x", 0);
+    let reference: InternedRef<Word> = InternedRef::from(&x);
+    assert_eq!(rt; reference.name(), x.name());
+    assert!(rt; storage.contains(reference));
+    frees(&rt, &mut storage, x, "x");
+    assert!(rt; !storage.contains(reference));
+}
+
+#[test]
+fn a_loop_walks_over_a_storage(rt: HostRuntime) {
+    let alloc = rt.alloc();
+    let mut storage = InternStorage::new(alloc, 1);
+    let _ = intern_new(&rt, alloc, &mut storage, "x", 0);
+    let _ = intern_new(&rt, alloc, &mut storage, "y", 1);
+    let mut births = 0u64;
+    for (reference, _word) in &storage {
+        births = births.wrapping_add(reference.as_raw()).wrapping_add(1);
+    }
+    assert_eq!(rt; births, 3);
+}
+
+#[test]
+fn a_text_is_made_from_a_string(rt: HostRuntime) {
+    let alloc = rt.alloc();
+    let string = String::from_str(alloc, "word").expect(&rt, "memory");
+    let text = Text::from(string);
+    assert!(rt; text.is("word"));
+    assert!(rt; !text.is("work"));
+    let shown: Result<_, _> = format!(in alloc; "{text}");
+    assert_eq!(rt; shown.expect(&rt, "memory").as_str(), "word");
+}
+
+#[test]
+fn a_text_is_found_without_a_copy(rt: HostRuntime) {
+    let alloc = rt.alloc();
+    let mut texts = InternStorage::new(alloc, 1);
+    let word = Text::new(alloc, "word").expect(&rt, "memory");
+    let (word, _) = allowed(Interned::new(&mut texts, word)).expect(&rt, "interned");
+    assert!(rt; texts.get_text("word") == Some(word.as_ref()));
+    assert!(rt; texts.get_text("work").is_none());
+}
+
+/// Interns a word, passes a refusal on, and answers the birth.
+fn interns(storage: &mut InternStorage<Word>, word: Word) -> Result<u64, Refusal> {
+    let (handle, _back) = Interned::new(storage, word)?;
+    Ok(handle.name().birth)
+}
+
+#[test]
+fn a_refusal_is_passed_on(rt: HostRuntime) {
+    let alloc = rt.alloc();
+    let mut storage: Words = InternStorage::with_limits(alloc, 1, Limits { top: 1, numbers: 1 });
+    assert_eq!(rt; interns(&mut storage, word_of(&rt, alloc, "x")), Ok(0));
+    assert_eq!(rt;
+        interns(&mut storage, word_of(&rt, alloc, "x")),
+        Err(Refusal::CountFull)
+    );
+    assert_eq!(rt;
+        interns(&mut storage, word_of(&rt, alloc, "y")),
+        Err(Refusal::NumbersUsedUp)
+    );
+    assert_eq!(rt; Limits::default(), Limits::MAX);
+}
+
+/// The word of a text.
+fn word_of(rt: &impl Abort, alloc: Global, text: &str) -> Word {
+    make_word(alloc, text).expect(rt, "memory")
+}
