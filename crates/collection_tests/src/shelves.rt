@@ -64,12 +64,12 @@ fn each_field_is_visited(rt: HostRuntime) {
 fn keeps_four(rt: &impl Abort, shelf: Shelf, nodes: Nodes, alloc: Global) {
     let mut shelves = InternStorage::new(alloc, 2);
     let shelf: InternedRef<Shelf> = intern(rt, &mut shelves, shelf, 0);
-    let root = shelf.name();
     let mut family = Pair {
         first: nodes,
         second: shelves,
     };
-    let told = GarbageCollector::new(alloc).collect_keeping(&mut family, &[root]);
+    assert!(rt; GarbageCollector::distinct(&family));
+    let told = GarbageCollector::new(alloc).collect_from(&mut family, &shelf);
     let told = told.expect(rt, "memory");
     assert_eq!(rt; (told.visits, told.mark_calls, told.removed), (5, 4, 1));
 }

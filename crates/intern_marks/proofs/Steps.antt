@@ -1,15 +1,15 @@
 -- What a mark call and the placing of a root do.
-use Rattle.std.proofs.Common.{ℕ, ◌≡◌, ◌+◌, ◌-◌, ◌^◌, ◌≤◌, min, take, length, Bool, true, false, not, cond, ◌&&◌, ◌||◌, List, [], ◌∷◌, ◌++◌, refl, sym, ◌∙◌, ap, inl, inr, arith, length-append}
+use Rattle.std.proofs.Common.{ℕ, ◌≡◌, ◌+◌, ◌-◌, ◌^◌, ◌≤◌, min, take, length, Bool, true, false, not, cond, ◌&&◌, ◌||◌, List, [], ◌∷◌, ◌++◌, Option, Some, None, refl, sym, ◌∙◌, ap, inl, inr, arith, length-append}
 use Rattle.std.specs.List.{IsDistinct, fold}
 use Rattle.std.specs.FinMap.{FinMap, get}
 use Rattle.std.proofs.Math.Bool.{or-false}
-use Rattle.std.proofs.lemmas.Bool.{cases_Bool}
+use Rattle.std.proofs.lemmas.Bool.{cases_Bool, or_left}
 use Rattle.std.proofs.lemmas.List.{take-append-le}
 use Rattle.std.proofs.lemmas.Map.Keys.{IsDistinct-push}
 use Rattle.intern_store.specs.declared.names.Name.{Name}
 use Rattle.intern_store.specs.Named.{same_name}
 use Rattle.intern_marks.specs.Names.{has, name_cmp}
-use Rattle.intern_marks.specs.Marks.{Marks, may_be, placed, tick, mark, marks, root, roots}
+use Rattle.intern_marks.specs.Marks.{Marks, may_be, placed, tick, mark, marks, untold, root, roots}
 use Rattle.intern_store.proofs.Named.{names_same}
 use Rattle.intern_marks.proofs.Names.{same_name_is_equivalence, has_append}
 
@@ -129,3 +129,30 @@ pub roots-calls : (m : Marks) (ns : List Name) → (roots m ns).calls ≡ m.call
 unfolding placed
 roots-calls m [] = refl
 roots-calls m (n ∷ ns) = roots-calls (root m n) ns
+
+-- where the counted names are marked, mark calls mark what roots do
+abbrev AreMarked : Marks → Type 0
+AreMarked m = (x : Name) → get m.registered x ≡ Some true → has m.marked x ≡ true
+
+next_either : (o : Option Bool) (is : Bool) → (o ≡ Some true → is ≡ true)
+    → (may_be false o && not is) ≡ (may_be true o && not is)
+next_either None is there = refl
+next_either (Some false) is there = refl
+next_either (Some true) true there = refl
+next_either (Some true) false there = let no = there refl in absurd (cc)
+
+still_marked : (m : Marks) (n : Name) → AreMarked m → AreMarked (mark m n)
+still_marked m n there x counted =
+    ap (λ l. has l x) (mark_places.marked m n) ∙ listed_has (may_be false (get m.registered n)) m.marked n x
+    ∙ or_left _ _ (there x (ap (λ (r : FinMap name_cmp Bool). get r x) (sym (mark_places.registered m n)) ∙ counted))
+
+mark_as_root : (m : Marks) (n : Name) → AreMarked m → untold (mark m n) ≡ root (untold m) n
+unfolding placed
+mark_as_root m n there =
+    ap (λ b. record m { marked = cond b (m.marked ++ n ∷ []) m.marked; calls = 0 })
+    (next_either (get m.registered n) (has m.marked n) (there n))
+
+pub marks_as_roots : (m : Marks) (ns : List Name) → AreMarked m → untold (marks m ns) ≡ roots (untold m) ns
+marks_as_roots m [] there = refl
+marks_as_roots m (n ∷ ns) there =
+    marks_as_roots (mark m n) ns (still_marked m n there) ∙ ap (λ p. roots p ns) (mark_as_root m n there)

@@ -11,13 +11,13 @@ use Rattle.std.proofs.lemmas.Bool.{cases_Bool, and_parts, and_from, or_cases, or
 use Rattle.intern_store.specs.declared.names.Name.{Name}
 use Rattle.intern_store.specs.Named.{same_name}
 use Rattle.intern_marks.specs.Names.{has, name_cmp}
-use Rattle.intern_marks.specs.Marks.{Marks, fresh, visited, may_be, mark, marks, root, roots, begun}
+use Rattle.intern_marks.specs.Marks.{Marks, fresh, visited, may_be, mark, marks, untold, root, roots, begun}
 use Rattle.intern_marks.specs.Reach.{Entry, entry_of, is_entry, is_counted, counted_entry, children_in, starts, starts_with, IsPath, Reached, IsReachedSet, calls_of}
 use Rattle.intern_marks.specs.Learning.{Learns}
 use Rattle.intern_marks.specs.Trace.{counted_in, IsTrace}
 use Rattle.intern_marks.proofs.Names.{has_cases, same_as_itself}
 use Rattle.intern_marks.proofs.Sound.{nothing_sound}
-use Rattle.intern_marks.proofs.Steps.{mark_places, root_places, each-registered, each-visits, each-has, each-once, each-front, marks-calls, roots-calls}
+use Rattle.intern_marks.proofs.Steps.{mark_places, root_places, each-registered, each-visits, each-has, each-once, each-front, marks-calls, roots-calls, marks_as_roots}
 
 -- an entry that isn't counted is registered as free, and only such an entry
 there_if_free : (e : Option Entry) → may_be false (option_map (λ (e : Entry). is_counted e.count) e) ≡ true → is_some e ≡ true
@@ -153,6 +153,20 @@ module _ (family : List Entry) (listed : List Name) (m : Marks) (is : Learns tru
     within = let start = each-visits true root root_places m listed ∙ is.visits in omega arith;
     calls = roots-calls m listed ∙ is.calls ∙ ap (calls_of family) (sym none);
   }
+
+  counted_marked : (x : Name) → get m.registered x ≡ Some true → has m.marked x ≡ true
+  counted_marked x counted = is.marked x ∙ go (entry_of family x) (sym (known x) ∙ counted)
+    where
+      go : (e : Option Entry) → option_map (λ (e : Entry). is_counted e.count) e ≡ Some true → counted_entry e ≡ true
+      go None h = absurd (cc)
+      go (Some e) h = cc
+
+  -- so does it where they are marked by mark calls that are forgotten
+  pub calls_begin : IsTrace (starts_with listed family) family (untold (marks m listed))
+  calls_begin =
+      let begun : untold (marks m listed) ≡ roots m listed =
+      marks_as_roots m listed counted_marked ∙ ap (λ calls. roots (record m { calls = calls }) listed) (sym is.calls) in
+      subst (IsTrace (starts_with listed family) family) (sym begun) trace_begins
 
 -- a list of roots without entries begins no path
 pub starts_with_none : (family : List Entry) (listed : List Name) → ((x : Name) → has listed x ≡ true → is_entry family x ≡ false) → starts_with listed family ≡ starts family

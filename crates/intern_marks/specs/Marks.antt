@@ -81,6 +81,10 @@ marks m names = fold mark m names
 abbrev pub root : Marks → Name → Marks
 root m name = placed true m name
 
+-- with no call in the tally
+abbrev pub untold : Marks → Marks
+untold m = record m { calls = 0 }
+
 -- each name is placed as a root
 abbrev pub roots : Marks → List Name → Marks
 roots m names = fold root m names

@@ -4,7 +4,7 @@ ghost use Rattle.std.specs.Option.{option_map};
 ghost use Rattle.std.specs.FinMap as map;
 ghost use Rattle.std.specs.declared.ops.ControlFlow.TheVariants.{Continue, Break};
 ghost use Rattle.intern_store.specs.Named.{key_name};
-ghost use Rattle.intern_marks.specs.Marks.{fresh, added, is_next, placed, mark, marks_now, root, begun};
+ghost use Rattle.intern_marks.specs.Marks.{fresh, added, is_next, placed, mark, marks_now, untold, root, begun};
 ghost use Rattle.intern_marks.specs.Names.{has};
 
 use crate::find::{fill, find, locate};
@@ -214,6 +214,13 @@ impl Marks {
         } else {
             ControlFlow::Break(())
         }
+    }
+
+    /// Forgets how many mark calls there were.
+    pub fn forget_calls(&mut self)
+        ensures { self.new ≡ untold self.old }
+    {
+        self.calls = 0;
     }
 
     /// Marks a name where it is registered and isn't marked. This is no mark call. It takes no

@@ -3,8 +3,8 @@ ghost use Rattle.std.specs.Prelude.{◌≡◌, true};
 ghost use Rattle.intern_terms.specs.Handle.{term_name, owned_name};
 
 use ra_ap_intern::{
-    GarbageCollector, GcInternedSliceVisit, InternedSlice, InternedSliceRef, Name, SliceInternable,
-    Symbol,
+    GarbageCollector, GcInternedSliceVisit, GcInternedVisit, InternedSlice, InternedSliceRef, Name,
+    SliceInternable, Symbol,
 };
 use std::fmt;
 
@@ -32,9 +32,7 @@ impl GcInternedSliceVisit for Terms {
     fn visit_header(_header: &Symbol, _gc: &mut GarbageCollector) {}
 
     fn visit_slice(slice: &[TermRef], gc: &mut GarbageCollector) {
-        for term in slice {
-            let _ = gc.mark_interned_slice_alive(term.reference);
-        }
+        gc.mark_all(slice);
     }
 }
 
@@ -43,6 +41,18 @@ impl GcInternedSliceVisit for Terms {
 #[derive(Clone, Copy, PartialEq, Eq, PartialOrd, Ord, Hash)]
 pub struct TermRef {
     pub(crate) reference: InternedSliceRef<Terms>,
+}
+
+// A reference to a term declares the term.
+impl GcInternedVisit for TermRef {
+    ghost use Rattle.std.specs.Prelude.{[], ◌∷◌};
+    ghost use Rattle.intern_terms.specs.Handle.{term_name};
+
+    ghost children = { λ t. term_name t ∷ [] };
+
+    fn visit_with(&self, gc: &mut GarbageCollector) {
+        self.reference.visit_with(gc);
+    }
 }
 
 /// A term that is kept: while it is, no collection removes it, or a term in its tree.

@@ -17,7 +17,7 @@ ghost use Rattle.intern_terms.specs.Tree.{Tree as TermTree, Trees as TermTrees, 
 use crate::handle::{Term, TermRef, Terms};
 use crate::iter::TermIter;
 use ra_ap_intern::{
-    Collected, GarbageCollector, InternSliceStorage, InternedSlice, Limits, Name, Refusal, Refused,
+    Collected, GarbageCollector, InternSliceStorage, InternedSlice, Limits, Refusal, Refused,
     Symbol,
 };
 use std::alloc::{AllocError, Global};
@@ -220,8 +220,7 @@ impl TermStore {
         ensures trees { (name : TermName) (t : TermTree) → IsSome (reads self.new name) →
             UnfoldsTo self.old name t → UnfoldsTo self.new name t }
     {
-        let names = names_of(self.alloc, roots)?;
-        GarbageCollector::new(self.alloc).collect_keeping(&mut self.terms, &names)
+        GarbageCollector::new(self.alloc).collect_from(&mut self.terms, &roots)
     }
 
     // Where the store's memory is from.
@@ -256,17 +255,6 @@ impl TermStore {
             None => Some(Refusal::Gone),
         }
     }
-}
-
-// The names of terms, in order.
-fn names_of(alloc: Global, terms: &[TermRef]) -> Result<Vec<Name>, AllocError>
-    ensures { IfOk result (λ names. names.items ≡ list_map term_name terms.now) }
-{
-    let mut names = Vec::with_capacity(alloc, terms.len())?;
-    for term in terms {
-        names.push(term.name())?;
-    }
-    Ok(names)
 }
 
 impl Term {

@@ -214,7 +214,28 @@ module _ {V : Type 0} where
       go true = taken_reads s b name other
       go false = counted_down_reads s b name
 
-  -- where the entry isn't taken out, each name does
+  -- and has the count that it had
+  pub taken_counts : (s : State V) (b : ℕ) (name : Name) → name.birth ≢ b
+      → counts (taken s b) name ≡ counts s name
+  taken_counts s b name other =
+      ap (λ o. cond (name.storage == s.number) (option_map (λ (k : Kept V). k.count) o) None)
+      (get-removed s.map b name.birth
+      ∙ ap (λ t. cond t None (entry_at s name.birth)) (ne_eqb name.birth b other))
+
+  pub released_counts : (stays : Bool) (s : State V) (b : ℕ) (name : Name) → name.birth ≢ b
+      → counts (released stays s b) name ≡ counts s name
+  released_counts stays s b name other = go (is_last stays s b)
+    where
+      go : (t : Bool) → counts (cond t (taken s b) (counted_down s b)) name ≡ counts s name
+      go true = taken_counts s b name other
+      go false =
+          counts-recounted (λ n. n - 1) s b name
+          ∙ ap (λ t. cond (name.storage == s.number && t) (option_map (λ n. n - 1) (counts s name))
+          (counts s name)) (ne_eqb name.birth b other)
+          ∙ ap (λ t. cond t (option_map (λ n. n - 1) (counts s name)) (counts s name))
+          (and_right (name.storage == s.number) false refl)
+
+  -- where the entry isn't taken out, each name reads what it read
   pub released_reads_all : (stays : Bool) (s : State V) (b : ℕ) → is_last stays s b ≡ false
       → (name : Name) → reads (released stays s b) name ≡ reads s name
   released_reads_all stays s b more name =

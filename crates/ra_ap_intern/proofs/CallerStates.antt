@@ -81,13 +81,17 @@ module _ {V : Type 0} (eq : V → V → Bool) where
   state_counted_down s b ok =
       changed_state eq (λ n. n - 1) s b _ ok (λ n fits. omega arith) refl
 
+  -- an entry that is taken out
+  pub state_taken : (s : State V) (b : ℕ) → IsState eq s → IsState eq (taken s b)
+  state_taken s b ok = taken_state eq s b _ ok refl
+
   -- a release
   pub state_released : (stays : Bool) (s : State V) (b : ℕ) → IsState eq s
       → IsState eq (released stays s b)
   state_released stays s b ok = go (is_last stays s b)
     where
       go : (t : Bool) → IsState eq (cond t (taken s b) (counted_down s b))
-      go true = taken_state eq s b _ ok refl
+      go true = state_taken s b ok
       go false = state_counted_down s b ok
 
   -- a sweep

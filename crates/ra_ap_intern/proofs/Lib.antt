@@ -6,6 +6,7 @@ pub mod CallerLemmas
 mod CallerReads
 mod CallerSlices
 mod CallerStates
+mod CallerViews
 mod Collections
 mod Entries
 mod Following

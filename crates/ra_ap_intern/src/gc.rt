@@ -4,9 +4,10 @@
 //! entry declares it. What a value declares is told by its visitor.
 ghost use Rattle.std.specs.FinMap as map;
 ghost use Rattle.std.specs.Prelude.{◌≡◌, ◌≤◌, true, false, List, length, IfOk, OnOk, OnErr, if◌then◌else◌};
+ghost use Rattle.std.specs.List.{flat_map};
 ghost use Rattle.std.specs.declared.ops.ControlFlow.TheVariants.{Continue, Break};
 ghost use Rattle.intern_marks.specs.Learning.{Learns, known};
-ghost use Rattle.intern_marks.specs.Marks.{fresh, mark, marks_now, roots};
+ghost use Rattle.intern_marks.specs.Marks.{fresh, mark, marks, marks_now, roots};
 ghost use Rattle.intern_marks.specs.Names.{has};
 ghost use Rattle.intern_marks.specs.Reach.{starts, starts_with};
 ghost use Rattle.intern_marks.specs.Trace.{IsTrace};
@@ -156,6 +157,16 @@ impl GarbageCollector {
         self.marks.mark(slice.key)
     }
 
+    /// Visits each item, in order.
+    #[tactic(auto, using(crate::proofs::Visitors::marks_left))]
+    pub fn mark_all<V: GcInternedVisit>(&mut self, items: &[V])
+        ensures { self.new ≡ marks self.old (flat_map V.children items.now) }
+    {
+        for item in items {
+            item.visit_with(self);
+        }
+    }
+
     /// Whether a name is marked.
     pub fn is_marked(&self, name: Name) -> bool
         ensures { result ≡ has self.now.marked name }
@@ -211,17 +222,51 @@ impl GarbageCollector {
     {
         self.learn(family, true)?;
         self.root(roots);
+        Ok(self.finish(family))
+    }
+
+    /// Does the same, and begins paths also at what a visitor declares: a reference, or an option, a
+    /// pair, an array, a vector, or a slice of such. Owned handles are counted, so that paths begin at
+    /// their entries anyway.
+    pub fn collect_from<F: Family, R: GcInternedVisit>(
+        mut self,
+        family: &mut F,
+        roots: &R,
+    ) -> Result<Collected, AllocError>
+        requires distinct { are_distinct (F.numbers family.old) ≡ true }
+        requires collected { F.collected ≡ true }
+        ensures ok { IfOk result (λ told. (names : List EntryName)
+            × IsCollection (starts_with (R.children roots.now) (F.entries family.old))
+            (F.entries family.old) names told
+            × (family.new ≡ F.kept family.old (has names))) }
+        ensures err { OnErr result (family.new ≡ family.old) }
+    {
+        self.learn(family, true)?;
+        roots.visit_with(&mut self);
+        // No entry declares the roots.
+        self.marks.forget_calls();
+        Ok(self.finish(family))
+    }
+
+    // Visits what is pending, and removes what isn't marked then.
+    fn finish<F: Family>(&mut self, family: &mut F) -> Collected
+        ensures { let all = F.entries family.old in (listed : List EntryName) →
+            IsTrace (starts_with listed all) all self.old →
+            map.len self.old.registered ≡ length all → (names : List EntryName)
+            × IsCollection (starts_with listed all) all names result
+            × (family.new ≡ F.kept family.old (has names)) }
+    {
         self.follow(family);
         let entries = self.marks.len();
         // Where every entry was visited, all of them stay.
         if self.visits() < entries {
-            family.sweep(&self);
+            family.sweep(self);
         }
-        Ok(Collected {
+        Collected {
             visits: self.visits(),
             mark_calls: self.mark_calls(),
             removed: entries.saturating_sub(family.len()),
-        })
+        }
     }
 
     // Learns a family. With `roots`, the counted entries are marked at once. The table of names isn't

@@ -10,8 +10,7 @@ use Rattle.ra_ap_intern.specs.State.{State, IsState, reads, interned}
 use Rattle.use_types.specs.Tree.{Tree, leaf, arrow, UnfoldsTo}
 use Rattle.use_types.specs.Types.{shape, function, parts_in, types_of}
 use Rattle.use_types.specs.declared.value.TypeNode.{TypeNode}
-use Rattle.ra_ap_intern.proofs.CallerLemmas.{interned_reads_on, kept_reads, same_names}
-use Rattle.use_types.proofs.Seen.{names_tell_views, view_stays, seen_read, part_kept}
+use Rattle.ra_ap_intern.proofs.CallerLemmas.{interned_reads_on, kept_reads, same_names, names_tell_views, view_stays, seen_read, part_kept}
 
 module _ (s : State TypeNode) where
   -- a name has one tree

@@ -15,9 +15,7 @@ ghost use Rattle.use_types.specs.declared.value.TypeNode.TheVariants.{Named as n
 
 use crate::laws;
 use crate::value::{TypeNode, TypeRef};
-use ra_ap_intern::{
-    Collected, GarbageCollector, InternStorage, Interned, Name, Refusal, SymbolRef,
-};
+use ra_ap_intern::{Collected, GarbageCollector, InternStorage, Interned, Refusal, SymbolRef};
 use std::alloc::{AllocError, Global};
 use std::cmp::PartialEq;
 use std::marker::Model;
@@ -142,18 +140,6 @@ impl Types {
             Reached (starts_with (list_map ref_name roots.now) (types_of self.old))
             (types_of self.old) n → reads self.new n ≡ reads self.old n }
     {
-        let names = names_of(self.alloc, roots)?;
-        GarbageCollector::new(self.alloc).collect_keeping(&mut self.types, &names)
+        GarbageCollector::new(self.alloc).collect_from(&mut self.types, &roots)
     }
-}
-
-// The names of handles, in order.
-fn names_of(alloc: Global, handles: &[TypeRef]) -> Result<Vec<Name>, AllocError>
-    ensures { IfOk result (λ names. names.items ≡ list_map ref_name handles.now) }
-{
-    let mut names = Vec::with_capacity(alloc, handles.len())?;
-    for handle in handles {
-        names.push(handle.name())?;
-    }
-    Ok(names)
 }

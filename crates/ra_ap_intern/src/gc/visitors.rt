@@ -42,16 +42,36 @@ impl<A: GcInternedVisit, B: GcInternedVisit> GcInternedVisit for (A, B) {
     }
 }
 
+impl<A: GcInternedVisit, B: GcInternedVisit, C: GcInternedVisit> GcInternedVisit for (A, B, C) {
+    ghost use Rattle.std.specs.Prelude.{◌++◌};
+
+    ghost children = { λ all. A.children all.0 ++ B.children all.1 ++ C.children all.2 };
+
+    #[tactic(auto, using(crate::proofs::Visitors::marks_append))]
+    fn visit_with(&self, gc: &mut GarbageCollector) {
+        self.0.visit_with(gc);
+        self.1.visit_with(gc);
+        self.2.visit_with(gc);
+    }
+}
+
+impl<'a, V: GcInternedVisit> GcInternedVisit for &'a [V] {
+    ghost use Rattle.std.specs.List.{flat_map};
+
+    ghost children = { λ items. flat_map V.children items.now };
+
+    fn visit_with(&self, gc: &mut GarbageCollector) {
+        gc.mark_all(self);
+    }
+}
+
 impl<V: GcInternedVisit, const N: usize> GcInternedVisit for [V; N] {
     ghost use Rattle.std.specs.List.{flat_map};
 
     ghost children = { λ items. flat_map V.children items };
 
-    #[tactic(auto, using(crate::proofs::Visitors::marks_left))]
     fn visit_with(&self, gc: &mut GarbageCollector) {
-        for item in self.as_slice() {
-            item.visit_with(gc);
-        }
+        gc.mark_all(self.as_slice());
     }
 }
 
@@ -60,10 +80,7 @@ impl<V: GcInternedVisit> GcInternedVisit for Vec<V> {
 
     ghost children = { λ items. flat_map V.children items.items };
 
-    #[tactic(auto, using(crate::proofs::Visitors::marks_left))]
     fn visit_with(&self, gc: &mut GarbageCollector) {
-        for item in self {
-            item.visit_with(gc);
-        }
+        gc.mark_all(self.as_slice());
     }
 }

@@ -1,4 +1,4 @@
-use Rattle.use_types.proofs.Seen.{names_tell_views}
+use Rattle.ra_ap_intern.proofs.CallerLemmas.{names_tell_views}
 use Rattle.use_types.proofs.laws.handles_tell_types.Goals as goal
 
 pub returns : goal.returns

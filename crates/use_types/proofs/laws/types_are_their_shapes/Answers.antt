@@ -1,6 +1,6 @@
 use Rattle.std.proofs.Common.{rules}
 use Rattle.use_types.specs.declared.value.TypeNode.TheVariants.{Named, Function', outs-Named, outs-Function'}
-use Rattle.use_types.proofs.Seen.{names_same_both, same_names_both}
+use Rattle.ra_ap_intern.proofs.CallerLemmas.{names_same_both, same_names_both}
 use Rattle.use_types.proofs.laws.types_are_their_shapes.Goals as goal
 
 pub returns : goal.returns

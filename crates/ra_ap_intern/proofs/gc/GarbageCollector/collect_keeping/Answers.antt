@@ -1,41 +1,19 @@
-use Rattle.std.proofs.Common.{◌≡◌, ◌+◌, ◌≤◌, true, length, List, sym, ◌∙◌, ap, subst, arith}
+use Rattle.std.proofs.Common.{true, sym, ◌∙◌, ap, subst}
 use Rattle.std.specs.FinMap.{len}
 use Rattle.intern_marks.specs.Marks.{Marks, root}
-use Rattle.intern_marks.specs.Names.{has}
-use Rattle.intern_marks.specs.Reach.{Entry, starts_with}
+use Rattle.intern_marks.specs.Reach.{starts_with}
 use Rattle.intern_marks.specs.Trace.{IsTrace}
 use Rattle.intern_marks.proofs.Steps.{root_places, each-registered}
 use Rattle.intern_marks.proofs.Traces.{trace_begins}
-use Rattle.ra_ap_intern.proofs.Following.{none_left_out, removed_are, is_collection}
 use Rattle.ra_ap_intern.proofs.Registering.{learnt_size}
 use Rattle.ra_ap_intern.proofs.gc.GarbageCollector.collect_keeping.Goals as goal
-use Rattle.ra_ap_intern.proofs.gc.GarbageCollector.collect_keeping.Goals.{then-visits-entries, else-visits-entries}
 
 pub returns-clause-ok : goal.returns-clause-ok
 returns-clause-ok g c =
-    let old = c.args.family.now in
-    let new = c.if-visits-entries.family in
-    let all = g.F.Family.entries old in
+    let all = g.F.Family.entries c.args.family.now in
     let listed = c.args.roots.now in
-    let last = c.follow.new.self in
     let learnt = c.in_ok-learn.ensures.ok in
-    let size = c.len-entries.ensures.size ∙ ap (λ (m : Marks). len m.registered) c.self-2.view_is ∙ ap len c.follow.ensures.registered
-    ∙ ap (λ (m : Marks). len m.registered) c.root.ensures ∙ ap len (each-registered true root root_places c.learn.new.self listed)
-    ∙ learnt_size true all c.learn.new.self learnt in
-    let t = c.follow.ensures.trace listed (subst (IsTrace (starts_with listed all) all) (sym c.root.ensures) (trace_begins all listed c.learn.new.self learnt)) in
-    let done = c.follow.ensures.done in
-    let swept : new ≡ g.F.Family.kept old (has last.marked) =
-    elim c.if-visits-entries.branch [
-      | then-visits-entries w ↦ w.family-is ∙ w.sweep.ensures
-      | else-visits-entries w ↦
-          let many : length all ≤ last.visits = omega (arith, size, c.visits.ensures, w.if-visits-entries.false) in
-          w.family-is ∙ sym (g.met.F.Family.kept_whole old (has last.marked) (none_left_out all listed last t done many))
-    ] in
-    let left = ap g.F.Family.entries swept ∙ g.met.F.Family.kept_entries old (has last.marked) in
-    let removed = removed_are all (g.F.Family.entries new) (has last.marked) c.len-entries.result c.len.result c.saturating_sub.result
-    left c.len-entries.type_inv size c.len.ensures c.saturating_sub.ensures in (
-      last.marked,
-      is_collection all listed last t done _ c.visits-2.ensures c.mark_calls.ensures
-          (ap (λ (es : List Entry). c.saturating_sub.result + length es) (sym left) ∙ removed),
-      swept,
-    )
+    c.finish.ensures listed
+    (subst (IsTrace (starts_with listed all) all) (sym c.root.ensures) (trace_begins all listed c.learn.new.self learnt))
+    (ap (λ (m : Marks). len m.registered) c.root.ensures ∙ ap len (each-registered true root root_places c.learn.new.self listed)
+    ∙ learnt_size true all c.learn.new.self learnt)

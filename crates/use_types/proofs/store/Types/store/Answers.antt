@@ -1,5 +1,4 @@
-use Rattle.use_types.proofs.Seen.{interned_view}
-use Rattle.ra_ap_intern.proofs.CallerLemmas.{interned_reads_on}
+use Rattle.ra_ap_intern.proofs.CallerLemmas.{interned_view, interned_reads_on}
 use Rattle.use_types.proofs.store.Types.store.Goals as goal
 
 pub returns-clause-stands : goal.returns-clause-stands

@@ -1,6 +1,8 @@
--- What any caller wants to know of values that are equal exactly if they are seen as the same.
-use Rattle.std.proofs.Common.{◌≡◌, ◌↔◌, Bool, true, false, ◌&&◌, List, Option, Some, None, IsSome, is_some, Result, Ok, Err, IfOk, OnErr, refl, sym, ap, ◌∙◌}
+-- What is known of values that are equal exactly if they are seen as the same, and what a collection
+-- leaves of them.
+use Rattle.std.proofs.Common.{◌≡◌, ◌↔◌, Bool, true, false, ◌&&◌, List, [], ◌∷◌, map, Option, Some, None, IsSome, is_some, Result, Ok, Err, IfOk, OnErr, refl, sym, ap, ◌∙◌}
 use Rattle.std.specs.Cmp.{IsEquivalence}
+use Rattle.std.specs.List.{flat_map}
 use Rattle.std.specs.Option.{option_map}
 use Rattle.std.specs.declared.alloc.AllocError.{AllocError}
 use Rattle.std.proofs.lemmas.Bool.{and_parts, and_from}
@@ -8,10 +10,13 @@ use Rattle.ra_ap_intern.specs.Families.{IsCollection, entries_of, kept_named}
 use Rattle.ra_ap_intern.specs.Name.{Name}
 use Rattle.ra_ap_intern.specs.Named.{same_name}
 use Rattle.ra_ap_intern.specs.Names.{has}
-use Rattle.ra_ap_intern.specs.Reach.{IsReachedSet, Reached}
-use Rattle.ra_ap_intern.specs.State.{State, IsState, reads, interned, interned_name}
+use Rattle.ra_ap_intern.specs.Reach.{Entry, IsReachedSet, Reached}
+use Rattle.ra_ap_intern.specs.State.{State, IsState, reads, counts, interned, interned_name}
 use Rattle.ra_ap_intern.specs.declared.gc.Collected.{Collected}
-use Rattle.ra_ap_intern.proofs.CallerLemmas.{read_once, interned_reads, kept_reads, child_kept, children_read, entry_read, names_same, same_names}
+use Rattle.intern_store.proofs.Named.{names_same, same_names}
+use Rattle.intern_store.proofs.Reading.{interned_reads}
+use Rattle.ra_ap_intern.proofs.CallerCollections.{kept_reads, kept_counts, child_kept, children_read, entry_read}
+use Rattle.ra_ap_intern.proofs.CallerReads.{read_once}
 
 -- two names are those of two others
 pub names_same_both : (a b x y : Name) → (same_name a x && same_name b y) ≡ true
@@ -103,14 +108,32 @@ part_kept {V} view parts begins s names is n m x kept at part there =
     (ap (λ ns. has ns m) (children_read children s n r.value r.read ∙ ap parts r.same) ∙ part)
     (entry_read children s m ∙ there)
 
--- what paths reach reads after a collection what it read
-pub collected_reads : {V : Type 0} (children : V → List Name) (begins : Name → Bool)
-    (s t : State V) (r : Result Collected AllocError)
-    → IfOk r (λ told. (names : List Name) × IsCollection begins (entries_of children s) names told
-    × (t ≡ kept_named s (has names)))
-    → OnErr r (t ≡ s)
-    → (name : Name) → Reached begins (entries_of children s) name → reads t name ≡ reads s name
-collected_reads children begins s t (Ok told) is err name path =
-    ap (λ u. reads u name) is.2
-    ∙ kept_reads s (has is.0) name ((is.1.reached.reached name).1 path)
-collected_reads children begins s t (Err e) is err name path = ap (λ u. reads u name) err
+-- of a storage that is a family, or within one of nested pairs: what paths reach reads after a
+-- collection what it read, and has the count that it had
+module _ {F V : Type 0} (part : F → State V) (kept : F → (Name → Bool) → F)
+    (of_part : (f : F) (set : Name → Bool) → part (kept f set) ≡ kept_named (part f) set)
+    (begins : Name → Bool) (all : List Entry) (s t : F) where
+  -- what a collection answers, and leaves of the family
+  abbrev pub Collects : Result Collected AllocError → Type 0
+  Collects r = IfOk r (λ told. (names : List Name) × IsCollection begins all names told
+      × (t ≡ kept s (has names))) × OnErr r (t ≡ s)
+
+  pub collected_reads : (r : Result Collected AllocError) → Collects r → (name : Name)
+      → Reached begins all name → reads (part t) name ≡ reads (part s) name
+  collected_reads (Ok told) is name path =
+      ap (λ f. reads (part f) name) is.0.2 ∙ ap (λ p. reads p name) (of_part s (has is.0.0))
+      ∙ kept_reads (part s) (has is.0.0) name ((is.0.1.reached.reached name).1 path)
+  collected_reads (Err e) is name path = ap (λ f. reads (part f) name) is.1
+
+  pub collected_counts : (r : Result Collected AllocError) → Collects r → (name : Name)
+      → Reached begins all name → counts (part t) name ≡ counts (part s) name
+  collected_counts (Ok told) is name path =
+      ap (λ f. counts (part f) name) is.0.2 ∙ ap (λ p. counts p name) (of_part s (has is.0.0))
+      ∙ kept_counts (part s) (has is.0.0) name ((is.0.1.reached.reached name).1 path)
+  collected_counts (Err e) is name path = ap (λ f. counts (part f) name) is.1
+
+-- where each declares one name, their names are listed
+pub listed_singly : {V : Type 0} (name : V → Name) (vs : List V)
+    → flat_map (λ v. name v ∷ []) vs ≡ map name vs
+listed_singly name [] = refl
+listed_singly name (v ∷ vs) = ap (λ names. name v ∷ names) (listed_singly name vs)
