@@ -2,6 +2,7 @@
 use Rattle.std.specs.Prelude.{ℕ}
 use Rattle.intern_store.specs.Named.{key_name}
 use Rattle.intern_store.specs.declared.names.Name.{Name}
+use Rattle.ra_ap_intern.specs.declared.owed.Owed.{Owed}
 use Rattle.ra_ap_intern.specs.declared.storage.Owned.{Owned}
 use Rattle.ra_ap_intern.specs.declared.storage.Ref.{Ref}
 
@@ -13,6 +14,10 @@ module _ {K : Type 0} where
   -- the name of an owned handle
   abbrev pub name_of : Owned K → Name
   name_of h = ref_name h.reference
+
+  -- the owned handle in one that must be released
+  abbrev pub handle_of : Owed K → Owned K
+  handle_of h = h.handle
 
 -- a value that a table lists under its birth, with its name in the storage of this number
 abbrev pub with_name : {V : Type 0} → ℕ → ℕ × (V × ℕ) → Name × V

@@ -11,12 +11,13 @@ ghost use Rattle.intern_store.specs.declared.names.Name.{Name};
 ghost use Rattle.intern_table.specs.Sliced.{Sliced, sliced_eq};
 ghost use Rattle.ra_ap_intern.specs.Constants.{constants};
 ghost use Rattle.ra_ap_intern.specs.Families.{IsCollection, kept_named};
-ghost use Rattle.ra_ap_intern.specs.Handle.{name_of, ref_name};
+ghost use Rattle.ra_ap_intern.specs.Handle.{handle_of, name_of, ref_name};
 ghost use Rattle.ra_ap_intern.specs.Symbols.{IsTable, Named, Counted, symbol_name, symbol_ref_name, has_its_text, text_of, symbol_in, due_symbol, at_entry, is_new_text};
 ghost use Rattle.ra_ap_intern.specs.Symbols.Named.{preset, entry};
 ghost use Rattle.ra_ap_intern.specs.declared.gc.Collected.{Collected as Told};
 ghost use Rattle.ra_ap_intern.specs.declared.kind.Slices.{Slices as SliceKind};
 ghost use Rattle.ra_ap_intern.specs.declared.kind.Values.{Values as ValueKind};
+ghost use Rattle.ra_ap_intern.specs.declared.owed.Owed.{Owed as ToRelease};
 ghost use Rattle.ra_ap_intern.specs.declared.storage.Owned.{Owned as Handle};
 ghost use Rattle.ra_ap_intern.specs.declared.storage.Ref.{Ref as Reference};
 ghost use Rattle.ra_ap_intern.specs.declared.symbol.Symbol.{Symbol as Sym};
@@ -26,6 +27,7 @@ use crate::gc::Family;
 use crate::intern::{Interned, InternedRef};
 use crate::intern_slice::{InternedSlice, InternedSliceRef, SliceInternable};
 use crate::kind::{Slices, Values};
+use crate::owed::Owed;
 use crate::storage::{Owned, Ref};
 use crate::symbol::{Symbol, SymbolRef};
 pub use intern_marks::laws::{
@@ -105,6 +107,10 @@ pub fn handles_are_names<K>()
         (⟦<Ref<K> as PartialEq>⟧.eq a b ≡ true) ↔ (ref_name a ≡ ref_name b) }
     ensures reference_hashed { (a b : Reference K) → ref_name a ≡ ref_name b →
         ⟦<Ref<K> as Hash>⟧.hash_input a ≡ ⟦<Ref<K> as Hash>⟧.hash_input b }
+    ensures owed { (a b : ToRelease K) →
+        (⟦<Owed<K> as PartialEq>⟧.eq a b ≡ true) ↔ (name_of (handle_of a) ≡ name_of (handle_of b)) }
+    ensures owed_hashed { (a b : ToRelease K) → name_of (handle_of a) ≡ name_of (handle_of b) →
+        ⟦<Owed<K> as Hash>⟧.hash_input a ≡ ⟦<Owed<K> as Hash>⟧.hash_input b }
 {}
 
 /// Owned handles are equal exactly if their names are, and equal ones hash alike.

@@ -6,6 +6,7 @@ mod intern;
 mod intern_slice;
 mod kind;
 pub mod laws;
+mod owed;
 mod storage;
 mod symbol;
 mod text;
@@ -21,5 +22,6 @@ pub use intern_slice::{
 pub use intern_store::{Limits, Name, Refusal, Refused};
 pub use intern_table::{HeaderSlice, HeaderWithLength, Text};
 pub use kind::{Kind, Slices, Values};
+pub use owed::{Owed, OwedSlice, OwedValue};
 pub use storage::{Owned, Ref, Storage};
 pub use symbol::{Symbol, SymbolDisplay, SymbolIter, SymbolRef, SymbolTable, symbols as sym};

@@ -30,7 +30,7 @@ fn is_refused<A: Drop>(rt: &impl Abort, answer: Result<A, Refusal>, reason: Refu
 }
 
 /// This is the reason of a refusal.
-fn is_reason(rt: &impl Abort, why: Refusal, reason: Refusal) {
+pub fn is_reason(rt: &impl Abort, why: Refusal, reason: Refusal) {
     assert_eq!(rt; why, reason);
 }
 
@@ -120,7 +120,11 @@ pub fn owner_reads(
 }
 
 /// This pair was read, and the number of its items.
-fn is_pair(rt: &impl Abort, read: Option<HeaderSlice<Word, u64>>, (text, items): (&str, &[u64])) {
+pub fn is_pair(
+    rt: &impl Abort,
+    read: Option<HeaderSlice<Word, u64>>,
+    (text, items): (&str, &[u64]),
+) {
     let read = read.expect(rt, "stored");
     assert_eq!(rt; read.header.header.text(), text);
     assert_eq!(rt; read.header.length, items.len());
