@@ -1,4 +1,4 @@
-//! The README's example of a collection.
+//! An example to read: a visitor with a loop, and a collection.
 ghost use Rattle.std.specs.Prelude.{true};
 
 use ra_ap_intern::{

@@ -1,4 +1,4 @@
-//! The example of the README.
+//! An example to read: a word that is stored once, and released twice.
 ghost use Rattle.std.specs.Prelude.{false};
 
 use ra_ap_intern::{InternStorage, Internable, Interned};
