@@ -5,4 +5,4 @@ use Rattle.intern_terms.specs.Handle.{term_name}
 use Rattle.intern_terms.proofs.handle.TermsGcInternedSliceVisit.visit_slice.Goals as goal
 
 pub returns : goal.returns
-returns c = c.mark_all.ensures ∙ ap (marks c.args.gc) (listed_singly term_name c.args.slice.now)
+returns c = c.mark_all.ensures ∙ ap (marks c.args.gc.now) (listed_singly term_name c.args.slice.now)
