@@ -81,11 +81,8 @@ impl GcInternedSliceVisit for Uses {
         header.visit_with(gc);
     }
 
-    #[tactic(auto, using(ra_ap_intern::proofs::Visitors::marks_left))]
     fn visit_slice(slice: &[InternedRef<TypeNode>], gc: &mut GarbageCollector) {
-        for item in slice {
-            item.visit_with(gc);
-        }
+        gc.mark_all(slice);
     }
 }
 

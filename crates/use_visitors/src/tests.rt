@@ -28,11 +28,11 @@ fn each_field_keeps_its_types(rt: HostRuntime) -> Result<(), Fail> {
 
     let mut uses: InternSliceStorage<Uses> = InternSliceStorage::new(alloc, 2);
     let used = InternedSlice::from_header_and_slice(&mut uses, header, &items);
-    let root = used.map_err(|r| r.why)?.0.name();
+    let (used, _) = used.map_err(|r| r.why)?;
     let family = GarbageCollector::add_storage(NoStorages, types);
     let mut family = GarbageCollector::add_slice_storage(family, uses);
     assert!(rt; GarbageCollector::distinct(&family));
-    let told = GarbageCollector::new(alloc).collect_keeping(&mut family, &[root])?;
+    let told = GarbageCollector::new(alloc).collect_from(&mut family, &used)?;
     assert_eq!(rt; (told.visits, told.mark_calls, told.removed), (9, 8, 1));
     Ok(())
 }
