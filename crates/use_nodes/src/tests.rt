@@ -1,0 +1,19 @@
+//! An expression is stored once.
+use crate::{add, number, parts};
+use ra_ap_intern::{InternStorage, Refusal};
+
+#[test]
+fn equal_expressions_have_one_handle(rt: HostRuntime) -> Result<(), Refusal> {
+    let mut exprs = InternStorage::new(rt.alloc(), 1);
+    let one = number(&mut exprs, 1)?;
+    let two = number(&mut exprs, 2)?;
+    let sum = add(&mut exprs, one, two)?;
+    let again = add(&mut exprs, one, two)?;
+    let turned = add(&mut exprs, two, one)?;
+    assert!(rt; sum == again);
+    assert!(rt; sum != turned);
+    assert!(rt; parts(&exprs, sum) == Some((one, two)));
+    assert!(rt; parts(&exprs, one).is_none());
+    assert_eq!(rt; exprs.len(), 4);
+    Ok(())
+}
