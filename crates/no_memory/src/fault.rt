@@ -1,5 +1,5 @@
 //! Why a check failed.
-use ra_ap_intern::{Refusal, Refused};
+use ra_ap_intern::{Owed, Owned, Refusal, Refused};
 use std::alloc::{AllocError, AllocFailed};
 use std::io;
 
@@ -88,5 +88,16 @@ pub(crate) fn gives_back<A: Drop, H: Drop>(
                 Err(Fault::NotRefused)
             }
         }
+    }
+}
+
+/// What a release answered. A handle that it gives back goes on as one that may be dropped.
+pub(crate) fn of_owed<A, K>(answer: Result<A, Refused<Owed<K>>>) -> Result<A, Refused<Owned<K>>> {
+    match answer {
+        Ok(released) => Ok(released),
+        Err(Refused { why, back }) => Err(Refused {
+            why,
+            back: back.into_owned(),
+        }),
     }
 }

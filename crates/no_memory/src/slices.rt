@@ -1,10 +1,10 @@
 //! Storages of slices.
-use crate::fault::{Fault, ensure, gives_back, is_refused};
+use crate::fault::{Fault, ensure, gives_back, is_refused, of_owed};
 use crate::marks::{prepares, takes_none};
 use intern_fixtures::StringSlice;
 use ra_ap_intern::{
     GarbageCollector, HeaderSlice, InternSliceStorage, InternedSlice, InternedSliceRef, Limits,
-    NoStorages, Pair, Refusal,
+    NoStorages, Owed, Pair, Refusal,
 };
 use std::alloc::{AllocError, Global};
 
@@ -235,8 +235,29 @@ fn check_release(rt: &impl Eprint, storage: &mut Storage, handles: Handles) -> R
     } = handles;
     takes_none(rt, "InternedSlice::release");
     live.release(storage)?;
-    gives_back(foreign.release(storage), Refusal::Foreign)?;
-    gives_back(gone.release(storage), Refusal::Gone)?;
-    gives_back(zero.release(storage), Refusal::CountZero)?;
+    let foreign = gives_back(foreign.release(storage), Refusal::Foreign)?;
+    let gone = gives_back(gone.release(storage), Refusal::Gone)?;
+    let zero = gives_back(zero.release(storage), Refusal::CountZero)?;
+    check_owed(rt, storage, zero)?;
+    gives_back(
+        of_owed(Owed::from(foreign).release(storage)),
+        Refusal::Foreign,
+    )?;
+    gives_back(of_owed(Owed::from(gone).release(storage)), Refusal::Gone)?;
+    Ok(())
+}
+
+// None that must be released lives where an answer is judged.
+fn check_owed(rt: &impl Eprint, storage: &mut Storage, zero: Handle) -> Result<(), Fault> {
+    takes_none(rt, "Owed::get, Owed::clone, Owed::release of slices");
+    let owed = Owed::from(zero);
+    let is_read = is_slice(owed.get(storage), ZERO);
+    let second = owed.clone(storage).map(|second| second.into_owned());
+    of_owed(owed.release(storage))?;
+    ensure(is_read)?;
+    gives_back(
+        of_owed(Owed::from(second?).release(storage)),
+        Refusal::CountZero,
+    )?;
     Ok(())
 }

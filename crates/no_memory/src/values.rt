@@ -1,7 +1,7 @@
 //! Storages of values, in counted mode.
-use crate::fault::{Fault, ensure, gives_back, is_refused};
+use crate::fault::{Fault, ensure, gives_back, is_refused, of_owed};
 use crate::marks::{prepares, takes_none};
-use ra_ap_intern::{InternStorage, Interned, InternedRef, Limits, Refusal, Text};
+use ra_ap_intern::{InternStorage, Interned, InternedRef, Limits, Owed, Refusal, Text};
 use std::alloc::{AllocError, Global};
 
 /// A text that is stored, and counted once. Like the others it is longer than lies in an entry.
@@ -51,6 +51,7 @@ pub(crate) fn check(rt: &impl Eprint, alloc: Global) -> Result<(), Fault> {
     check_interning(rt, alloc, &mut storage, &handles)?;
     check_owning(rt, &mut storage, &handles)?;
     check_lowering(rt, &mut storage, &handles)?;
+    check_owed(rt, &mut storage, &handles)?;
     check_release(rt, &mut storage, handles)
 }
 
@@ -225,6 +226,21 @@ fn check_lowering(rt: &impl Eprint, storage: &mut Storage, handles: &Handles) ->
     )
 }
 
+// None that must be released lives where an answer is judged.
+fn check_owed(rt: &impl Eprint, storage: &mut Storage, handles: &Handles) -> Result<(), Fault> {
+    let owned = handles.live.clone(storage)?;
+    takes_none(rt, "Owed::from, Owed::get, Owed::as_ref, Owed::name");
+    let owed = Owed::from(owned);
+    let is_read = is_text(owed.get(storage), Some(LIVE));
+    let is_named = owed.as_ref() == handles.live.as_ref() && owed.name() == handles.live.name();
+    takes_none(rt, "Owed::clone, Owed::into_owned");
+    let second = owed.clone(storage).map(|second| second.into_owned());
+    takes_none(rt, "Owed::release");
+    let kept = of_owed(owed.release(storage))?;
+    ensure(is_read && is_named && kept.is_none())?;
+    is_refused(second, Refusal::CountFull)
+}
+
 fn check_release(rt: &impl Eprint, storage: &mut Storage, handles: Handles) -> Result<(), Fault> {
     let Handles {
         live,
@@ -236,8 +252,18 @@ fn check_release(rt: &impl Eprint, storage: &mut Storage, handles: Handles) -> R
     takes_none(rt, "Interned::release");
     ensure(full.release(storage)?.is_none())?;
     ensure(is_text(live.release(storage)?.as_ref(), Some(LIVE)))?;
-    gives_back(foreign.release(storage), Refusal::Foreign)?;
-    gives_back(gone.release(storage), Refusal::Gone)?;
-    gives_back(zero.release(storage), Refusal::CountZero)?;
+    let foreign = gives_back(foreign.release(storage), Refusal::Foreign)?;
+    let gone = gives_back(gone.release(storage), Refusal::Gone)?;
+    let zero = gives_back(zero.release(storage), Refusal::CountZero)?;
+    takes_none(rt, "Owed::release");
+    gives_back(
+        of_owed(Owed::from(foreign).release(storage)),
+        Refusal::Foreign,
+    )?;
+    gives_back(of_owed(Owed::from(gone).release(storage)), Refusal::Gone)?;
+    gives_back(
+        of_owed(Owed::from(zero).release(storage)),
+        Refusal::CountZero,
+    )?;
     Ok(())
 }
