@@ -1,0 +1,72 @@
+//! Names as symbols: a scope, which has values under names.
+#![tactic(auto)]
+
+ghost use Rattle.std.specs.Prelude.{◌≡◌, ◌⊎◌, ℕ, List, Some, None, IfErr, OnOk, OnErr, if◌then◌else◌, option_copied};
+ghost use Rattle.std.specs.Str.{bytes_eq};
+ghost use Rattle.ra_ap_intern.specs.Outcome.{Becomes};
+ghost use Rattle.ra_ap_intern.specs.Refusal.TheVariants.{OutOfMemory};
+ghost use Rattle.ra_ap_intern.specs.State.{new_state};
+ghost use Rattle.ra_ap_intern.specs.Symbols.{symbol_in, due_symbol};
+ghost use Rattle.use_names.specs.Scope.{declared};
+
+use ra_ap_intern::{Refusal, Symbol, SymbolRef, SymbolTable, laws};
+use std::alloc::Global;
+use std::collections::HashMap;
+
+/// A scope: what is declared, under the symbols of a table.
+#[derive(Drop)]
+pub struct Scope<V> {
+    /// The names.
+    pub names: SymbolTable,
+    /// What is declared under each.
+    pub values: HashMap<SymbolRef, V>,
+}
+
+impl<V: Drop> Scope<V> {
+    /// A scope with nothing declared.
+    pub fn new(alloc: Global, number: u64) -> Scope<V>
+        ensures names { result.names ≡ new_state number u64.MAX u64.MAX }
+        ensures values { (text : List ℕ) → declared result.names result.values text ≡ None }
+    {
+        Scope {
+            names: SymbolTable::new(alloc, number),
+            values: HashMap::new(alloc),
+        }
+    }
+
+    /// Declares a value under a name, which counts the name once more. Refused, with nothing
+    /// changed: `CountFull`, `NumbersUsedUp`, `OutOfMemory`.
+    pub fn declare(&mut self, name: &str, value: V) -> Result<(), Refusal>
+        ensures ok { OnOk result (due_symbol self.old.names name.now ≡ None) }
+        ensures refused { IfErr result (λ why.
+            (why ≡ OutOfMemory) ⊎ (due_symbol self.old.names name.now ≡ Some why)) }
+        ensures names { Becomes result self.old.names self.new.names
+            (symbol_in self.old.names name.now).table }
+        ensures declares { OnOk result ((text : List ℕ) →
+            declared self.new.names self.new.values text ≡ (if bytes_eq name.now text
+            then Some value else declared self.old.names self.old.values text)) }
+        ensures stays { OnErr result ((text : List ℕ) →
+            declared self.new.names self.new.values text
+            ≡ declared self.old.names self.old.values text) }
+    {
+        laws::symbol_references_are_what_they_name();
+        laws::a_symbol_reads_its_text();
+        let _number = self.names.number();
+        self.values.reserve(1).map_err(|_| Refusal::OutOfMemory)?;
+        let symbol = Symbol::intern(&mut self.names, name)?;
+        let stored: Result<_, _> = self.values.insert(symbol.as_ref(), value);
+        stored.unwrap();
+        Ok(())
+    }
+
+    /// What was declared last under a name. None where nothing was. It takes no memory.
+    pub fn look_up(&self, name: &str) -> Option<&V>
+        ensures { option_copied result ≡ declared self.now.names self.now.values name.now }
+    {
+        laws::symbol_references_are_what_they_name();
+        self.values.get(&self.names.get(name)?)
+    }
+}
+
+#[cfg(test)]
+mod tests;
