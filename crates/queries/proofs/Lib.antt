@@ -1,0 +1,6 @@
+pub mod Blocks
+pub mod Formulas
+pub mod Memos
+pub mod Paths
+pub mod Sheets
+pub mod Trees

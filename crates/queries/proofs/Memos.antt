@@ -1,0 +1,252 @@
+-- What stays true of memos.
+use Rattle.std.proofs.Common.{◌≡◌, ◌↔◌, ℕ, ◌+◌, ◌≤◌, Bool, true, false, cond, List, [], ◌∷◌, Option, Some, None, is_some, refl, sym, ap, subst, ◌∙◌, arith}
+use Rattle.std.specs.Cmp.{IsEquivalence}
+use Rattle.std.specs.Cmp.Lexicographic.{pointwise}
+use Rattle.std.specs.HashMap.{HashMap, get, get_by}
+use Rattle.std.specs.List.{filter}
+use Rattle.std.specs.Map.{lookup}
+use Rattle.ra_ap_intern.specs.Families.{kept_named}
+use Rattle.std.proofs.lemmas.Bool.{and_parts, eqb-true}
+use Rattle.std.proofs.lemmas.Option.{same_Some}
+use Rattle.ra_ap_intern.specs.Handle.{ref_name}
+use Rattle.ra_ap_intern.specs.Name.{Name}
+use Rattle.ra_ap_intern.specs.Named.{same_name}
+use Rattle.ra_ap_intern.specs.State.{State, IsState, reads, interned, interned_name, name_of_value}
+use Rattle.ra_ap_intern.proofs.CallerLemmas.{names_same, viewed_equivalence, interned_reads, interned_reads_on, read_found, reads-kept_named}
+use Rattle.queries.specs.declared.cache.Memo.{Memo}
+use Rattle.queries.specs.declared.key.Key.{Key}
+use Rattle.queries.specs.declared.key.Key.TheVariants.{Cell, Total}
+use Rattle.queries.specs.declared.place.Place.{Place}
+use Rattle.queries.specs.declared.value.Answer.TheVariants as answer
+use Rattle.queries.specs.declared.value.Value.{Value}
+use Rattle.queries.specs.Cache.{Handle, memo_in, IsMemo, AreMemos, ReadsOn}
+use Rattle.queries.specs.Evaluation.{IsRight}
+use Rattle.queries.specs.Sheet.{Formulas, formula_at, same_place, cell_value, gives}
+
+-- ---- queries are interned
+
+module _ (eq : Key → Key → Bool) (alike : (a b : Key) → (eq a b ≡ true) ↔ (a ≡ b)) where
+  equivalence : IsEquivalence eq
+  equivalence = viewed_equivalence eq (λ k. k) alike
+
+  pub stored_reads : (s t : State Key) (key : Key) (name : Name) → name ≡ interned_name eq s key
+      → t ≡ (interned eq s key).state → reads t name ≡ Some key
+  stored_reads s t key name named now =
+      let r = interned_reads eq equivalence s key in
+      (λ i. reads (now i) (named i)) ∙ r.1 ∙ ap Some (sym ((alike key r.0).0 r.2))
+
+  pub stored_on : (s t : State Key) → IsState eq s → (key : Key) → t ≡ (interned eq s key).state
+      → ReadsOn s t
+  stored_on s t ok key now name k at =
+      ap (λ u. reads u name) now ∙ interned_reads_on eq s ok key name k at
+
+  found_name : (s : State Key) → IsState eq s → (key : Key) (name : Name)
+      → reads s name ≡ Some key → name_of_value eq s key ≡ Some name
+  found_name s ok key name read =
+      read_found eq equivalence s ok key name key read ((alike key key).1 refl)
+
+  pub found_one : (s : State Key) → IsState eq s → (key : Key) (found name : Name)
+      → Some found ≡ name_of_value eq s key → reads s name ≡ Some key → found ≡ name
+  found_one s ok key found name at read = same_Some _ _ (at ∙ found_name s ok key name read)
+
+  pub found_none : (s : State Key) → IsState eq s → (key : Key) (name : Name)
+      → None ≡ name_of_value eq s key → reads s name ≡ Some key → ⊥
+  found_none s ok key name at read = let found = at ∙ found_name s ok key name read in absurd (cc)
+
+-- ---- memos are found by names
+
+module _ {S : Type 0} (eq : Handle → Handle → Bool)
+    (named : (a b : Handle) → eq a b ≡ same_name (ref_name a) (ref_name b)) where
+  pub memo_by : (m : HashMap Handle Memo S) (h : Handle) → get eq m h ≡ memo_in m (ref_name h)
+  memo_by m h = λ i. get_by (λ r. named h r i) m
+
+  -- after a memo is put under a handle, or taken away
+  pub memo_updated : (old new : HashMap Handle Memo S) (handle : Handle) (memo : Option Memo)
+      → ((h : Handle) → get eq new h ≡ cond (eq handle h) memo (get eq old h)) → (h : Handle)
+      → memo_in new (ref_name h)
+      ≡ cond (same_name (ref_name handle) (ref_name h)) memo (memo_in old (ref_name h))
+  memo_updated old new handle memo is h =
+      sym (memo_by new h) ∙ is h ∙ (λ i. cond (named handle h i) memo (memo_by old h i))
+
+-- a memo that was taken away
+pub none_here : (t : Bool) (before : Option Memo) → t ≡ true → cond t None before ≡ None
+none_here true before is = refl
+none_here false before is = absurd (cc)
+
+pub none_elsewhere : (t : Bool) (before : Option Memo) (memo : Memo)
+    → cond t None before ≡ Some memo → before ≡ Some memo
+none_elsewhere true before memo is = absurd (cc)
+none_elsewhere false before memo is = is
+
+-- ---- a memo more, a query more, another sheet
+
+module _ {S : Type 0} (sheet : Formulas) where
+  pub memos_none : (keys : State Key) (revision : ℕ) (memos : HashMap Handle Memo S)
+      → memos.entries ≡ [] → AreMemos sheet keys revision memos
+  memos_none keys revision memos none h memo at =
+      let found = sym (ap (lookup (λ r. same_name (ref_name h) (ref_name r))) none) ∙ at in absurd (cc)
+
+  -- memos of the same names
+  pub memos_same : (keys : State Key) (revision : ℕ) (old new : HashMap Handle Memo S)
+      → AreMemos sheet keys revision old
+      → ((h : Handle) → memo_in new (ref_name h) ≡ memo_in old (ref_name h))
+      → AreMemos sheet keys revision new
+  memos_same keys revision old new is same h memo at = is h memo (sym (same h) ∙ at)
+
+  pub memo_put : (keys : State Key) (revision : ℕ) (old new : HashMap Handle Memo S)
+      (handle : Handle) (memo : Memo) → AreMemos sheet keys revision old
+      → IsMemo sheet keys revision (ref_name handle) memo
+      → ((h : Handle) → memo_in new (ref_name h)
+      ≡ cond (same_name (ref_name handle) (ref_name h)) (Some memo) (memo_in old (ref_name h)))
+      → AreMemos sheet keys revision new
+  memo_put keys revision old new handle memo is one put h other at =
+      go (same_name (ref_name handle) (ref_name h)) refl (sym (put h) ∙ at)
+    where
+      go : (t : Bool) → same_name (ref_name handle) (ref_name h) ≡ t
+          → cond t (Some memo) (memo_in old (ref_name h)) ≡ Some other
+          → IsMemo sheet keys revision (ref_name h) other
+      go true same found =
+          subst (λ (m : Memo). IsMemo sheet keys revision (ref_name h) m) (same_Some _ _ found)
+          (subst (λ n. IsMemo sheet keys revision n memo) (names_same _ _ same) one)
+      go false apart found = is h other found
+
+  -- more queries are stored
+  pub memos_on : (old new : State Key) (revision : ℕ) (memos : HashMap Handle Memo S)
+      → AreMemos sheet old revision memos → ReadsOn old new → AreMemos sheet new revision memos
+  memos_on old new revision memos is on h memo at =
+      let m = is h memo at in record {
+        key = m.key;
+        stored = on (ref_name h) m.key m.stored;
+        early = m.early;
+        given = m.given;
+        right = m.right;
+      }
+
+-- a memo of this revision has the right answer
+pub memo_right : (sheet : Formulas) (keys : State Key) (revision : ℕ) (name : Name) (memo : Memo)
+    (key : Key) → IsMemo sheet keys revision name memo → reads keys name ≡ Some key
+    → memo.verified ≡ revision → IsRight sheet key memo.answer
+memo_right sheet keys revision name memo key is read now =
+    subst (λ k. IsRight sheet k memo.answer) (same_Some _ _ (sym is.stored ∙ read)) (is.right now)
+
+-- values that are equal one by one are the same
+pub same_values : (eq : Value → Value → Bool) → ((a b : Value) → (eq a b ≡ true) ↔ (a ≡ b))
+    → (xs ys : List Value) → pointwise eq xs ys ≡ true → xs ≡ ys
+same_values eq alike [] [] is = refl
+same_values eq alike [] (y ∷ ys) is = absurd (cc)
+same_values eq alike (x ∷ xs) [] is = absurd (cc)
+same_values eq alike (x ∷ xs) (y ∷ ys) is =
+    let both = and_parts _ _ is in
+    let first = (alike x y).0 both.0 in
+    let rest = same_values eq alike xs ys both.1 in λ i. first i ∷ rest i
+
+-- an older memo's value is what the query gives from the values that it read
+pub memo_given : (sheet : Formulas) (keys : State Key) (revision : ℕ) (name : Name) (memo : Memo)
+    (key : Key) → IsMemo sheet keys revision name memo → reads keys name ≡ Some key
+    → (value : Value) → memo.answer ≡ answer.Value value → (values : List Value)
+    → memo.values.items ≡ values → value ≡ gives sheet key values
+memo_given sheet keys revision name memo key is read value at values same =
+    is.given value at
+    ∙ (λ i. gives sheet (same_Some _ _ (sym is.stored ∙ read) i) (same i))
+
+-- ---- an edit
+
+same_places : (p q : Place) → same_place p q ≡ true → q ≡ p
+same_places p q is =
+    let both = and_parts _ _ is in
+    let columns = sym (eqb-true _ _ both.0) in
+    let rows = sym (eqb-true _ _ both.1) in λ i. record { column = columns i; row = rows i }
+
+module _ (old new : Formulas) (place : Place)
+    (others : (p : Place) → same_place place p ≡ false → formula_at new p ≡ formula_at old p) where
+  -- every other query gives what it did
+  gives_same : (key : Key) → ((p : Place) → key ≡ Cell p → same_place place p ≡ false)
+      → (values : List Value) → gives new key values ≡ gives old key values
+  gives_same (Cell p) apart values = ap (λ f. cell_value f values) (others p (apart p refl))
+  gives_same (Total function block) apart values = refl
+
+  pub memos_edited : {S : Type 0} (keys later : State Key) (revision next : ℕ)
+      (memos left : HashMap Handle Memo S) → later ≡ keys → next ≡ revision + 1
+      → AreMemos old keys revision memos
+      → ((h : Handle) → reads keys (ref_name h) ≡ Some (Cell place) → memo_in left (ref_name h) ≡ None)
+      → ((h : Handle) (memo : Memo) → memo_in left (ref_name h) ≡ Some memo → memo_in memos (ref_name h) ≡ Some memo)
+      → AreMemos new later next left
+  memos_edited keys later revision next memos left same_keys one_more is gone kept h memo at =
+      let m = is h memo (kept h memo at) in
+      let late : memo.verified ≤ revision = m.early in record {
+        key = m.key;
+        stored = ap (λ s. reads s (ref_name h)) same_keys ∙ m.stored;
+        early = omega arith;
+        given = λ value has. m.given value has ∙ sym (gives_same m.key (apart m.key m.stored) memo.values.items);
+        right = λ now. absurd (omega (arith, now, one_more));
+      }
+    where
+      apart : (key : Key) → reads keys (ref_name h) ≡ Some key → (p : Place) → key ≡ Cell p → same_place place p ≡ false
+      apart key read p cell = go (same_place place p) refl
+        where
+          go : (t : Bool) → same_place place p ≡ t → t ≡ false
+          go false differs = refl
+          go true same =
+              let none = gone h (read ∙ ap Some (cell ∙ ap Cell (same_places place p same))) in
+              absurd (cc)
+
+-- ---- a collection
+
+-- what is found among the entries that pass is found among all, and passes
+module _ (name : Name) (passes : Name → Bool) (memo : Memo) where
+  abbrev named : Handle → Bool
+  named r = same_name name (ref_name r)
+
+  abbrev passing : List (Handle × Memo) → List (Handle × Memo)
+  passing entries = filter (λ e. passes (ref_name e.0)) entries
+
+  abbrev FoundAmong : List (Handle × Memo) → Type 0
+  FoundAmong es = (lookup named es ≡ Some memo) × (passes name ≡ true)
+
+  found_later : (e : Handle × Memo) (es : List (Handle × Memo))
+      → (lookup named (passing es) ≡ Some memo → FoundAmong es) → (t u : Bool)
+      → passes (ref_name e.0) ≡ t → named e.0 ≡ u
+      → lookup named (cond t (e ∷ passing es) (passing es)) ≡ Some memo → FoundAmong (e ∷ es)
+  found_later e es rest true true pass same found =
+      let here = sym (ap (λ v. cond v (Some e.1) (lookup named (passing es))) same) ∙ found in
+      (ap (λ v. cond v (Some e.1) (lookup named es)) same ∙ here, ap passes (names_same _ _ same) ∙ pass)
+  found_later e es rest true false pass same found =
+      let here = sym (ap (λ v. cond v (Some e.1) (lookup named (passing es))) same) ∙ found in
+      let later = rest here in
+      (ap (λ v. cond v (Some e.1) (lookup named es)) same ∙ later.0, later.1)
+  found_later e es rest false true pass same found =
+      let later = rest found in
+      let never = sym pass ∙ ap passes (sym (names_same _ _ same)) ∙ later.1 in absurd (cc)
+  found_later e es rest false false pass same found =
+      let later = rest found in
+      (ap (λ v. cond v (Some e.1) (lookup named es)) same ∙ later.0, later.1)
+
+  kept_lookup : (entries : List (Handle × Memo)) → lookup named (passing entries) ≡ Some memo
+      → FoundAmong entries
+  kept_lookup [] at = absurd (cc)
+  kept_lookup (e ∷ es) at =
+      found_later e es (kept_lookup es) (passes (ref_name e.0)) (named e.0) refl refl at
+
+-- the memos of the queries that are left
+pub memos_kept : {S : Type 0} (sheet : Formulas) (keys later : State Key) (revision : ℕ)
+    (memos left : HashMap Handle Memo S) (set : Name → Bool) → AreMemos sheet keys revision memos
+    → later ≡ kept_named keys set
+    → left.entries ≡ filter (λ e. is_some (reads later (ref_name e.0))) memos.entries
+    → AreMemos sheet later revision left
+memos_kept sheet keys later revision memos left set is kept entries h memo at =
+    let found = kept_lookup (ref_name h) (λ n. is_some (reads later n)) memo memos.entries
+    (sym (ap (lookup (λ r. same_name (ref_name h) (ref_name r))) entries) ∙ at) in
+    let m = is h memo found.0 in
+    let now = ap (λ s. reads s (ref_name h)) kept ∙ reads-kept_named keys set (ref_name h) in record {
+      key = m.key;
+      stored = now ∙ there (set (ref_name h)) m.key m.stored (sym (ap is_some now) ∙ found.1);
+      early = m.early;
+      given = m.given;
+      right = m.right;
+    }
+  where
+    there : (t : Bool) (key : Key) → reads keys (ref_name h) ≡ Some key
+        → is_some (cond t (reads keys (ref_name h)) None) ≡ true
+        → cond t (reads keys (ref_name h)) None ≡ Some key
+    there true key read is = read
+    there false key read is = absurd (cc)

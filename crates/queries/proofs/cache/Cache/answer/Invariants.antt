@@ -1,0 +1,11 @@
+use Rattle.queries.specs.Cache.{IsCache}
+use Rattle.queries.specs.Path.{IsFrame, IsPath}
+use Rattle.queries.proofs.cache.Cache.answer.Given as goal
+
+-- the path leads from the query that was asked for to the one that is computed
+abbrev pub invariant-steps : goal.invariant-steps
+invariant-steps l = record {
+  cache : IsCache l.fn.sheet l.self;
+  frame : IsFrame l.fn.sheet l.self.keys l.top;
+  path : IsPath l.fn.sheet l.self.keys l.fn.root l.path.frames.items l.top.key;
+}

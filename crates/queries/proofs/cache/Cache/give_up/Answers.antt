@@ -1,0 +1,12 @@
+use Rattle.queries.proofs.cache.Cache.give_up.Goals as goal
+
+pub returns-in_err-put_cycle : goal.returns-in_err-put_cycle
+returns-in_err-put_cycle c sheet is top all =
+    c.put_cycle.ensures.cache sheet c.args.top.key is top.stored top.cyclic
+
+pub loop-frame-init : goal.loop-frame-init
+loop-frame-init c = record {
+  keys = c.in_ok-put_cycle.ensures.keys;
+  cache = λ sheet is top all.
+      c.put_cycle.ensures.cache sheet c.args.top.key is top.stored top.cyclic;
+}

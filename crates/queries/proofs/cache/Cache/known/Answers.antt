@@ -1,0 +1,17 @@
+use Rattle.std.proofs.Common.{sym, refl, ◌∙◌}
+use Rattle.ra_ap_intern.specs.Handle.{ref_name}
+use Rattle.ra_ap_intern.proofs.CallerLemmas.{names_same}
+use Rattle.queries.proofs.Paths.{cycle_top, cycle_path}
+use Rattle.queries.proofs.cache.Cache.known.Goals as goal
+
+pub returns-then-eq : goal.returns-then-eq
+returns-then-eq c sheet root is at path =
+    cycle_top sheet _ c.args.top.now c.args.key at c.requires.waits (ref_name c.args.handle)
+    (names_same _ _ (sym (c.handles_are_their_names.ensures c.args.top.now.handle c.args.handle) ∙ sym c.if-eq.ensures))
+    c.requires.stored
+
+pub returns-then-has : goal.returns-then-has
+returns-then-has c sheet root is at path =
+    cycle_path sheet _ c.args.top.now c.args.key at c.requires.waits root
+    c.args.path.now.frames.items path (ref_name c.args.handle) (c.if-has.ensures refl)
+    c.requires.stored

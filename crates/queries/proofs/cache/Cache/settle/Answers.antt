@@ -1,0 +1,23 @@
+use Rattle.std.proofs.Common.{refl, sym, subst}
+use Rattle.queries.specs.Path.{IsFrame}
+use Rattle.queries.proofs.Paths.{settled, settled_memo}
+use Rattle.queries.proofs.cache.Cache.settle.Goals as goal
+
+pub returns-clause-value : goal.returns-clause-value
+returns-clause-value c =
+    settled c.args.sheet.now _ c.args.frame _ c.requires.frame c.requires.complete
+    c.in_ok-value.ensures.given
+
+pub returns-in_err-put-clause-cache : goal.returns-in_err-put-clause-cache
+returns-in_err-put-clause-cache c =
+    c.put.ensures.cache c.args.sheet.now c.in_ok-value.ensures.cache
+    (settled_memo c.args.sheet.now _ _ c.args.frame c.in_ok-value.value _
+    (subst (λ keys. IsFrame c.args.sheet.now keys c.args.frame) (sym c.in_ok-value.ensures.keys) c.requires.frame)
+    c.requires.complete c.in_ok-value.ensures.given refl refl refl)
+
+pub returns-clause-cache : goal.returns-clause-cache
+returns-clause-cache c =
+    c.put.ensures.cache c.args.sheet.now c.in_ok-value.ensures.cache
+    (settled_memo c.args.sheet.now _ _ c.args.frame c.in_ok-value.value _
+    (subst (λ keys. IsFrame c.args.sheet.now keys c.args.frame) (sym c.in_ok-value.ensures.keys) c.requires.frame)
+    c.requires.complete c.in_ok-value.ensures.given refl refl refl)

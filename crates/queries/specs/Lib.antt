@@ -1,0 +1,7 @@
+pub mod Cache
+pub mod Evaluation
+pub mod Formula
+pub mod Sheet
+pub mod Tree
+pub mod Value
+pub mod Path

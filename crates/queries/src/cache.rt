@@ -1,0 +1,416 @@
+//! The cache: what each query came to, and when that was last known to be right.
+ghost use Rattle.std.specs.Prelude.{◌≡◌, ◌∷◌, Bool, true, false, [], Some, None, All, IfOk, OnOk, OnErr, IfSome, length, slice_get, option_copied};
+ghost use Rattle.ra_ap_intern.specs.Handle.{ref_name};
+ghost use Rattle.ra_ap_intern.specs.Name.{Name as KeyName};
+ghost use Rattle.ra_ap_intern.specs.State.{reads};
+ghost use Rattle.queries.specs.Cache.{Handle, memo_at, IsMemo, IsCache, ReadsOn};
+ghost use Rattle.queries.specs.Evaluation.{Evaluates, IsRight, LeadsToCycle};
+ghost use Rattle.queries.specs.Path.{WaitsFor, IsFrame, IsPath, IsStuck, GoesOn};
+ghost use Rattle.queries.specs.Sheet.{Formulas, formula_at, same_place, gives};
+ghost use Rattle.queries.specs.declared.cache.Memo.{Memo as MemoType};
+ghost use Rattle.queries.specs.declared.key.Key.{Key as KeyType};
+ghost use Rattle.queries.specs.declared.place.Place.{Place as PlaceType};
+
+use crate::fault::Fault;
+use crate::key::{Key, KeyRef};
+use crate::laws;
+use crate::path::{Frame, Path};
+use crate::place::Place;
+use crate::sheet::Sheet;
+use crate::value::{Answer, Value};
+use ra_ap_intern::{GarbageCollector, InternStorage, Interned};
+use std::alloc::{AllocError, Global};
+use std::collections::HashMap;
+
+/// What a query came to.
+#[derive(Drop)]
+pub struct Memo {
+    /// The answer.
+    pub answer: Answer,
+    /// What it read.
+    pub reads: Vec<KeyRef>,
+    /// The values that it read, in order.
+    pub values: Vec<Value>,
+    /// The revision at which the answer was last right.
+    pub verified: u64,
+}
+
+/// How queries were answered.
+#[derive(Clone, Copy, PartialEq, Eq, Debug)]
+pub struct Counts {
+    /// From the values that they read.
+    pub computed: u64,
+    /// By an older memo, since all that it had read was the same again.
+    pub verified: u64,
+    /// By a memo of this revision.
+    pub reused: u64,
+}
+
+/// The memos of queries, under their handles.
+#[derive(Drop)]
+pub struct Cache {
+    alloc: Global,
+    /// The queries.
+    pub keys: InternStorage<Key>,
+    /// What they came to.
+    pub memos: HashMap<KeyRef, Memo>,
+    /// How many edits there were.
+    pub revision: u64,
+    /// How queries were answered.
+    pub counts: Counts,
+}
+
+impl Memo {
+    // Whether these are the values that it read.
+    fn has_read(&self, values: &[Value]) -> bool
+        ensures { result ≡ true → self.now.values.items ≡ values.now }
+    {
+        laws::values_are_equal_exactly_if_they_are_the_same();
+        self.values.as_slice() == values
+    }
+}
+
+// How an evaluation goes on.
+enum Progress {
+    // With this query.
+    At(Frame),
+    // The first query is answered.
+    Done(Answer),
+}
+
+impl Cache {
+    /// Nothing is known.
+    pub fn new(alloc: Global) -> Cache
+        ensures { (sheet : Formulas) → IsCache sheet result }
+    {
+        Cache {
+            alloc,
+            keys: InternStorage::new(alloc, 1),
+            memos: HashMap::new(alloc),
+            revision: 0,
+            counts: Counts {
+                computed: 0,
+                verified: 0,
+                reused: 0,
+            },
+        }
+    }
+
+    /// The formula of a cell has changed: its memo goes, and no other is right by itself any more.
+    pub fn raise(&mut self, place: Place) -> Result<(), Fault>
+        ensures cache { OnOk result ((old new : Formulas) → IsCache old self.old →
+            ((p : PlaceType) → same_place place p ≡ false → formula_at new p ≡ formula_at old p) →
+            IsCache new self.new) }
+        ensures err { OnErr result (self.new ≡ self.old) }
+    {
+        if self.revision == u64::MAX {
+            return Err(Fault::RevisionsUsedUp);
+        }
+        self.revision += 1;
+        self.forget(Key::Cell(place));
+        Ok(())
+    }
+
+    // A query has no memo any more.
+    fn forget(&mut self, key: Key)
+        ensures keys { self.new.keys ≡ self.old.keys }
+        ensures revision { self.new.revision ≡ self.old.revision }
+        ensures gone { (h : Handle) → reads self.old.keys (ref_name h) ≡ Some key →
+            memo_at self.new (ref_name h) ≡ None }
+        ensures kept { (h : Handle) (memo : MemoType) → memo_at self.new (ref_name h) ≡ Some memo →
+            memo_at self.old (ref_name h) ≡ Some memo }
+    {
+        laws::keys_are_equal_exactly_if_they_are_the_same();
+        laws::handles_are_their_names();
+        let _number = self.keys.number();
+        let Some(handle) = self.keys.get(&key) else {
+            return;
+        };
+        let _ = self.memos.remove(&handle);
+    }
+
+    /// The answer to a query.
+    pub fn answer(&mut self, sheet: &Sheet, root: Key) -> Result<Answer, Fault>
+        requires { IsCache sheet.now self.old }
+        ensures right { IfOk result (IsRight sheet.now root) }
+        ensures cache { IsCache sheet.now self.new }
+    {
+        let handle = self.handle(root)?;
+        if let Some(answer) = self.current(handle) {
+            self.counts.reused = self.counts.reused.saturating_add(1);
+            return Ok(answer);
+        }
+        let mut path = Path::new(self.alloc);
+        let mut top = self.open(sheet, root, handle)?;
+        'steps: for _ in 0..u64::MAX {
+            match self.advance(sheet, &mut path, top)? {
+                Progress::At(frame) => top = frame,
+                Progress::Done(answer) => return Ok(answer),
+            }
+        }
+        Err(Fault::StepsUsedUp)
+    }
+
+    // The handle of a query.
+    fn handle(&mut self, key: Key) -> Result<KeyRef, Fault>
+        ensures stored { IfOk result (λ handle. reads self.new.keys (ref_name handle) ≡ Some key) }
+        ensures on { ReadsOn self.old.keys self.new.keys }
+        ensures cache { (sheet : Formulas) → IsCache sheet self.old → IsCache sheet self.new }
+    {
+        laws::keys_are_equal_exactly_if_they_are_the_same();
+        let _number = self.keys.number();
+        let (handle, _) = Interned::new_gc(&mut self.keys, key)?;
+        Ok(handle)
+    }
+
+    // The memo of a query.
+    fn memo(&self, handle: KeyRef) -> Option<&Memo>
+        ensures { option_copied result ≡ memo_at self.now (ref_name handle) }
+    {
+        laws::handles_are_their_names();
+        self.memos.get(&handle)
+    }
+
+    // A memo of a query, in place of the one that it had.
+    fn put(&mut self, handle: KeyRef, memo: Memo) -> Result<(), Fault>
+        ensures keys { self.new.keys ≡ self.old.keys }
+        ensures cache { (sheet : Formulas) → IsCache sheet self.old →
+            IsMemo sheet self.old.keys self.old.revision (ref_name handle) memo →
+            IsCache sheet self.new }
+    {
+        laws::handles_are_their_names();
+        self.memos.insert(handle, memo)?;
+        Ok(())
+    }
+
+    // The answer of a memo of this revision.
+    fn current(&self, handle: KeyRef) -> Option<Answer>
+        ensures { (sheet : Formulas) (key : KeyType) → IsCache sheet self.now →
+            reads self.now.keys (ref_name handle) ≡ Some key → IfSome result (IsRight sheet key) }
+    {
+        let memo = self.memo(handle)?;
+        if memo.verified != self.revision {
+            return None;
+        }
+        Some(memo.answer)
+    }
+
+    // Begins to compute a query.
+    fn open(&self, sheet: &Sheet, key: Key, handle: KeyRef) -> Result<Frame, Fault>
+        requires { reads self.now.keys (ref_name handle) ≡ Some key }
+        ensures key { IfOk result (λ frame. frame.key ≡ key) }
+        ensures frame { IfOk result (IsFrame sheet.now self.now.keys) }
+    {
+        let wants = sheet.reads(key)?;
+        Ok(Frame::new(self.alloc, key, handle, wants))
+    }
+
+    // One step of an evaluation: the query at the end of the path reads a value, or is settled.
+    fn advance(&mut self, sheet: &Sheet, path: &mut Path, top: Frame) -> Result<Progress, Fault>
+        requires cache { IsCache sheet.now self.old }
+        requires frame { IsFrame sheet.now self.old.keys top }
+        requires path { (first : KeyType)
+            × IsPath sheet.now self.old.keys first path.old.frames.items top.key }
+        ensures cache { IsCache sheet.now self.new }
+        ensures goes_on { (root : KeyType) →
+            IsPath sheet.now self.old.keys root path.old.frames.items top.key →
+            IfOk result (GoesOn sheet.now self.new.keys root path.new.frames.items) }
+    {
+        match top.next() {
+            Some(key) => self.read(sheet, path, top, key),
+            None => self.finish(sheet, path, top),
+        }
+    }
+
+    // The query reads a value, or waits for it.
+    fn read(
+        &mut self,
+        sheet: &Sheet,
+        path: &mut Path,
+        mut top: Frame,
+        key: Key,
+    ) -> Result<Progress, Fault>
+        requires cache { IsCache sheet.now self.old }
+        requires frame { IsFrame sheet.now self.old.keys top }
+        requires waits { WaitsFor top key }
+        requires path { (first : KeyType)
+            × IsPath sheet.now self.old.keys first path.old.frames.items top.key }
+        ensures cache { IsCache sheet.now self.new }
+        ensures goes_on { (root : KeyType) →
+            IsPath sheet.now self.old.keys root path.old.frames.items top.key →
+            IfOk result (GoesOn sheet.now self.new.keys root path.new.frames.items) }
+    {
+        let handle = self.handle(key)?;
+        match self.known(path, &top, key, handle) {
+            Some(answer) => self.resume(path, top, handle, answer),
+            None => {
+                path.push(top)?;
+                Ok(Progress::At(self.open(sheet, key, handle)?))
+            }
+        }
+    }
+
+    // The query that waited for this answer goes on with it.
+    fn resume(
+        &mut self,
+        path: &Path,
+        mut top: Frame,
+        handle: KeyRef,
+        answer: Answer,
+    ) -> Result<Progress, Fault>
+        ensures cache { (sheet : Formulas) (first key : KeyType) → IsCache sheet self.old →
+            IsFrame sheet self.old.keys top →
+            IsPath sheet self.old.keys first path.now.frames.items top.key → WaitsFor top key →
+            IsRight sheet key answer → IsCache sheet self.new }
+        ensures goes_on { (sheet : Formulas) (first key : KeyType) → IsFrame sheet self.old.keys top →
+            IsPath sheet self.old.keys first path.now.frames.items top.key → WaitsFor top key →
+            IsRight sheet key answer →
+            IfOk result (GoesOn sheet self.new.keys first path.now.frames.items) }
+    {
+        match answer {
+            Answer::Value(value) => {
+                self.counts.reused = self.counts.reused.saturating_add(1);
+                top.take(handle, value)?;
+                Ok(Progress::At(top))
+            }
+            Answer::Cycle(through) => {
+                self.give_up(path, top, through)?;
+                Ok(Progress::Done(answer))
+            }
+        }
+    }
+
+    // The answer to a query as far as it is known: by a memo, or since it waits for itself.
+    fn known(&self, path: &Path, top: &Frame, key: Key, handle: KeyRef) -> Option<Answer>
+        requires stored { reads self.now.keys (ref_name handle) ≡ Some key }
+        requires waits { WaitsFor top.now key }
+        ensures { (sheet : Formulas) (root : KeyType) → IsCache sheet self.now →
+            IsFrame sheet self.now.keys top.now →
+            IsPath sheet self.now.keys root path.now.frames.items top.now.key →
+            IfSome result (IsRight sheet key) }
+    {
+        laws::handles_are_their_names();
+        if let Some(answer) = self.current(handle) {
+            return Some(answer);
+        }
+        if top.handle == handle {
+            return Some(Answer::Cycle(key));
+        }
+        if path.has(handle) {
+            return Some(Answer::Cycle(key));
+        }
+        None
+    }
+
+    // The query has read all its values, and the one that waits for it goes on.
+    fn finish(&mut self, sheet: &Sheet, path: &mut Path, top: Frame) -> Result<Progress, Fault>
+        requires cache { IsCache sheet.now self.old }
+        requires frame { IsFrame sheet.now self.old.keys top }
+        requires complete { slice_get top.wants.items (length top.values.items) ≡ None }
+        ensures cache { IsCache sheet.now self.new }
+        ensures goes_on { (root : KeyType) →
+            IsPath sheet.now self.old.keys root path.old.frames.items top.key →
+            IfOk result (GoesOn sheet.now self.new.keys root path.new.frames.items) }
+    {
+        let handle = top.handle;
+        let value = self.settle(sheet, top)?;
+        match path.pop() {
+            Some(mut waiting) => {
+                waiting.take(handle, value)?;
+                Ok(Progress::At(waiting))
+            }
+            None => Ok(Progress::Done(Answer::Value(value))),
+        }
+    }
+
+    // The value of a query that has read all its values.
+    fn settle(&mut self, sheet: &Sheet, frame: Frame) -> Result<Value, Fault>
+        requires cache { IsCache sheet.now self.old }
+        requires frame { IsFrame sheet.now self.old.keys frame }
+        requires complete { slice_get frame.wants.items (length frame.values.items) ≡ None }
+        ensures value { IfOk result (λ value. Evaluates sheet.now frame.key value) }
+        ensures keys { self.new.keys ≡ self.old.keys }
+        ensures cache { IsCache sheet.now self.new }
+    {
+        let value = self.given(sheet, &frame)?;
+        let memo = Memo {
+            answer: Answer::Value(value),
+            reads: frame.reads,
+            values: frame.values,
+            verified: self.revision,
+        };
+        self.put(frame.handle, memo)?;
+        Ok(value)
+    }
+
+    // What a query gives from the values that it has read: what it gave from them before, or else
+    // it is computed.
+    fn given(&mut self, sheet: &Sheet, frame: &Frame) -> Result<Value, Fault>
+        requires cache { IsCache sheet.now self.old }
+        requires stored { reads self.old.keys (ref_name frame.now.handle) ≡ Some frame.now.key }
+        ensures given { IfOk result (λ value.
+            value ≡ gives sheet.now frame.now.key frame.now.values.items) }
+        ensures keys { self.new.keys ≡ self.old.keys }
+        ensures cache { IsCache sheet.now self.new }
+    {
+        if let Some(value) = self.unchanged(frame) {
+            self.counts.verified = self.counts.verified.saturating_add(1);
+            return Ok(value);
+        }
+        self.counts.computed = self.counts.computed.saturating_add(1);
+        Ok(sheet.give(frame.key, frame.values.as_slice())?)
+    }
+
+    // The value of an older memo, where all that it read is the same again.
+    fn unchanged(&self, frame: &Frame) -> Option<Value>
+        ensures { (sheet : Formulas) → IsCache sheet self.now →
+            reads self.now.keys (ref_name frame.now.handle) ≡ Some frame.now.key →
+            IfSome result (λ value. value ≡ gives sheet frame.now.key frame.now.values.items) }
+    {
+        let memo = self.memo(frame.handle)?;
+        match memo.answer {
+            Answer::Value(value) if memo.has_read(&frame.values) => Some(value),
+            _ => None,
+        }
+    }
+
+    // None of the queries on the path has a value.
+    fn give_up(&mut self, path: &Path, top: Frame, through: Key) -> Result<(), Fault>
+        ensures { (sheet : Formulas) → IsCache sheet self.old →
+            IsStuck sheet self.old.keys through top →
+            All (IsStuck sheet self.old.keys through) path.now.frames.items →
+            IsCache sheet self.new }
+    {
+        self.put_cycle(top.handle, through)?;
+        for frame in &path.frames {
+            self.put_cycle(frame.handle, through)?;
+        }
+        Ok(())
+    }
+
+    // A query has no value at this revision.
+    fn put_cycle(&mut self, handle: KeyRef, through: Key) -> Result<(), Fault>
+        ensures keys { self.new.keys ≡ self.old.keys }
+        ensures cache { (sheet : Formulas) (key : KeyType) → IsCache sheet self.old →
+            reads self.old.keys (ref_name handle) ≡ Some key → LeadsToCycle sheet key through →
+            IsCache sheet self.new }
+    {
+        let memo = Memo {
+            answer: Answer::Cycle(through),
+            reads: Vec::new(self.alloc),
+            values: Vec::new(self.alloc),
+            verified: self.revision,
+        };
+        self.put(handle, memo)
+    }
+
+    /// Removes the queries that these handles don't need, with their memos. It tells how many.
+    pub fn collect(&mut self, needed: &[KeyRef]) -> Result<usize, AllocError>
+        ensures { (sheet : Formulas) → IsCache sheet self.old → IsCache sheet self.new }
+    {
+        let collected = GarbageCollector::new(self.alloc).collect_from(&mut self.keys, &needed)?;
+        let keys = &self.keys;
+        self.memos.retain(|handle, _| keys.contains(*handle));
+        Ok(collected.removed)
+    }
+}

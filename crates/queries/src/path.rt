@@ -1,0 +1,123 @@
+//! The queries that are being computed, each since the one before wants its value.
+ghost use Rattle.std.specs.Prelude.{◌≡◌, ◌∷◌, ◌++◌, [], length, slice_get, Any, OnOk, MatchOption, IsTrue};
+ghost use Rattle.ra_ap_intern.specs.Handle.{ref_name};
+
+use crate::fault::Fault;
+use crate::key::{Key, KeyRef};
+use crate::laws;
+use crate::value::Value;
+use std::alloc::Global;
+use std::collections::HashSet;
+
+/// A query that is being computed.
+#[derive(Drop)]
+pub struct Frame {
+    /// The query.
+    pub key: Key,
+    /// Its handle.
+    pub handle: KeyRef,
+    /// What it reads, in order.
+    pub wants: Vec<Key>,
+    /// The handles of what it has read so far.
+    pub reads: Vec<KeyRef>,
+    /// The values that it has read so far.
+    pub values: Vec<Value>,
+}
+
+/// The queries that wait for a value, the first at the front.
+#[derive(Drop)]
+pub struct Path {
+    /// The queries.
+    pub frames: Vec<Frame>,
+    // Their handles.
+    waiting: HashSet<KeyRef>,
+}
+
+impl Frame {
+    /// A query that has read nothing yet.
+    pub fn new(alloc: Global, key: Key, handle: KeyRef, wants: Vec<Key>) -> Frame
+        ensures key { result.key ≡ key }
+        ensures handle { result.handle ≡ handle }
+        ensures wants { result.wants.items ≡ wants.items }
+        ensures values { result.values.items ≡ [] }
+    {
+        Frame {
+            key,
+            handle,
+            wants,
+            reads: Vec::new(alloc),
+            values: Vec::new(alloc),
+        }
+    }
+
+    /// The query whose value it reads next.
+    pub fn next(&self) -> Option<Key>
+        ensures { result ≡ slice_get self.now.wants.items (length self.now.values.items) }
+    {
+        self.wants.get(self.values.len()).copied()
+    }
+
+    /// Takes the value of that query.
+    pub fn take(&mut self, handle: KeyRef, value: Value) -> Result<(), Fault>
+        ensures key { OnOk result (self.new.key ≡ self.old.key) }
+        ensures handle { OnOk result (self.new.handle ≡ self.old.handle) }
+        ensures wants { OnOk result (self.new.wants.items ≡ self.old.wants.items) }
+        ensures values { OnOk result (self.new.values.items ≡ self.old.values.items ++ value ∷ []) }
+    {
+        self.reads.push(handle)?;
+        self.values.push(value)?;
+        Ok(())
+    }
+}
+
+impl Path {
+    /// No query waits.
+    pub fn new(alloc: Global) -> Path
+        ensures { result.frames.items ≡ [] }
+    {
+        Path {
+            frames: Vec::new(alloc),
+            waiting: HashSet::new(alloc),
+        }
+    }
+
+    /// One more query waits.
+    pub fn push(&mut self, frame: Frame) -> Result<(), Fault>
+        ensures { OnOk result (self.new.frames.items ≡ self.old.frames.items ++ frame ∷ []) }
+    {
+        self.waiting.insert(frame.handle)?;
+        self.frames.push(frame)?;
+        Ok(())
+    }
+
+    /// The last query goes on.
+    pub fn pop(&mut self) -> Option<Frame>
+        ensures { MatchOption result (self.old.frames.items ≡ [])
+            (λ frame. self.old.frames.items ≡ self.new.frames.items ++ frame ∷ []) }
+    {
+        let frame = self.frames.pop()?;
+        self.waiting.remove(&frame.handle);
+        Some(frame)
+    }
+
+    /// Whether a query waits.
+    pub fn has(&self, handle: KeyRef) -> bool
+        ensures { IsTrue result → Any (λ frame. ref_name frame.handle ≡ ref_name handle)
+            self.now.frames.items }
+    {
+        self.waiting.contains(&handle) && is_among(&self.frames, handle)
+    }
+}
+
+// Whether a query is one of these.
+fn is_among(frames: &[Frame], handle: KeyRef) -> bool
+    ensures { IsTrue result → Any (λ frame. ref_name frame.handle ≡ ref_name handle) frames.now }
+{
+    laws::handles_are_their_names();
+    for frame in frames {
+        if frame.handle == handle {
+            return true;
+        }
+    }
+    false
+}

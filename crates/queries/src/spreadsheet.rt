@@ -1,0 +1,132 @@
+//! A spreadsheet: a sheet, and a cache of its queries.
+ghost use Rattle.std.specs.Prelude.{◌≡◌, [], Some, None, IfOk, OnOk, OnErr, if◌then◌else◌};
+ghost use Rattle.queries.specs.Evaluation.{Answers};
+ghost use Rattle.queries.specs.Sheet.{formula_at, same_place};
+ghost use Rattle.queries.specs.declared.key.Key.TheVariants.{Cell as cell_key};
+ghost use Rattle.queries.specs.declared.place.Place.{Place as PlaceType};
+
+use crate::cache::{Cache, Counts};
+use crate::fault::Fault;
+use crate::formula::Formula;
+use crate::key::{Key, KeyRef};
+use crate::place::Place;
+use crate::sheet::Sheet;
+use crate::value::Answer;
+use indexmap::IndexSet;
+use std::alloc::{AllocError, Global};
+use std::marker::Model;
+
+/// A spreadsheet.
+#[derive(Drop)]
+pub struct Spreadsheet {
+    alloc: Global,
+    sheet: Sheet,
+    cache: Cache,
+}
+
+impl Model for Spreadsheet {
+    ghost use Rattle.queries.specs.Sheet.{Formulas};
+
+    ghost Value = { Formulas };
+
+    ghost use Rattle.queries.specs.Cache.{IsCache};
+
+    ghost view = { λ a. a.sheet };
+
+    ghost invariant = { λ a. IsCache a.sheet a.cache };
+}
+
+impl Spreadsheet {
+    /// No cell has a formula.
+    pub fn new(alloc: Global) -> Spreadsheet
+        ensures { result ≡ [] }
+    {
+        Spreadsheet {
+            alloc,
+            sheet: Sheet::new(alloc),
+            cache: Cache::new(alloc),
+        }
+    }
+
+    /// Gives a cell a formula, in place of the one that it had. Where there is no memory or no
+    /// further revision, nothing changes.
+    pub fn set(&mut self, place: Place, formula: Formula) -> Result<(), Fault>
+        ensures ok { OnOk result ((p : PlaceType) → formula_at self.new p
+            ≡ (if same_place place p then Some formula else formula_at self.old p)) }
+        ensures err { OnErr result (self.new ≡ self.old) }
+    {
+        self.cache.raise(place)?;
+        self.sheet.set(place, formula)?;
+        Ok(())
+    }
+
+    /// Takes the formula of a cell away.
+    pub fn clear(&mut self, place: Place) -> Result<(), Fault>
+        ensures ok { OnOk result ((p : PlaceType) → formula_at self.new p
+            ≡ (if same_place place p then None else formula_at self.old p)) }
+        ensures err { OnErr result (self.new ≡ self.old) }
+    {
+        self.cache.raise(place)?;
+        self.sheet.clear(place);
+        Ok(())
+    }
+
+    /// The value of a cell, or a query through which it leads back to itself.
+    pub fn answer(&mut self, place: Place) -> Result<Answer, Fault>
+        ensures answer { IfOk result (Answers self.old (cell_key place)) }
+        ensures sheet { self.new ≡ self.old }
+    {
+        self.cache.answer(&self.sheet, Key::Cell(place))
+    }
+
+    /// The cells that have formulas, in order.
+    pub fn places(&self) -> Result<Vec<Place>, AllocError> {
+        self.sheet.places()
+    }
+
+    /// How queries were answered so far.
+    pub fn counts(&self) -> Counts {
+        self.cache.counts
+    }
+
+    /// How many queries have handles.
+    pub fn queries(&self) -> usize {
+        self.cache.keys.len()
+    }
+
+    /// Removes the queries that no cell with a formula needs, and tells how many. Where there is
+    /// no memory, nothing changes.
+    pub fn collect(&mut self) -> Result<usize, Fault>
+        ensures { self.new ≡ self.old }
+    {
+        let needed = self.needed()?;
+        Ok(self.cache.collect(needed.as_slice())?)
+    }
+
+    // The queries of the cells with formulas, and all that those have read.
+    fn needed(&self) -> Result<Vec<KeyRef>, Fault> {
+        let mut needed = IndexSet::new(self.alloc);
+        for place in &self.places()? {
+            if let Some(handle) = self.cache.keys.get(&Key::Cell(*place)) {
+                needed.insert(handle)?;
+            }
+        }
+        for index in 0..usize::MAX {
+            match needed.get_index(index).copied() {
+                Some(handle) => self.need_reads(handle, &mut needed)?,
+                None => break,
+            }
+        }
+        Ok(Vec::from_slice(self.alloc, needed.as_slice())?)
+    }
+
+    // What a query has read is needed too.
+    fn need_reads(&self, handle: KeyRef, needed: &mut IndexSet<KeyRef>) -> Result<(), Fault> {
+        if let Some(memo) = self.cache.memos.get(&handle) {
+            for read in &memo.reads {
+                needed.insert(*read)?;
+            }
+        }
+        Ok(())
+    }
+}

@@ -1,0 +1,119 @@
+//! Values of cells, and what functions make of them.
+ghost use Rattle.std.specs.Prelude.{◌≡◌, ℤ, FitsSigned};
+ghost use Rattle.std.specs.Int.{w64};
+ghost use Rattle.std.specs.Option.{SomeIff};
+ghost use Rattle.queries.specs.Value.{exact_number, number_of, value_of, included, total_of};
+
+use crate::key::{Function, Key};
+use std::fmt;
+
+/// Why a cell has no number.
+#[derive(Clone, Copy, PartialEq, Eq, Debug)]
+pub enum CellError {
+    /// A number doesn't fit 64 bits.
+    Overflow,
+    /// A division by zero.
+    DivisionByZero,
+    /// An operation lacks an operand. The parser makes no such formula.
+    Incomplete,
+}
+
+/// The value of a query.
+#[derive(Clone, Copy, PartialEq, Eq, Debug)]
+pub enum Value {
+    /// Of a cell without a formula. It counts as zero.
+    Empty,
+    /// A number.
+    Number(i64),
+    /// An error, which passes on to what reads it.
+    Error(CellError),
+}
+
+/// The answer to a query.
+#[derive(Clone, Copy, PartialEq, Eq, Debug)]
+pub enum Answer {
+    /// Its value.
+    Value(Value),
+    /// It has none, since what it reads leads to a query that reads itself in the end: this one.
+    Cycle(Key),
+}
+
+impl Value {
+    /// As a number.
+    pub fn number(self) -> Result<i64, CellError>
+        ensures { result ≡ number_of self }
+    {
+        match self {
+            Value::Empty => Ok(0),
+            Value::Number(number) => Ok(number),
+            Value::Error(error) => Err(error),
+        }
+    }
+
+    /// Of a number, or of why there is none.
+    pub fn of(outcome: Result<i64, CellError>) -> Value
+        ensures { result ≡ value_of outcome }
+    {
+        match outcome {
+            Ok(number) => Value::Number(number),
+            Err(error) => Value::Error(error),
+        }
+    }
+}
+
+/// The number, where it fits 64 bits.
+pub fn exact(number: Option<i64>) -> Result<i64, CellError>
+    ensures { (n : ℤ) → SomeIff number (FitsSigned w64 n) n → result ≡ exact_number n }
+{
+    number.ok_or(CellError::Overflow)
+}
+
+// One more number.
+fn include(function: Function, so_far: Option<i64>, number: i64) -> Result<i64, CellError>
+    ensures { result ≡ included function so_far number }
+{
+    match (function, so_far) {
+        (Function::Count, None) => Ok(1),
+        (Function::Count, Some(count)) => exact(count.checked_add(1)),
+        (_, None) => Ok(number),
+        (Function::Sum, Some(sum)) => exact(sum.checked_add(number)),
+        (Function::Min, Some(least)) => Ok(least.min(number)),
+        (Function::Max, Some(greatest)) => Ok(greatest.max(number)),
+    }
+}
+
+/// What a function makes of values: empty ones are passed over, and without any number it is zero.
+pub fn total(function: Function, values: &[Value]) -> Result<i64, CellError>
+    ensures { result ≡ total_of function values.now }
+{
+    let mut so_far = None;
+    for value in values {
+        match value {
+            Value::Empty => {}
+            Value::Number(number) => so_far = Some(include(function, so_far, *number)?),
+            Value::Error(error) => return Err(*error),
+        }
+    }
+    Ok(so_far.unwrap_or(0))
+}
+
+impl fmt::Display for Value {
+    fn fmt<W: fmt::Write>(&self, f: &mut fmt::Formatter<W>) -> fmt::Result {
+        match self {
+            Value::Empty => write!(f, "empty"),
+            Value::Number(number) => write!(f, "{number}"),
+            Value::Error(CellError::Overflow) => write!(f, "overflow"),
+            Value::Error(CellError::DivisionByZero) => write!(f, "division by zero"),
+            Value::Error(CellError::Incomplete) => write!(f, "incomplete formula"),
+        }
+    }
+}
+
+impl fmt::Display for Answer {
+    fn fmt<W: fmt::Write>(&self, f: &mut fmt::Formatter<W>) -> fmt::Result {
+        match self {
+            Answer::Value(value) => write!(f, "{value}"),
+            Answer::Cycle(through) => write!(f, "cycle through {through}"),
+        }
+    }
+}
