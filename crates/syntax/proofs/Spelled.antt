@@ -1,0 +1,324 @@
+-- What pieces spell.
+use Rattle.std.proofs.Common.{◌≡◌, Bool, true, false, cond, List, [], ◌∷◌, ◌++◌, map, reverse, length, ◌==◌, arith, Option, Some, None, refl, sym, ap, subst, ◌∙◌, append_assoc}
+use Rattle.std.specs.Option.{option_map}
+use Rattle.std.proofs.lemmas.List.{append-nil, reverse-append, map-append}
+use Rattle.std.proofs.lemmas.Option.{same_Some}
+use Rattle.intern_terms.specs.Handle.{term_name}
+use Rattle.intern_terms.specs.Tree.{Tree, Trees, tree, no_more, one_more, UnfoldsTo}
+use Rattle.intern_terms.specs.declared.handle.TermRef.{TermRef}
+use Rattle.ra_ap_intern.specs.Name.{Name}
+use Rattle.ra_ap_intern.specs.State.{reads}
+use Rattle.ra_ap_intern.specs.Symbols.{Named, same_named, symbol_name, symbol_ref_name}
+use Rattle.ra_ap_intern.specs.declared.symbol.Symbol.{Symbol}
+use Rattle.ra_ap_intern.specs.declared.symbol.SymbolRef.{SymbolRef}
+use Rattle.ra_ap_intern.specs.declared.symbol.symbols.TheConstants as constant
+use Rattle.syntax.specs.Lexeme.{Lexeme, lexeme, call, mark, between, operator_of}
+use Rattle.syntax.specs.Parsing.{Store, Stand}
+use Rattle.syntax.specs.Pieces.{Spell, Prints, comma_pieces}
+use Rattle.syntax.specs.Printing.{arguments, called_with, two_parts, conditional, local, three_parts, written, tokens_of, tokens_of_each, definition, item_mark}
+use Rattle.syntax.specs.declared.printer.Piece.{Piece}
+use Rattle.syntax.specs.declared.printer.Piece.TheVariants as piece
+use Rattle.syntax.specs.declared.token.Mark.{Mark}
+use Rattle.syntax.specs.declared.token.Mark.TheVariants.{Open, Close, If, Then, Else, Let, Equals, In, Semicolon}
+use Rattle.syntax.specs.declared.token.Operator.{Operator}
+use Rattle.syntax.specs.declared.token.Token.{Token}
+use Rattle.syntax.specs.declared.token.Token.TheVariants as token
+
+abbrev pub marked : Mark → Piece
+marked m = piece.Token (token.Mark m)
+
+pub three_called : (head : Named) → same_named head (symbol_name constant.then) ≡ false
+    → same_named head (symbol_name constant.let_) ≡ false → (a b c : List Lexeme)
+    → three_parts head a b c ≡ called_with head a (b ∷ c ∷ [])
+three_called head isnt nor a b c =
+    ap (λ x. cond x (conditional a b c) (cond (same_named head (symbol_name constant.let_))
+    (local a b c) (called_with head a (b ∷ c ∷ [])))) isnt
+    ∙ ap (λ x. cond x (local a b c) (called_with head a (b ∷ c ∷ []))) nor
+
+module _ (s : Store) where
+  pub spelled_sides : (l r : TermRef) (operator : Operator) (t u : Tree)
+      → UnfoldsTo s (term_name l) t → UnfoldsTo s (term_name r) u → (head : Named)
+      → operator_of head ≡ Some operator → (items : List Piece)
+      → items ≡ marked Open ∷ piece.Tree l ∷ piece.Token (token.Infix operator) ∷ piece.Tree r
+      ∷ marked Close ∷ []
+      → Spell s items (two_parts head (operator_of head) (tokens_of t) (tokens_of u))
+  spelled_sides l r operator t u first second head is items whole =
+      let P : Option Operator → Type 0 =
+      λ o. Spell s items (two_parts head o (tokens_of t) (tokens_of u)) in
+      let Q : List Piece → Type 0 =
+      λ ps. Spell s ps (two_parts head (Some operator) (tokens_of t) (tokens_of u)) in
+      let third : List Lexeme = mark Close ∷ [] in
+      let later : List Lexeme = tokens_of u ++ third in
+      let spelled : Q (marked Open ∷ piece.Tree l ∷ piece.Token (token.Infix operator)
+      ∷ piece.Tree r ∷ marked Close ∷ []) = (
+        tokens_of t ++ (between operator ∷ later),
+        refl,
+        (
+          t,
+          between operator ∷ later,
+          first,
+          refl,
+          (later, refl, (u, third, second, refl, ([], refl, refl))),
+        ),
+      ) in
+      subst P (sym is) (subst Q (sym whole) spelled)
+
+  -- three trees behind marks
+  abbrev pub framed : Mark → Mark → Mark → Tree → Tree → Tree → List Lexeme
+  framed first second third t u v = mark Open ∷ mark first ∷ (tokens_of t ++ (mark second
+      ∷ (tokens_of u ++ (mark third ∷ (tokens_of v ++ (mark Close ∷ []))))))
+
+  pub spelled_three : (a b c : TermRef) (t u v : Tree) → UnfoldsTo s (term_name a) t
+      → UnfoldsTo s (term_name b) u → UnfoldsTo s (term_name c) v → (first second third : Mark)
+      (items : List Piece)
+      → items ≡ marked Open ∷ marked first ∷ piece.Tree a ∷ marked second ∷ piece.Tree b
+      ∷ marked third ∷ piece.Tree c ∷ marked Close ∷ []
+      → Spell s items (framed first second third t u v)
+  spelled_three a b c t u v one two three first second third items whole =
+      let Q : List Piece → Type 0 = λ ps. Spell s ps (framed first second third t u v) in
+      let end : List Lexeme = mark Close ∷ [] in
+      let last : List Lexeme = tokens_of v ++ end in
+      let middle : List Lexeme = tokens_of u ++ (mark third ∷ last) in
+      let begin : List Lexeme = tokens_of t ++ (mark second ∷ middle) in
+      let spelled : Q (marked Open ∷ marked first ∷ piece.Tree a ∷ marked second ∷ piece.Tree b
+      ∷ marked third ∷ piece.Tree c ∷ marked Close ∷ []) = (
+        mark first ∷ begin,
+        refl,
+        (
+          begin,
+          refl,
+          (
+            t,
+            mark second ∷ middle,
+            one,
+            refl,
+            (
+              middle,
+              refl,
+              (
+                u,
+                mark third ∷ last,
+                two,
+                refl,
+                (
+                  last,
+                  refl,
+                  (v, end, three, refl, ([], refl, refl)),
+                ),
+              ),
+            ),
+          ),
+        ),
+      ) in
+      subst Q (sym whole) spelled
+
+  pub spelled_item : (a b : TermRef) (t u : Tree) → UnfoldsTo s (term_name a) t
+      → UnfoldsTo s (term_name b) u → (head : Named) (k : Mark) → k ≡ item_mark head
+      → (items : List Piece)
+      → items ≡ marked k ∷ piece.Tree a ∷ marked Equals ∷ piece.Tree b ∷ marked Semicolon ∷ []
+      → Spell s items (definition head (tokens_of t) (tokens_of u))
+  spelled_item a b t u first second head k is items whole =
+      let end : List Lexeme = mark Semicolon ∷ [] in
+      let last : List Lexeme = tokens_of u ++ end in
+      let begin : List Lexeme = tokens_of t ++ (mark Equals ∷ last) in
+      let P : Mark → Type 0 = λ m. Spell s items (mark m ∷ begin) in
+      let Q : List Piece → Type 0 = λ ps. Spell s ps (mark k ∷ begin) in
+      let spelled : Q (marked k ∷ piece.Tree a ∷ marked Equals ∷ piece.Tree b
+      ∷ marked Semicolon ∷ []) = (
+        begin,
+        refl,
+        (
+          t,
+          mark Equals ∷ last,
+          first,
+          refl,
+          (
+            last,
+            refl,
+            (u, end, second, refl, ([], refl, refl)),
+          ),
+        ),
+      ) in
+      subst P is (subst Q (sym whole) spelled)
+
+  spelled_arguments : (terms : List TermRef) (ts : Trees) → Stand s terms ts
+      → Spell s (comma_pieces terms ++ marked Close ∷ []) (arguments (tokens_of_each ts))
+  spelled_arguments [] no_more stand = ([], refl, refl)
+  spelled_arguments [] (one_more t ts) stand = absurd stand
+  spelled_arguments (n ∷ terms) no_more stand = absurd stand
+  spelled_arguments (n ∷ terms) (one_more t ts) stand =
+      let rest : List Lexeme = arguments (tokens_of_each ts) in (
+        tokens_of t ++ rest,
+        refl,
+        (t, rest, stand.0, refl, spelled_arguments terms ts stand.1),
+      )
+
+  pub spelled_call : (name : SymbolRef) (head : Named) → symbol_ref_name name ≡ head
+      → (n : TermRef) (terms : List TermRef) (t : Tree) (ts : Trees)
+      → UnfoldsTo s (term_name n) t → Stand s terms ts
+      → (items one two three : List Piece)
+      → one ≡ piece.Token (token.Call name) ∷ [] → two ≡ one ++ piece.Tree n ∷ []
+      → three ≡ two ++ comma_pieces terms → items ≡ three ++ marked Close ∷ []
+      → Spell s items (called_with head (tokens_of t) (tokens_of_each ts))
+  spelled_call name head is n terms t ts first stand items one two three e1 e2 e3 e4 =
+      let whole : items ≡ piece.Token (token.Call name) ∷ piece.Tree n
+      ∷ (comma_pieces terms ++ marked Close ∷ []) =
+      e4 ∙ ap (λ ps. ps ++ marked Close ∷ []) (e3 ∙ ap (λ ps. ps ++ comma_pieces terms)
+      (e2 ∙ ap (λ ps. ps ++ piece.Tree n ∷ []) e1)) in
+      let rest : List Lexeme = arguments (tokens_of_each ts) in
+      let Q : List Piece → Type 0 =
+      λ ps. Spell s ps (called_with head (tokens_of t) (tokens_of_each ts)) in
+      let spelled : Q (piece.Token (token.Call name) ∷ piece.Tree n
+      ∷ (comma_pieces terms ++ marked Close ∷ [])) = (
+        tokens_of t ++ rest,
+        ap (λ h. call h ∷ (tokens_of t ++ rest)) (sym is),
+        (t, rest, first, refl, spelled_arguments terms ts stand),
+      ) in
+      subst Q (sym whole) spelled
+
+  pub spelled_conditional : (head : Named) → same_named head (symbol_name constant.then) ≡ true
+      → (a b c : TermRef) (t u v : Tree) → UnfoldsTo s (term_name a) t
+      → UnfoldsTo s (term_name b) u → UnfoldsTo s (term_name c) v → (items : List Piece)
+      → items ≡ marked Open ∷ marked If ∷ piece.Tree a ∷ marked Then ∷ piece.Tree b
+      ∷ marked Else ∷ piece.Tree c ∷ marked Close ∷ []
+      → Spell s items (three_parts head (tokens_of t) (tokens_of u) (tokens_of v))
+  spelled_conditional head is a b c t u v one two three items whole =
+      let P : Bool → Type 0 = λ x. Spell s items
+      (cond x (conditional (tokens_of t) (tokens_of u) (tokens_of v))
+      (cond (same_named head (symbol_name constant.let_))
+      (local (tokens_of t) (tokens_of u) (tokens_of v))
+      (called_with head (tokens_of t) (tokens_of u ∷ tokens_of v ∷ [])))) in
+      subst P (sym is) (spelled_three a b c t u v one two three If Then Else items whole)
+
+  pub spelled_local : (head : Named) → same_named head (symbol_name constant.then) ≡ false
+      → same_named head (symbol_name constant.let_) ≡ true
+      → (a b c : TermRef) (t u v : Tree) → UnfoldsTo s (term_name a) t
+      → UnfoldsTo s (term_name b) u → UnfoldsTo s (term_name c) v → (items : List Piece)
+      → items ≡ marked Open ∷ marked Let ∷ piece.Tree a ∷ marked Equals ∷ piece.Tree b
+      ∷ marked In ∷ piece.Tree c ∷ marked Close ∷ []
+      → Spell s items (three_parts head (tokens_of t) (tokens_of u) (tokens_of v))
+  spelled_local head isnt is a b c t u v one two three items whole =
+      let P : Bool → Type 0 = λ x. Spell s items
+      (cond x (conditional (tokens_of t) (tokens_of u) (tokens_of v))
+      (cond (same_named head (symbol_name constant.let_))
+      (local (tokens_of t) (tokens_of u) (tokens_of v))
+      (called_with head (tokens_of t) (tokens_of u ∷ tokens_of v ∷ [])))) in
+      let Q : Bool → Type 0 = λ x. Spell s items
+      (cond x (local (tokens_of t) (tokens_of u) (tokens_of v))
+      (called_with head (tokens_of t) (tokens_of u ∷ tokens_of v ∷ []))) in
+      subst P (sym isnt)
+      (subst Q (sym is) (spelled_three a b c t u v one two three Let Equals In items whole))
+
+  pub no_parts : (parts : List TermRef) (ts : Trees) → length parts ≡ 0 → Stand s parts ts
+      → tokens_of_each ts ≡ []
+  no_parts [] no_more none stand = refl
+  no_parts [] (one_more t ts) none stand = absurd stand
+  no_parts (n ∷ parts) ts none stand = absurd (omega arith)
+
+  pub first_part : (parts others : List TermRef) (n : TermRef) (ts : Trees) → parts ≡ n ∷ others
+      → Stand s parts ts → (P : List (List Lexeme) → Type 0)
+      → ((t : Tree) (us : Trees) → UnfoldsTo s (term_name n) t → Stand s others us
+      → P (tokens_of t ∷ tokens_of_each us)) → P (tokens_of_each ts)
+  first_part parts others n ts is stand P made =
+      go ts (subst (λ terms. Stand s terms ts) is stand)
+    where
+      go : (ts : Trees) → Stand s (n ∷ others) ts → P (tokens_of_each ts)
+      go no_more stand = absurd stand
+      go (one_more t us) stand = made t us stand.0 stand.1
+
+  pub many_parts : (rest : List TermRef) (ws : Trees) (head : Named) (a b c : List Lexeme)
+      → (length rest == 0) ≡ false → Stand s rest ws
+      → written head (a ∷ b ∷ c ∷ tokens_of_each ws)
+      ≡ called_with head a (b ∷ c ∷ tokens_of_each ws)
+  many_parts [] ws head a b c some stand = absurd (cc)
+  many_parts (n ∷ rest) no_more head a b c some stand = absurd stand
+  many_parts (n ∷ rest) (one_more t ts) head a b c some stand = refl
+
+  pub unread : (name : Name) (t : Tree)
+      → None ≡ option_map (λ v. v.header) (reads s name) → UnfoldsTo s name t → ⊥
+  unread name (tree head ts) none is =
+      let found : None ≡ Some is.0.header = none ∙ ap (option_map (λ v. v.header)) is.1 in
+      absurd (cc)
+
+  -- a tree that a name reads is written by its head and its parts
+  pub written_tree : (name : Name) (t : Tree) (header : Symbol) (parts : List TermRef)
+      → Some header ≡ option_map (λ v. v.header) (reads s name)
+      → Some parts ≡ option_map (λ v. v.items) (reads s name)
+      → UnfoldsTo s name t → (P : List Lexeme → Type 0)
+      → ((ts : Trees) → Stand s parts ts → P (written (symbol_name header) (tokens_of_each ts)))
+      → P (tokens_of t)
+  written_tree name (tree head ts) header parts headed parted is P made =
+      let same : header ≡ is.0.header =
+      same_Some _ _ (headed ∙ ap (option_map (λ v. v.header)) is.1) in
+      let all : parts ≡ is.0.items = same_Some _ _ (parted ∙ ap (option_map (λ v. v.items)) is.1) in
+      subst (λ h. P (written h (tokens_of_each ts))) (ap symbol_name same ∙ is.2)
+      (made ts (subst (λ terms. Stand s terms ts) (sym all) is.3))
+
+  spell_append : (ps qs : List Piece) (ls ms : List Lexeme) → Spell s ps ls → Spell s qs ms
+      → Spell s (ps ++ qs) (ls ++ ms)
+  spell_append [] qs ls ms first second =
+      subst (Spell s qs) (ap (λ all. all ++ ms) (sym first)) second
+  spell_append (piece.Token t ∷ ps) qs ls ms first second = (
+    first.0 ++ ms,
+    ap (λ all. all ++ ms) first.1,
+    spell_append ps qs first.0 ms first.2 second,
+  )
+  spell_append (piece.Tree n ∷ ps) qs ls ms first second = (
+    first.0,
+    first.1 ++ ms,
+    first.2,
+    ap (λ all. all ++ ms) first.3 ∙ append_assoc (tokens_of first.0) first.1 ms,
+    spell_append ps qs first.1 ms first.4 second,
+  )
+
+  pub prints_first : (layout pieces : List Piece) (spelled : List Lexeme)
+      → reverse pieces ≡ layout ++ reverse [] → Spell s layout spelled → Prints s [] pieces spelled
+  prints_first layout pieces spelled is spell = record {
+    more = spelled;
+    whole = refl;
+    spell = subst (λ ps. Spell s ps spelled) (sym (is ∙ append-nil layout)) spell;
+  }
+
+  last_first : (pieces all : List Piece) (p : Piece) → all ≡ pieces ++ p ∷ []
+      → reverse all ≡ p ∷ reverse pieces
+  last_first pieces all p is = ap reverse is ∙ reverse-append pieces (p ∷ [])
+
+  pub prints_token : (tokens next : List Token) (t : Token) (pieces all : List Piece)
+      (spelled : List Lexeme) → all ≡ pieces ++ piece.Token t ∷ [] → next ≡ tokens ++ t ∷ []
+      → Prints s tokens all spelled → Prints s next pieces spelled
+  prints_token tokens next t pieces all spelled is pushed so =
+      let spell = subst (λ ps. Spell s ps so.more) (last_first pieces all (piece.Token t) is)
+      so.spell in
+      record {
+        more = spell.0;
+        whole = ap (λ ts. map lexeme ts ++ spell.0) pushed
+            ∙ ap (λ ls. ls ++ spell.0) (map-append lexeme tokens (t ∷ []))
+            ∙ append_assoc (map lexeme tokens) (lexeme t ∷ []) spell.0
+            ∙ ap (λ ls. map lexeme tokens ++ ls) (sym spell.1)
+            ∙ so.whole;
+        spell = spell.2;
+      }
+
+  pub prints_tree : (tokens : List Token) (n : TermRef) (layout pieces all new : List Piece)
+      (spelled : List Lexeme) → all ≡ pieces ++ piece.Tree n ∷ []
+      → reverse new ≡ layout ++ reverse pieces
+      → ((t : Tree) → UnfoldsTo s (term_name n) t → Spell s layout (tokens_of t))
+      → Prints s tokens all spelled → Prints s tokens new spelled
+  prints_tree tokens n layout pieces all new spelled is pushed laid so =
+      let spell = subst (λ ps. Spell s ps so.more) (last_first pieces all (piece.Tree n) is)
+      so.spell in
+      record {
+        more = so.more;
+        whole = so.whole;
+        spell = subst (λ ps. Spell s ps so.more) (sym pushed)
+            (subst (Spell s (layout ++ reverse pieces)) (sym spell.3)
+            (spell_append layout (reverse pieces) (tokens_of spell.0) spell.1
+            (laid spell.0 spell.2) spell.4));
+      }
+
+  pub prints_last : (tokens : List Token) (pieces : List Piece) (spelled : List Lexeme)
+      → pieces ≡ [] → Prints s tokens pieces spelled → map lexeme tokens ≡ spelled
+  prints_last tokens pieces spelled none so =
+      let spell = subst (λ ps. Spell s (reverse ps) so.more) none so.spell in
+      sym (append-nil (map lexeme tokens)) ∙ ap (λ ls. map lexeme tokens ++ ls) (sym spell)
+      ∙ so.whole

@@ -1,0 +1,106 @@
+//! What is wrong with a version.
+ghost use Rattle.std.specs.Prelude.{◌≡◌};
+
+use crate::fault::Fault;
+use crate::machine::Form;
+use crate::token::{Mark, Place, Token};
+use ra_ap_intern::{Refusal, SymbolTable};
+use std::alloc::{AllocError, AllocFailed};
+
+/// What could have stood in a token's place.
+#[derive(Clone, Copy, PartialEq, Eq)]
+pub enum Expected {
+    /// `fn` or `let`.
+    Item,
+    Expression,
+    /// The name that is defined.
+    Name,
+    /// A name and an open parenthesis.
+    Function,
+    /// `,` or `)` after a parameter.
+    Parameter,
+    /// `=` after what is defined.
+    Equals,
+    /// An operator, or what goes on after so many parts of a form.
+    After(Form, usize),
+    /// A token of the language: no character of this kind begins one.
+    Token,
+}
+
+/// Why a version wasn't parsed.
+#[derive(Clone, Copy)]
+pub enum Stop {
+    /// A token that can't stand where it does.
+    Unexpected {
+        place: Place,
+        expected: Expected,
+        found: Option<Token>,
+    },
+    /// What ends the program.
+    Fault(Fault),
+}
+
+impl From<Fault> for Stop {
+    ghost use Rattle.syntax.specs.declared.message.Stop.TheVariants.{Fault as stop_fault};
+
+    ghost from_gives = { λ fault stop. stop ≡ stop_fault fault };
+
+    fn from(fault: Fault) -> Stop {
+        Stop::Fault(fault)
+    }
+}
+
+impl From<Refusal> for Stop {
+    fn from(why: Refusal) -> Stop {
+        Stop::Fault(Fault::Refused(why))
+    }
+}
+
+impl<T: Drop> From<AllocFailed<T>> for Stop {
+    fn from(_error: AllocFailed<T>) -> Stop {
+        Stop::Fault(Fault::Refused(Refusal::OutOfMemory))
+    }
+}
+
+impl Expected {
+    /// In words.
+    pub fn text(self) -> &'static str {
+        match self {
+            Expected::Item => "`fn` or `let`",
+            Expected::Expression => "an expression",
+            Expected::Name => "a name",
+            Expected::Function => "a name and its parameters",
+            Expected::Parameter => "`,` or `)`",
+            Expected::Equals => "`=`",
+            Expected::After(form, parts) => after(form, parts),
+            Expected::Token => "a token",
+        }
+    }
+}
+
+// What goes on after so many parts of a form.
+fn after(form: Form, parts: usize) -> &'static str {
+    match (form, parts) {
+        (Form::Group, _) => "an operator or `)`",
+        (Form::Call(_), _) => "an operator, `,` or `)`",
+        (Form::Choice, 0) => "an operator or `then`",
+        (Form::Choice, _) => "an operator or `else`",
+        (Form::Binding, 0) | (Form::Definition, 0) => "`=`",
+        (Form::Binding, _) => "an operator, `in` or `;`",
+        (Form::Definition, _) => "an operator or `;`",
+        (Form::Infix(_), _) => "an operator or `;`",
+    }
+}
+
+/// Writes a token as it is written in a program.
+pub fn write_token(token: Token, names: &SymbolTable, out: &mut String) -> Result<(), AllocError> {
+    match token {
+        Token::Atom(name) => out.push_str(name.as_str(names).unwrap_or("?")),
+        Token::Call(name) => {
+            out.push_str(name.as_str(names).unwrap_or("?"))?;
+            out.push_str(Mark::Open.text())
+        }
+        Token::Infix(operator) => out.push_str(operator.text()),
+        Token::Mark(mark) => out.push_str(mark.text()),
+    }
+}

@@ -1,0 +1,135 @@
+//! Worked examples.
+use crate::lexer::read_line;
+use crate::parser::Program;
+use crate::session::told;
+use crate::syntax::Syntax;
+use crate::token::Place;
+use std::alloc::Global;
+use std::process::Abort;
+
+const MOST: usize = 1 << 40;
+
+/// The program of a line.
+pub fn parsed(rt: &impl Abort, syntax: &mut Syntax, line: &str) -> Program {
+    let mut tokens = Vec::new(syntax.alloc);
+    let read = read_line(line, 1, &mut syntax.names, &mut tokens);
+    assert!(rt; read.is_ok(), "tokens");
+    let end = Place { line: 2, column: 1 };
+    let Ok(program) = syntax.parse(tokens.as_slice(), end) else {
+        panic!(rt; "a program")
+    };
+    program
+}
+
+/// The text of an item.
+pub fn printed(rt: &impl Abort, syntax: &Syntax, program: &Program, index: usize) -> String {
+    let mut out = String::new(syntax.alloc);
+    if let Some(item) = program.items.get(index) {
+        let written = syntax.write_item(*item, MOST, &mut out);
+        assert!(rt; written.is_ok(), "written");
+    }
+    out
+}
+
+// Whether an item is printed so, and what is printed is read as the same item.
+fn check_print(rt: &impl Abort, alloc: Global, line: &str, expected: &str) {
+    let mut syntax = Syntax::new(alloc);
+    let program = parsed(rt, &mut syntax, line);
+    let text = printed(rt, &syntax, &program, 0);
+    assert_eq!(rt; text.as_str(), expected);
+    let again = parsed(rt, &mut syntax, text.as_str());
+    assert!(rt; again.items.as_slice() == program.items.as_slice());
+}
+
+#[test]
+fn operators_are_read_by_precedence(rt: HostRuntime) {
+    let lines = [
+        ("let x = a - b - c;", "let x = ((a - b) - c);"),
+        ("let x = a + b * c;", "let x = (a + (b * c));"),
+        ("let x = a * b + c;", "let x = ((a * b) + c);"),
+        ("let x = a - (b - c);", "let x = (a - (b - c));"),
+        ("let x = a + b < c * d;", "let x = ((a + b) < (c * d));"),
+        ("let x = a == b / c / d;", "let x = (a == ((b / c) / d));"),
+        ("let x = ((a));", "let x = a;"),
+        ("let x = f (a, (b), g(1));", "let x = f(a, b, g(1));"),
+        (
+            "let x = if a then b else c + d;",
+            "let x = (if a then b else (c + d));",
+        ),
+        (
+            "let x = 1 + if a < b then b else c;",
+            "let x = (1 + (if (a < b) then b else c));",
+        ),
+        (
+            "let x = let y = 1 + 2 in y * y;",
+            "let x = (let y = (1 + 2) in (y * y));",
+        ),
+        ("fn f(a, b) = a * (b + 1);", "fn f(a, b) = (a * (b + 1));"),
+        ("let x = add(a, b);", "let x = (a + b);"),
+    ];
+    for (line, expected) in lines.iter() {
+        check_print(&rt, rt.alloc(), line, expected);
+    }
+}
+
+fn check_told(rt: &impl Abort, alloc: Global, text: &str, expected: &str) {
+    let Ok(told) = told(alloc, text) else {
+        panic!(rt; "told")
+    };
+    assert_eq!(rt; told.as_str(), expected);
+}
+
+#[test]
+fn errors_are_told_with_their_places(rt: HostRuntime) {
+    let texts = [
+        (
+            "let x = (1;",
+            "version 1: line 1, column 11: expected an operator or `)`, and found `;`\n",
+        ),
+        (
+            "let x = f(1;",
+            "version 1: line 1, column 12: expected an operator, `,` or `)`, and found `;`\n",
+        ),
+        (
+            "let x = 1 2;",
+            "version 1: line 1, column 11: expected an operator, `in` or `;`, and found `2`\n",
+        ),
+        (
+            "let 3 = 1;",
+            "version 1: line 1, column 5: expected a name, and found `3`\n",
+        ),
+        (
+            "let x = 1 +\n;",
+            "version 1: line 2, column 1: expected an expression, and found `;`\n",
+        ),
+        (
+            "1 + 2;",
+            "version 1: line 1, column 1: expected `fn` or `let`, and found `1`\n",
+        ),
+    ];
+    for (text, expected) in texts.iter() {
+        check_told(&rt, rt.alloc(), text, expected);
+    }
+}
+
+/// How deep the parentheses are nested.
+const DEPTH: usize = 100_000;
+
+#[test]
+fn deep_parentheses_are_read(rt: HostRuntime) {
+    let mut line = String::new(rt.alloc());
+    assert!(rt; line.push_str("let x = ").is_ok());
+    for _ in 0..DEPTH {
+        assert!(rt; line.push_str("(1 + ").is_ok());
+    }
+    assert!(rt; line.push('y').is_ok());
+    for _ in 0..DEPTH {
+        assert!(rt; line.push(')').is_ok());
+    }
+    assert!(rt; line.push(';').is_ok());
+    let mut syntax = Syntax::new(rt.alloc());
+    let program = parsed(&rt, &mut syntax, line.as_str());
+    assert_eq!(rt; program.spots.len(), 2 * DEPTH + 3);
+    let text = printed(&rt, &syntax, &program, 0);
+    assert!(rt; text.as_str() == line.as_str());
+}
