@@ -1,0 +1,174 @@
+-- What environments declare, before and after a change.
+use Rattle.std.proofs.Common.{◌≡◌, ◌↔◌, Bool, true, false, cond, List, [], ◌∷◌, map, Option, Some, None, Result, Ok, Err, IfOk, OnErr, refl, sym, ap, subst, ◌∙◌}
+use Rattle.std.specs.HashMap.{HashMap, get, get_by}
+use Rattle.std.specs.Map.{lookup, values_of}
+use Rattle.std.specs.Option.{option_map}
+use Rattle.std.specs.declared.alloc.AllocError.{AllocError}
+use Rattle.std.proofs.lemmas.Bool.{or_left, or_right, eq-eqb, eqb-true}
+use Rattle.std.proofs.lemmas.Option.{same_Some}
+use Rattle.ra_ap_intern.specs.Families.{IsCollection, kept_named}
+use Rattle.ra_ap_intern.specs.Handle.{ref_name}
+use Rattle.ra_ap_intern.specs.Name.{Name}
+use Rattle.ra_ap_intern.specs.Names.{has}
+use Rattle.ra_ap_intern.specs.Reach.{IsReachedSet, starts_with}
+use Rattle.ra_ap_intern.specs.State.{State, reads}
+use Rattle.ra_ap_intern.specs.Symbols.{Named, same_named, symbol_ref_name}
+use Rattle.ra_ap_intern.specs.Symbols.Named.{preset, entry}
+use Rattle.ra_ap_intern.specs.declared.gc.Collected.{Collected}
+use Rattle.ra_ap_intern.specs.declared.kind.Values.{Values}
+use Rattle.ra_ap_intern.specs.declared.storage.Ref.{Ref}
+use Rattle.ra_ap_intern.specs.declared.symbol.Source.TheVariants.{Preset, Runtime}
+use Rattle.ra_ap_intern.specs.declared.symbol.SymbolRef.{SymbolRef}
+use Rattle.ra_ap_intern.proofs.CallerLemmas.{entry_read, names_same, reads-kept_named, root_kept, same_names}
+use Rattle.types.specs.Environment.{declared_as, declared_types, Declares}
+use Rattle.types.specs.Growing.{Grows}
+use Rattle.types.specs.Making.{ReadsOn}
+use Rattle.types.specs.Tree.{Tree, UnfoldsTo}
+use Rattle.types.specs.Types.{declared_by, types_of}
+use Rattle.types.specs.declared.environment.Environment.{Environment}
+use Rattle.types.specs.declared.value.TypeNode.{TypeNode}
+use Rattle.types.proofs.Trees.{tree_stays, tree_kept, unfolds_read}
+
+-- the type that a look-up finds is among the types of all names
+listed_first : (t : Bool) (r : Ref (Values TypeNode)) (o : Option (Ref (Values TypeNode)))
+    (names : List Name) (n : Name)
+    → (option_map ref_name o ≡ Some n → has names n ≡ true)
+    → option_map ref_name (cond t (Some r) o) ≡ Some n → has (ref_name r ∷ names) n ≡ true
+listed_first true r o names n others is =
+    or_left _ _ (same_names n (ref_name r) (sym (same_Some _ _ is)))
+listed_first false r o names n others is = or_right _ _ (others is)
+
+listed : {K : Type 0} (test : K → Bool) (es : List (K × Ref (Values TypeNode))) (n : Name)
+    → option_map ref_name (lookup test es) ≡ Some n → has (map ref_name (values_of es)) n ≡ true
+listed test [] n is = absurd (cc)
+listed test (e ∷ es) n is = listed_first (test e.0) e.1 (lookup test es) _ n (listed test es n) is
+
+-- what is read after a collection was read before
+kept_on : (s : State TypeNode) (names : List Name) → ReadsOn (kept_named s (has names)) s
+kept_on s names n v is = go (has names n) (sym (reads-kept_named s (has names) n) ∙ is)
+  where
+    go : (t : Bool) → cond t (reads s n) None ≡ Some v → reads s n ≡ Some v
+    go true h = h
+    go false h = absurd (cc)
+
+module _ (e : Environment) where
+  -- the environment with these types
+  abbrev over : State TypeNode → Environment
+  over s = record { types = s; declared = e.declared }
+
+  module _ (name : Named) (tree : Tree) where
+    -- a declared type stands for the same tree where the others are removed
+    kept : (names : List Name)
+        → IsReachedSet (starts_with (declared_types e.declared) (types_of e.types)) (types_of e.types) names
+        → Declares e name tree ↔ Declares (over (kept_named e.types (has names))) name tree
+    kept names is = (
+      λ d. (d.0, d.1, go d.0 d.1 d.2),
+      λ d. (d.0, d.1, tree_stays (kept_named e.types (has names)) e.types (kept_on e.types names) tree d.0 d.2),
+    )
+      where
+        go : (n : Name) → declared_as e.declared name ≡ Some n → UnfoldsTo e.types n tree
+            → UnfoldsTo (kept_named e.types (has names)) n tree
+        go n at a =
+            tree_kept _ e.types names is tree n
+            (root_kept (declared_types e.declared) (types_of e.types) names is n
+            (listed _ e.declared.entries n at)
+            (entry_read declared_by e.types n ∙ unfolds_read _ e.types names is tree n a)) a
+
+    pub collected : (new : State TypeNode) (r : Result Collected AllocError)
+        → IfOk r (λ told. (names : List Name)
+        × IsCollection (starts_with (declared_types e.declared) (types_of e.types)) (types_of e.types) names told
+        × (new ≡ kept_named e.types (has names)))
+        → OnErr r (new ≡ e.types)
+        → Declares e name tree ↔ Declares (over new) name tree
+    collected new (Ok told) is err =
+        subst (λ s. Declares e name tree ↔ Declares (over s) name tree) (sym is.2)
+        (kept is.0 is.1.reached)
+    collected new (Err x) is err =
+        subst (λ s. Declares e name tree ↔ Declares (over s) name tree) (sym err)
+        (λ d. d, λ d. d)
+
+named_same : (a b : Named) → same_named a b ≡ true → a ≡ b
+named_same (preset p) (preset q) is = ap preset (eqb-true p q is)
+named_same (preset p) (entry m) is = absurd (cc)
+named_same (entry n) (preset q) is = absurd (cc)
+named_same (entry n) (entry m) is = ap entry (names_same n m is)
+
+same_nameds : (a : Named) → same_named a a ≡ true
+same_nameds (preset p) = eq-eqb p p refl
+same_nameds (entry n) = same_names n n refl
+
+left : {A : Type 0} (t : Bool) (x y : A) → t ≡ false → cond t x y ≡ y
+left true x y is = absurd (cc)
+left false x y is = refl
+
+-- a reference that names this
+key_of : (a : Named) → (r : SymbolRef) × (symbol_ref_name r ≡ a)
+key_of (preset p) = let r : SymbolRef = record { 0 = Preset p } in (r, refl)
+key_of (entry n) =
+    let r : SymbolRef = record {
+      0 = Runtime (record { storage = n.storage; spot = record { birth = n.birth; place = 0 } });
+    } in (r, refl)
+
+module _ (eq : SymbolRef → SymbolRef → Bool)
+    (alike : (a b : SymbolRef) → (eq a b ≡ true) ↔ (symbol_ref_name a ≡ symbol_ref_name b)) where
+  -- references are compared by what they name
+  same_test : (a b : SymbolRef) → eq a b ≡ same_named (symbol_ref_name a) (symbol_ref_name b)
+  same_test a b = go (eq a b) (same_named (symbol_ref_name a) (symbol_ref_name b)) refl refl
+    where
+      go : (t u : Bool) → eq a b ≡ t → same_named (symbol_ref_name a) (symbol_ref_name b) ≡ u → t ≡ u
+      go true true h k = refl
+      go false false h k = refl
+      go true false h k =
+          let one = subst (λ n. same_named (symbol_ref_name a) n ≡ true) ((alike a b).0 h)
+          (same_nameds (symbol_ref_name a)) in absurd (cc)
+      go false true h k =
+          let one = (alike a b).1 (named_same (symbol_ref_name a) (symbol_ref_name b) k) in absurd (cc)
+
+  module _ {S : Type 0} where
+    pub type_of : (m : HashMap SymbolRef (Ref (Values TypeNode)) S) (a : SymbolRef)
+        → option_map ref_name (get eq m a) ≡ declared_as m (symbol_ref_name a)
+    type_of m a = λ i. option_map ref_name (get_by (λ b. same_test a b i) m)
+
+    -- a type under the symbol of a name, and each other as it was
+    pub declared_on : (m n : HashMap SymbolRef (Ref (Values TypeNode)) S) (key : SymbolRef)
+        (v : Ref (Values TypeNode))
+        → ((q : SymbolRef) → get eq n q ≡ cond (eq key q) (Some v) (get eq m q)) → (a : Named)
+        → declared_as n a ≡ cond (same_named (symbol_ref_name key) a) (Some (ref_name v)) (declared_as m a)
+    declared_on m n key v put a =
+        let r = key_of a in
+        subst (λ a. declared_as n a ≡ cond (same_named (symbol_ref_name key) a) (Some (ref_name v)) (declared_as m a))
+        r.1 (sym (type_of n r.0) ∙ ap (option_map ref_name) (put r.0)
+        ∙ through (eq key r.0) (get eq m r.0)
+        ∙ (λ i. cond (same_test key r.0 i) (Some (ref_name v)) (type_of m r.0 i)))
+      where
+        through : (t : Bool) (o : Option (Ref (Values TypeNode)))
+            → option_map ref_name (cond t (Some v) o) ≡ cond t (Some (ref_name v)) (option_map ref_name o)
+        through true o = refl
+        through false o = refl
+
+module _ {S : Type 0} (m n : HashMap SymbolRef (Ref (Values TypeNode)) S) where
+  pub others_stay : (key : SymbolRef) (v : Name) (a : Named)
+      → declared_as n a ≡ cond (same_named (symbol_ref_name key) a) (Some v) (declared_as m a)
+      → same_named (symbol_ref_name key) a ≡ false → declared_as n a ≡ declared_as m a
+  others_stay key v a is apart = is ∙ left _ (Some v) (declared_as m a) apart
+
+  pub declared_stays : n.entries ≡ m.entries → (a : Named) → declared_as n a ≡ declared_as m a
+  declared_stays same a =
+      ap (λ es. option_map ref_name (lookup (λ s. same_named a (symbol_ref_name s)) es)) same
+
+module _ (old new : Environment) (a : Named) (tree : Tree) where
+  -- what is declared with the same type stands for the same tree
+  pub same_declared : new.types ≡ old.types → declared_as new.declared a ≡ declared_as old.declared a
+      → Declares old a tree ↔ Declares new a tree
+  same_declared types same = (
+    λ d. (d.0, same ∙ d.1, subst (λ s. UnfoldsTo s d.0 tree) (sym types) d.2),
+    λ d. (d.0, sym same ∙ d.1, subst (λ s. UnfoldsTo s d.0 tree) types d.2),
+  )
+
+  -- and in an environment that has grown
+  pub declared_grown : Grows old new → Declares old a tree → Declares new a tree
+  declared_grown grows d = (
+    d.0,
+    ap (λ m. declared_as m a) grows.0 ∙ d.1,
+    tree_stays old.types new.types grows.1 tree d.0 d.2,
+  )

@@ -1,0 +1,8 @@
+use Rattle.std.proofs.Common.{◌+◌, ◌*◌}
+use Rattle.types.proofs.tests.random.Generator.+generator.Given as goal
+
+abbrev pub decreases-within : goal.decreases-within
+decreases-within l = 2 * l.depth + 1
+
+abbrev pub decreases-make : goal.decreases-make
+decreases-make l = 2 * l.depth

@@ -1,0 +1,4 @@
+use Rattle.types.proofs.tests.reference.Reference.+instance.Given as goal
+
+abbrev pub decreases-instance : goal.decreases-instance
+decreases-instance l = l.fuel

@@ -1,0 +1,4 @@
+use Rattle.types.proofs.tests.reference.Reference.+occurs.Given as goal
+
+abbrev pub decreases-occurs : goal.decreases-occurs
+decreases-occurs l = l.fuel

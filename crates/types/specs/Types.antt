@@ -1,0 +1,50 @@
+-- What types are, and what a store of them reads.
+use Rattle.std.specs.Prelude.{ℕ, Option, List, [], ◌∷◌}
+use Rattle.std.specs.Option.{option_map}
+use Rattle.ra_ap_intern.specs.Families.{entries_of}
+use Rattle.ra_ap_intern.specs.Handle.{ref_name}
+use Rattle.ra_ap_intern.specs.Name.{Name}
+use Rattle.ra_ap_intern.specs.Reach.{Entry}
+use Rattle.ra_ap_intern.specs.State.{State, reads}
+use Rattle.types.specs.declared.value.TypeNode.{TypeNode, out-TypeNode}
+use Rattle.types.specs.declared.value.TypeNode.TheOpen.{TypeNode-F}
+
+-- a type over others
+pub data Shape : Type 0 where
+  integer : Shape
+  boolean : Shape
+  unknown : ℕ → Shape
+  any : ℕ → Shape
+  function : Name → Name → Shape
+  pair : Name → Name → Shape
+
+abbrev pub open_shape : TypeNode-F TypeNode → Shape
+open_shape TypeNode-F.Integer = integer
+open_shape TypeNode-F.Boolean = boolean
+open_shape (TypeNode-F.Unknown number) = unknown number
+open_shape (TypeNode-F.Any number) = any number
+open_shape (TypeNode-F.Function from to) = function (ref_name from) (ref_name to)
+open_shape (TypeNode-F.Pair first second) = pair (ref_name first) (ref_name second)
+
+abbrev pub shape : TypeNode → Shape
+shape t = open_shape (out-TypeNode t)
+
+-- the type that a name stands for
+abbrev pub shape_at : State TypeNode → Name → Option Shape
+shape_at s name = option_map shape (reads s name)
+
+-- what a type declares: the names of its parts
+abbrev pub parts_in : Shape → List Name
+parts_in integer = []
+parts_in boolean = []
+parts_in (unknown number) = []
+parts_in (any number) = []
+parts_in (function from to) = from ∷ to ∷ []
+parts_in (pair first second) = first ∷ second ∷ []
+
+abbrev pub declared_by : TypeNode → List Name
+declared_by t = parts_in (shape t)
+
+-- a store's types, as a collection sees them
+abbrev pub types_of : State TypeNode → List Entry
+types_of s = entries_of declared_by s

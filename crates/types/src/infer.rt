@@ -1,0 +1,367 @@
+//! Inference: the principal type of what is bound to a name, step by step.
+ghost use Rattle.ra_ap_intern.specs.Symbols.{Named};
+ghost use Rattle.types.specs.Environment.{Declares};
+ghost use Rattle.types.specs.Growing.{Grows};
+ghost use Rattle.types.specs.Tree.{Tree};
+
+use crate::copy::{Leaves, copy};
+use crate::environment::Environment;
+use crate::error::{Failure, TypeError};
+use crate::parser::Declaration;
+use crate::scope::{Scheme, Scope};
+use crate::step::{Action, Binding};
+use crate::token::Operator;
+use crate::unify::unify;
+use crate::unknowns::Unknowns;
+use crate::value::{TypeNode, TypeRef};
+use ra_ap_intern::SymbolRef;
+use std::alloc::Global;
+
+/// Infers the types of declarations in an environment.
+#[derive(Drop)]
+pub struct Inference {
+    alloc: Global,
+    /// What is declared.
+    pub environment: Environment,
+    unknowns: Unknowns,
+    scope: Scope,
+    operands: Vec<TypeRef>,
+    // How many bindings are begun and not ended.
+    level: u64,
+}
+
+impl Inference {
+    /// Inference in an environment in which nothing is declared.
+    pub fn new(alloc: Global, number: u64) -> Inference {
+        Inference {
+            alloc,
+            environment: Environment::new(alloc, number),
+            unknowns: Unknowns::new(alloc),
+            scope: Scope::new(alloc),
+            operands: Vec::new(alloc),
+            level: 0,
+        }
+    }
+
+    /// The principal type of a declaration, or why it has none. In the types that an error tells,
+    /// what is unknown is any type. It declares nothing.
+    pub fn infer(&mut self, declaration: &Declaration) -> Result<TypeRef, Failure>
+        ensures grows { Grows self.old.environment self.new.environment }
+        ensures trees { (name : Named) (tree : Tree) →
+            Declares self.old.environment name tree →
+            Declares self.new.environment name tree }
+    {
+        self.unknowns = Unknowns::new(self.alloc);
+        self.scope = Scope::new(self.alloc);
+        self.operands.clear();
+        self.level = 0;
+        match self.run(declaration) {
+            Ok(handle) => Ok(handle),
+            Err(Failure { place, error }) => Err(Failure {
+                place,
+                error: self.told(error),
+            }),
+        }
+    }
+
+    // Each step of a declaration.
+    fn run(&mut self, declaration: &Declaration) -> Result<TypeRef, Failure>
+        ensures { Grows self.old.environment self.new.environment }
+    {
+        let place = declaration.place;
+        self.begin_binding(declaration.binding)
+            .map_err(|error| Failure { place, error })?;
+        for step in &declaration.steps {
+            let place = step.place;
+            self.step(step.action)
+                .map_err(|error| Failure { place, error })?;
+        }
+        self.end_binding(declaration.binding)
+            .map_err(|error| Failure { place, error })
+    }
+
+    fn step(&mut self, action: Action) -> Result<(), TypeError>
+        ensures { Grows self.old.environment self.new.environment }
+    {
+        match action {
+            Action::Integer => self.leaf(TypeNode::Integer),
+            Action::Boolean => self.leaf(TypeNode::Boolean),
+            Action::Variable(name) => self.variable(name),
+            Action::BeginFunction(name) => self.begin_function(name),
+            Action::EndFunction => self.end_function(),
+            Action::Apply => self.apply(),
+            Action::Operate(operator) => self.operate(operator),
+            Action::Parenthesis => Ok(()),
+            Action::Pair => self.pair(),
+            Action::Condition => self.condition(),
+            Action::Branches => self.branches(),
+            Action::BeginBinding(binding) => self.begin_binding(binding),
+            Action::EndBinding(binding) => self.begin_scope(binding),
+            Action::EndScope => self.end_scope(),
+        }
+    }
+
+    fn push(&mut self, handle: TypeRef) -> Result<(), TypeError>
+        ensures { Grows self.old.environment self.new.environment }
+    {
+        self.operands.push(handle)?;
+        Ok(())
+    }
+
+    fn pop(&mut self) -> Result<TypeRef, TypeError>
+        ensures { Grows self.old.environment self.new.environment }
+    {
+        self.operands.pop().ok_or(TypeError::NoOperand)
+    }
+
+    // The last two operands, in order.
+    fn pop_two(&mut self) -> Result<(TypeRef, TypeRef), TypeError>
+        ensures { Grows self.old.environment self.new.environment }
+    {
+        let second = self.pop()?;
+        let first = self.pop()?;
+        Ok((first, second))
+    }
+
+    fn leaf(&mut self, node: TypeNode) -> Result<(), TypeError>
+        ensures { Grows self.old.environment self.new.environment }
+    {
+        let handle = self.environment.types.make(node)?;
+        self.push(handle)
+    }
+
+    // A new unknown type.
+    fn fresh(&mut self) -> Result<TypeRef, TypeError>
+        ensures { Grows self.old.environment self.new.environment }
+    {
+        let number = self.unknowns.add(self.level)?;
+        Ok(self.environment.types.make(TypeNode::Unknown(number))?)
+    }
+
+    fn unify(&mut self, left: TypeRef, right: TypeRef) -> Result<(), TypeError>
+        ensures { Grows self.old.environment self.new.environment }
+    {
+        unify(
+            self.alloc,
+            &self.environment.types,
+            &mut self.unknowns,
+            left,
+            right,
+        )
+    }
+
+    fn copy(&mut self, handle: TypeRef, leaves: Leaves) -> Result<TypeRef, TypeError>
+        ensures { Grows self.old.environment self.new.environment }
+    {
+        copy(
+            self.alloc,
+            &mut self.environment.types,
+            &mut self.unknowns,
+            handle,
+            leaves,
+        )
+    }
+
+    fn variable(&mut self, name: SymbolRef) -> Result<(), TypeError>
+        ensures { Grows self.old.environment self.new.environment }
+    {
+        let handle = match self.scheme(name) {
+            Some(Scheme::Plain(handle)) => handle,
+            Some(Scheme::General(handle)) => {
+                let level = self.level;
+                self.copy(handle, Leaves::Instantiated { level })?
+            }
+            None => return Err(TypeError::Unbound(name)),
+        };
+        self.push(handle)
+    }
+
+    // What a name stands for: what it is bound to here, or else what it is declared with.
+    fn scheme(&self, name: SymbolRef) -> Option<Scheme> {
+        match self.scope.look_up(name) {
+            Some(scheme) => Some(scheme),
+            None => Some(Scheme::General(self.environment.look_up(name)?)),
+        }
+    }
+
+    fn begin_function(&mut self, name: SymbolRef) -> Result<(), TypeError>
+        ensures { Grows self.old.environment self.new.environment }
+    {
+        let parameter = self.fresh()?;
+        self.scope.enter(name, Scheme::Plain(parameter))?;
+        Ok(())
+    }
+
+    fn end_function(&mut self) -> Result<(), TypeError>
+        ensures { Grows self.old.environment self.new.environment }
+    {
+        let body = self.pop()?;
+        let parameter = self.end_plain()?;
+        let function = self.environment.types.function(parameter, body)?;
+        self.push(function)
+    }
+
+    // Ends the scope of a name that stood for one type.
+    fn end_plain(&mut self) -> Result<TypeRef, TypeError>
+        ensures { Grows self.old.environment self.new.environment }
+    {
+        match self.scope.leave()? {
+            Some(Scheme::Plain(handle)) => Ok(handle),
+            _ => Err(TypeError::NoOperand),
+        }
+    }
+
+    fn apply(&mut self) -> Result<(), TypeError>
+        ensures { Grows self.old.environment self.new.environment }
+    {
+        let (function, argument) = self.pop_two()?;
+        let function = self.unknowns.resolve(&self.environment.types, function);
+        if let Some(TypeNode::Function(from, to)) = self.environment.types.get(function) {
+            self.unify(from, argument)?;
+            return self.push(to);
+        }
+        self.apply_unknown(function, argument)
+    }
+
+    fn apply_unknown(&mut self, function: TypeRef, argument: TypeRef) -> Result<(), TypeError>
+        ensures { Grows self.old.environment self.new.environment }
+    {
+        let answer = self.fresh()?;
+        let wanted = self.environment.types.function(argument, answer)?;
+        self.unify(function, wanted)?;
+        self.push(answer)
+    }
+
+    fn operate(&mut self, operator: Operator) -> Result<(), TypeError>
+        ensures { Grows self.old.environment self.new.environment }
+    {
+        self.pop_integers()?;
+        if operator.compares() {
+            self.leaf(TypeNode::Boolean)
+        } else {
+            self.leaf(TypeNode::Integer)
+        }
+    }
+
+    fn pop_integers(&mut self) -> Result<(), TypeError>
+        ensures { Grows self.old.environment self.new.environment }
+    {
+        let (left, right) = self.pop_two()?;
+        self.expect(left, TypeNode::Integer)?;
+        self.expect(right, TypeNode::Integer)
+    }
+
+    // A type has to be one without parts.
+    fn expect(&mut self, handle: TypeRef, node: TypeNode) -> Result<(), TypeError>
+        ensures { Grows self.old.environment self.new.environment }
+    {
+        let wanted = self.environment.types.make(node)?;
+        self.unify(handle, wanted)
+    }
+
+    fn pair(&mut self) -> Result<(), TypeError>
+        ensures { Grows self.old.environment self.new.environment }
+    {
+        let (first, second) = self.pop_two()?;
+        let pair = self.environment.types.pair(first, second)?;
+        self.push(pair)
+    }
+
+    fn condition(&mut self) -> Result<(), TypeError>
+        ensures { Grows self.old.environment self.new.environment }
+    {
+        let condition = self.pop()?;
+        self.expect(condition, TypeNode::Boolean)
+    }
+
+    fn branches(&mut self) -> Result<(), TypeError>
+        ensures { Grows self.old.environment self.new.environment }
+    {
+        let (first, second) = self.pop_two()?;
+        self.unify(first, second)?;
+        self.push(first)
+    }
+
+    fn begin_binding(&mut self, binding: Binding) -> Result<(), TypeError>
+        ensures { Grows self.old.environment self.new.environment }
+    {
+        self.level = self.level.saturating_add(1);
+        if binding.is_recursive {
+            self.begin_function(binding.name)?;
+        }
+        Ok(())
+    }
+
+    // What is bound to a name ends. Its type, in which what is unknown here and outside is any type.
+    fn end_binding(&mut self, binding: Binding) -> Result<TypeRef, TypeError>
+        ensures { Grows self.old.environment self.new.environment }
+    {
+        let handle = self.pop()?;
+        if binding.is_recursive {
+            self.end_own(handle)?;
+        }
+        self.level = self.level.saturating_sub(1);
+        let above = self.level;
+        self.copy(handle, Leaves::Generalised { above })
+    }
+
+    // The name of a recursive binding stood for what was bound to it.
+    fn end_own(&mut self, handle: TypeRef) -> Result<(), TypeError>
+        ensures { Grows self.old.environment self.new.environment }
+    {
+        let own = self.end_plain()?;
+        self.unify(own, handle)
+    }
+
+    fn begin_scope(&mut self, binding: Binding) -> Result<(), TypeError>
+        ensures { Grows self.old.environment self.new.environment }
+    {
+        let general = self.end_binding(binding)?;
+        self.scope.enter(binding.name, Scheme::General(general))?;
+        Ok(())
+    }
+
+    fn end_scope(&mut self) -> Result<(), TypeError>
+        ensures { Grows self.old.environment self.new.environment }
+    {
+        self.scope.leave()?;
+        Ok(())
+    }
+
+    // An error as it is told: what is unknown in its types is any type, the same in both.
+    fn told(&mut self, error: TypeError) -> TypeError
+        ensures { Grows self.old.environment self.new.environment }
+    {
+        match error {
+            TypeError::Clash(first, second) => match self.told_types(first, second) {
+                Ok((first, second)) => TypeError::Clash(first, second),
+                Err(error) => error,
+            },
+            TypeError::Infinite(first, second) => match self.told_types(first, second) {
+                Ok((first, second)) => TypeError::Infinite(first, second),
+                Err(error) => error,
+            },
+            _ => error,
+        }
+    }
+
+    fn told_types(
+        &mut self,
+        first: TypeRef,
+        second: TypeRef,
+    ) -> Result<(TypeRef, TypeRef), TypeError>
+        ensures { Grows self.old.environment self.new.environment }
+    {
+        let pair = self.environment.types.pair(first, second)?;
+        let told = self.copy(pair, Leaves::Generalised { above: 0 })?;
+        self.parts(told).ok_or(TypeError::NoOperand)
+    }
+
+    // The parts of a pair.
+    fn parts(&self, handle: TypeRef) -> Option<(TypeRef, TypeRef)> {
+        match self.environment.types.get(handle)? {
+            TypeNode::Pair(first, second) => Some((first, second)),
+            _ => None,
+        }
+    }
+}

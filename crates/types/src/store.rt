@@ -1,0 +1,106 @@
+//! The store of types.
+ghost use Rattle.std.specs.Prelude.{◌≡◌, List, map as list_map, IfOk, OnErr, option_copied};
+ghost use Rattle.std.specs.FinMap as map;
+ghost use Rattle.ra_ap_intern.specs.Families.{IsCollection, kept_named};
+ghost use Rattle.ra_ap_intern.specs.Handle.{ref_name};
+ghost use Rattle.ra_ap_intern.specs.Name.{Name as TypeName};
+ghost use Rattle.ra_ap_intern.specs.Names.{has};
+ghost use Rattle.ra_ap_intern.specs.Reach.{Reached, starts_with};
+ghost use Rattle.ra_ap_intern.specs.State.{new_state, reads};
+ghost use Rattle.types.specs.Making.{Makes};
+ghost use Rattle.types.specs.Types.{types_of};
+ghost use Rattle.types.specs.declared.value.TypeNode.TheVariants.{Function as function_node, Pair as pair_node};
+
+use crate::laws;
+use crate::value::{TypeNode, TypeRef};
+use ra_ap_intern::{Collected, GarbageCollector, InternStorage, Interned, Refusal};
+use std::alloc::{AllocError, Global};
+use std::cmp::PartialEq;
+use std::marker::Model;
+
+/// A store of types, each kept once.
+#[derive(Drop)]
+pub struct Types {
+    alloc: Global,
+    types: InternStorage<TypeNode>,
+}
+
+impl Model for Types {
+    ghost use Rattle.ra_ap_intern.specs.State.{State, state_code};
+    ghost use Rattle.types.specs.contracts.value.TypeNode as value;
+    ghost use Rattle.types.specs.declared.value.TypeNode.{TypeNode};
+
+    ghost Value = { State TypeNode };
+
+    ghost coded = { state_code value.the_row.coded };
+
+    ghost view = { λ a. a.types };
+}
+
+impl Types {
+    /// An empty store. Handles tell stores apart by their numbers alone.
+    pub fn new(alloc: Global, number: u64) -> Types
+        ensures { result ≡ new_state number u64.MAX u64.MAX }
+    {
+        Types {
+            alloc,
+            types: InternStorage::new(alloc, number),
+        }
+    }
+
+    /// The functions from a type to another.
+    pub fn function(&mut self, from: TypeRef, to: TypeRef) -> Result<TypeRef, Refusal>
+        ensures { Makes ⟦<TypeNode as PartialEq>⟧.eq result self.old self.new
+            (function_node from to) }
+    {
+        self.make(TypeNode::Function(from, to))
+    }
+
+    /// The pairs of two types.
+    pub fn pair(&mut self, first: TypeRef, second: TypeRef) -> Result<TypeRef, Refusal>
+        ensures { Makes ⟦<TypeNode as PartialEq>⟧.eq result self.old self.new
+            (pair_node first second) }
+    {
+        self.make(TypeNode::Pair(first, second))
+    }
+
+    /// The handle of a type, which is stored unless an equal one is.
+    pub fn make(&mut self, node: TypeNode) -> Result<TypeRef, Refusal>
+        ensures { Makes ⟦<TypeNode as PartialEq>⟧.eq result self.old self.new node }
+    {
+        // What these say is used here: that no two types are equal, and what types are.
+        laws::types_are_their_shapes();
+        let _number = self.types.number();
+        let (handle, _) = Interned::new_gc(&mut self.types, node)?;
+        Ok(handle)
+    }
+
+    /// The type that a handle stands for. None for one of another store, or one that is gone.
+    pub fn get(&self, handle: TypeRef) -> Option<TypeNode>
+        ensures { result ≡ reads self.now (ref_name handle) }
+    {
+        handle.get(&self.types).copied()
+    }
+
+    /// How many types there are.
+    pub fn len(&self) -> usize
+        ensures { result ≡ map.len self.now.map }
+    {
+        self.types.len()
+    }
+
+    /// Removes every type but the listed ones and what they are made of. Where there is no memory,
+    /// `AllocError`, and the store is as it was.
+    pub fn collect(&mut self, roots: &[TypeRef]) -> Result<Collected, AllocError>
+        ensures ok { IfOk result (λ told. (names : List TypeName)
+            × IsCollection (starts_with (list_map ref_name roots.now) (types_of self.old))
+            (types_of self.old) names told
+            × (self.new ≡ kept_named self.old (has names))) }
+        ensures err { OnErr result (self.new ≡ self.old) }
+        ensures stays { (n : TypeName) →
+            Reached (starts_with (list_map ref_name roots.now) (types_of self.old))
+            (types_of self.old) n → reads self.new n ≡ reads self.old n }
+    {
+        GarbageCollector::new(self.alloc).collect_from(&mut self.types, &roots)
+    }
+}

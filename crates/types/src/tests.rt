@@ -1,0 +1,269 @@
+//! Worked examples, deep texts, collections, and random programs beside a plain reference.
+mod random;
+mod reference;
+
+use crate::environment::Environment;
+use crate::session::answers;
+use crate::store::Types;
+use crate::tests::random::{Generator, write_expression};
+use crate::tests::reference::{FUEL, Kind, Reference};
+use crate::value::{TypeNode, TypeRef};
+use ra_ap_intern::SymbolTable;
+use std::alloc::{AllocError, Global};
+use std::process::Abort;
+use std::test::Fail;
+
+// The first line of the answers to a text.
+fn first_answer(alloc: Global, text: &str) -> Result<String, Fail> {
+    let told = answers(alloc, text)?;
+    let line = told.as_str().lines().next().unwrap_or("");
+    Ok(String::from_str(alloc, line)?)
+}
+
+#[test]
+fn textbook_examples(rt: HostRuntime) -> Result<(), Fail> {
+    for (text, answer) in [
+        ("id x = x;", "id : 'a -> 'a"),
+        ("const x y = x;", "const : 'a -> 'b -> 'a"),
+        (
+            "compose f g x = f (g x);",
+            "compose : ('a -> 'b) -> ('c -> 'a) -> 'c -> 'b",
+        ),
+        ("twice f x = f (f x);", "twice : ('a -> 'a) -> 'a -> 'a"),
+        (
+            "s x y z = x z (y z);",
+            "s : ('a -> 'b -> 'c) -> ('a -> 'b) -> 'a -> 'c",
+        ),
+        (
+            "y f = (fun x -> f (x x)) (fun x -> f (x x));",
+            "1:22: infinite type: 'a = 'a -> 'b",
+        ),
+        ("swap p = (snd p, fst p);", "swap : 'a * 'b -> 'b * 'a"),
+        (
+            "rec map f p = (f (fst p), map f (snd p));",
+            "1:5: infinite type: 'a = 'b * 'a",
+        ),
+        ("both = let f x = x in (f 1, f true);", "both : int * bool"),
+        (
+            "both = (fun f -> (f 1, f true)) (fun x -> x);",
+            "1:26: can't unify int with bool",
+        ),
+        (
+            "rec fact n = if n < 1 then 1 else n * fact (n - 1);",
+            "fact : int -> int",
+        ),
+        (
+            "rec fib n = if n < 2 then n else fib (n - 1) + fib (n - 2);",
+            "fib : int -> int",
+        ),
+        ("zero f x = x;", "zero : 'a -> 'b -> 'b"),
+        (
+            "succ n f x = f (n f x);",
+            "succ : (('a -> 'b) -> 'c -> 'a) -> ('a -> 'b) -> 'c -> 'b",
+        ),
+        ("inner x = let y = x in (y, y);", "inner : 'a -> 'a * 'a"),
+        (
+            "three = ((1, true), 2 == 3);",
+            "three : (int * bool) * bool",
+        ),
+        ("minus = 1 - 2 - 3 < 4 * 5 + 6;", "minus : bool"),
+        ("missing = x;", "1:11: unbound name x"),
+        ("if = 3;", "1:1: expected a declaration"),
+        ("x = 1 + ;", "1:9: expected an expression"),
+        ("x = (1, 2;", "1:10: expected an operator or )"),
+        ("x = 1", "1:6: expected an operator or ;"),
+    ] {
+        assert_eq!(rt; first_answer(rt.alloc(), text)?.as_str(), answer);
+    }
+    Ok(())
+}
+
+// A declaration of a text, with another `count` times before it and a third as often behind it.
+fn nested(
+    alloc: Global,
+    (before, middle, after): (&str, &str, &str),
+    count: u32,
+) -> Result<String, AllocError> {
+    let mut text = String::from_str(alloc, "x = ")?;
+    for _ in 0..count {
+        text.push_str(before)?;
+    }
+    text.push_str(middle)?;
+    for _ in 0..count {
+        text.push_str(after)?;
+    }
+    text.push(';')?;
+    Ok(text)
+}
+
+#[test]
+fn deep_parentheses_are_answered(rt: HostRuntime) -> Result<(), Fail> {
+    let text = nested(rt.alloc(), ("(", "1", ")"), 100_000)?;
+    assert_eq!(rt;
+        first_answer(rt.alloc(), text.as_str())?.as_str(),
+        "x : int"
+    );
+    Ok(())
+}
+
+#[test]
+fn deep_texts_are_answered(rt: HostRuntime) -> Result<(), Fail> {
+    for (parts, begins) in [
+        (("fst (1, ", "true", ")"), "x : int"),
+        (("let y = 1 in ", "y", ""), "x : int"),
+        (("", "fst", " 1"), "1:9: can't unify 'a * 'b with int"),
+        (("1 + (", "2", ")"), "x : int"),
+        (("if true then 1 else ", "2", ""), "x : int"),
+        (("fun y -> ", "y", ""), "x : 'a -> 'b -> 'c -> "),
+        (("(", "1", ", 1)"), "x : (((((((((("),
+    ] {
+        let text = nested(rt.alloc(), parts, 5_000)?;
+        let answer = first_answer(rt.alloc(), text.as_str())?;
+        assert!(rt; answer.as_str().starts_with(begins), "{answer}");
+    }
+    Ok(())
+}
+
+fn has_parts(types: &Types, handle: TypeRef, first: TypeRef, second: TypeRef) -> bool {
+    match types.get(handle) {
+        Some(TypeNode::Function(a, b)) | Some(TypeNode::Pair(a, b)) => a == first && b == second,
+        _ => false,
+    }
+}
+
+#[test]
+fn a_collection_keeps_what_is_declared(rt: HostRuntime) {
+    let names = SymbolTable::new(rt.alloc(), 1);
+    let first = names.get("i32").expect(&rt, "a preset");
+    let second = names.get("str").expect(&rt, "a preset");
+    let mut environment = Environment::new(rt.alloc(), 2);
+    let types = &mut environment.types;
+    let integer = types.make(TypeNode::Integer).expect(&rt, "memory");
+    let pair = types.pair(integer, integer).expect(&rt, "memory");
+    let kept = types.function(pair, integer).expect(&rt, "memory");
+    let gone = types.function(pair, kept).expect(&rt, "memory");
+    environment.declare(first, gone).expect(&rt, "memory");
+    environment.declare(second, integer).expect(&rt, "memory");
+    environment.declare(first, kept).expect(&rt, "memory");
+    let told = environment.collect(rt.alloc()).expect(&rt, "memory");
+    assert_eq!(rt; (told.visits, told.removed), (3, 1));
+    assert!(rt; environment.look_up(first) == Some(kept));
+    assert!(rt; has_parts(&environment.types, kept, pair, integer));
+    assert!(rt; has_parts(&environment.types, pair, integer, integer));
+    assert!(rt; environment.types.get(gone).is_none());
+}
+
+#[test]
+fn equal_schemes_are_one(rt: HostRuntime) -> Result<(), Fail> {
+    let text = "f x y = x; g = fun first -> (fun second -> let same = first in same);";
+    let told = answers(rt.alloc(), text)?;
+    // 'a, 'b, their pair, the types of fst and snd, 'b -> 'a, and the one type of f and g.
+    assert!(rt; told.as_str().contains("\n4 names, 7 types, "), "{told}");
+    Ok(())
+}
+
+// How many answers there were of each kind.
+#[derive(Clone, Copy)]
+struct Counts {
+    typed: u32,
+    clashes: u32,
+    infinite: u32,
+    unbound: u32,
+}
+
+// Appends the answer that the reference gives, and counts it.
+fn refer(
+    alloc: Global,
+    out: &mut String,
+    reference: &mut Reference,
+    generator: &Generator,
+    at: usize,
+    counts: &mut Counts,
+) -> Result<(), AllocError> {
+    match reference.declare(3, generator.all.as_slice(), at) {
+        Ok(place) => {
+            counts.typed = counts.typed.saturating_add(1);
+            out.push_str("f : ")?;
+            reference.write(FUEL, out, &mut Vec::new(alloc), place, 0)?;
+        }
+        Err(Kind::Unbound) => {
+            counts.unbound = counts.unbound.saturating_add(1);
+            out.push_str("unbound name ")?;
+        }
+        Err(Kind::Clash) => {
+            counts.clashes = counts.clashes.saturating_add(1);
+            out.push_str("can't unify ")?;
+        }
+        Err(Kind::Infinite) => {
+            counts.infinite = counts.infinite.saturating_add(1);
+            out.push_str("infinite type: ")?;
+        }
+        Err(Kind::Limit) => out.push_str("limit")?,
+    }
+    out.push('\n')
+}
+
+// The same type, or its beginning, or the same kind of error.
+fn is_same(answer: &str, wanted: &str) -> bool {
+    match answer.strip_suffix("..") {
+        Some(beginning) => wanted.starts_with(beginning),
+        None if wanted.starts_with("f : ") => answer == wanted,
+        None => answer.contains(wanted),
+    }
+}
+
+// Appends a declaration to a text, and the reference's answer to others.
+fn add_declaration(
+    alloc: Global,
+    (text, wanted): (&mut String, &mut String),
+    reference: &mut Reference,
+    generator: &mut Generator,
+    depth: u32,
+    counts: &mut Counts,
+) -> Result<(), AllocError> {
+    generator.all.clear();
+    let at = generator.make(depth)?;
+    text.push_str("f = ")?;
+    write_expression(text, FUEL, generator.all.as_slice(), at)?;
+    text.push_str(";\n")?;
+    refer(alloc, wanted, reference, generator, at, counts)
+}
+
+fn compare(rt: &impl Abort, alloc: Global, seed: u64, counts: &mut Counts) {
+    let mut generator = Generator::new(alloc, seed);
+    let mut reference = Reference::new(alloc);
+    let mut text = String::new(alloc);
+    let mut wanted = String::new(alloc);
+    for step in 0..20 {
+        let texts = (&mut text, &mut wanted);
+        let depth = 1 + step % 5;
+        add_declaration(alloc, texts, &mut reference, &mut generator, depth, counts).expect(
+            rt, "memory",
+        );
+    }
+    let told = answers(alloc, text.as_str()).expect(rt, "memory");
+    for (answer, wanted) in told.as_str().lines().zip(wanted.as_str().lines()) {
+        assert!(rt; is_same(answer, wanted), "{answer} for {wanted} in\n{text}");
+    }
+}
+
+#[test]
+fn random_programs_have_the_types_of_the_reference(rt: HostRuntime) {
+    let mut counts = Counts {
+        typed: 0,
+        clashes: 0,
+        infinite: 0,
+        unbound: 0,
+    };
+    for seed in 0..250 {
+        compare(&rt, rt.alloc(), seed, &mut counts);
+    }
+    let Counts {
+        typed,
+        clashes,
+        infinite,
+        unbound,
+    } = counts;
+    assert!(rt; typed > 1500 && clashes > 1000, "{typed} {clashes}");
+    assert!(rt; infinite > 100 && unbound > 100, "{infinite} {unbound}");
+}
