@@ -1,7 +1,10 @@
 //! The comparisons of handles in the Rust crate's test `simple_gc`.
 use crate::steps::{has_count, own, own_slice, release, release_slice, slice_has_count};
 use crate::texts::{intern_numbers, intern_numbers_again, reads_numbers, reads_text};
-use intern_fixtures::{GcString, StringSlice, allowed, make_gc_string};
+use intern_fixtures::{
+    GcString, StringSlice, allowed, drop_slices, drop_values, make_gc_string, new_slices,
+    new_values,
+};
 use ra_ap_intern::{InternSliceStorage, InternStorage, Interned, InternedSliceRef};
 use std::alloc::Global;
 use std::process::Abort;
@@ -15,7 +18,7 @@ type Handle = Interned<GcString>;
 #[test]
 fn handles_of_texts_are_compared(rt: HostRuntime) {
     let alloc = rt.alloc();
-    let mut texts = InternStorage::new(alloc, 1);
+    let mut texts = new_values(alloc, 1);
     let a = own_text(&rt, alloc, &mut texts, "abc");
     let b = own_text(&rt, alloc, &mut texts, "abc");
     are_equal(&rt, &mut texts, &a, &b);
@@ -25,6 +28,7 @@ fn handles_of_texts_are_compared(rt: HostRuntime) {
     reads_text(&rt, &texts, c.as_ref(), Some("def"));
     are_given_up(&rt, &mut texts, b, c);
     has_count(&rt, &texts, a.as_ref(), 1);
+    drop_values(texts);
 }
 
 /// Owns a text, which is stored or is not.
@@ -78,13 +82,14 @@ fn are_given_up(rt: &impl Abort, texts: &mut Texts, second: Handle, only: Handle
 #[test]
 fn handles_of_slices_are_compared(rt: HostRuntime) {
     let alloc = rt.alloc();
-    let mut slices = InternSliceStorage::new(alloc, 2);
+    let mut slices = new_slices(alloc, 2);
     let pair = ("abc", [123, 456].as_slice());
     let d = intern_numbers(&rt, alloc, &mut slices, pair, 0);
     let e = intern_numbers_again(&rt, alloc, &mut slices, pair, d);
     owners_are_equal(&rt, &mut slices, d, e);
     reads_numbers(&rt, &slices, d, pair);
     slice_has_count(&rt, &slices, d, 1);
+    drop_slices(slices);
 }
 
 /// Owned handles of both are equal. The first one is kept.

@@ -2,10 +2,10 @@
 ghost use Rattle.std.specs.Prelude.{◌≡◌, true};
 
 use crate::nodes::Nodes;
-use crate::outers::a_value_over_a_slice;
-use crate::steps::{collects, own, release, release_slice};
-use crate::texts::two_texts_and_a_slice;
-use intern_fixtures::{GcString, Node, NodeSlice};
+use crate::outers::{a_value_over_a_slice, collects_outers, drop_outers};
+use crate::steps::{collects, collects_values, is_equal, own, release, release_slice};
+use crate::texts::{collects_texts, drop_texts, two_texts_and_a_slice};
+use intern_fixtures::{GcString, Node, NodeSlice, drop_values, new_values};
 use ra_ap_intern::{
     Collected, Family, GarbageCollector, InternSliceStorage, InternStorage, NoStorages, Numbered,
     Pair,
@@ -15,7 +15,7 @@ use std::process::Abort;
 
 /// Whether the storages of a family have distinct numbers is this.
 fn are_distinct<F: Family + Drop>(rt: &impl Abort, family: F, answer: bool) {
-    assert_eq!(rt; GarbageCollector::distinct(&family), answer);
+    is_equal(rt, GarbageCollector::distinct(&family), answer);
 }
 
 /// Two storages with these numbers.
@@ -38,7 +38,7 @@ fn two_storages_are_told_apart_by_their_numbers(rt: HostRuntime) {
 #[test]
 fn a_third_storage_may_have_the_number_of_the_first(rt: HostRuntime) {
     let alloc = rt.alloc();
-    let third: InternStorage<GcString> = InternStorage::new(alloc, 7);
+    let third: InternStorage<GcString> = new_values(alloc, 7);
     let family = GarbageCollector::add_storage(two_storages(alloc, 7, 8), third);
     are_distinct(&rt, family, false);
 }
@@ -79,7 +79,7 @@ fn tells<F: Family + Drop>(rt: &impl Abort, alloc: Global, mut family: F, expect
 {
     assert!(rt; GarbageCollector::distinct(&family));
     let told = GarbageCollector::new(alloc).collect(&mut family);
-    assert_eq!(rt; told, Ok(expected));
+    is_equal(rt, told, Ok(expected));
 }
 
 #[test]
@@ -90,21 +90,23 @@ fn no_storages_are_collected(rt: HostRuntime) {
 #[test]
 fn empty_storages_are_collected(rt: HostRuntime) {
     let alloc = rt.alloc();
-    let mut storage: InternStorage<Node> = InternStorage::new(alloc, 1);
-    collects(&rt, alloc, &mut storage, (0, 0, 0));
+    let mut storage: InternStorage<Node> = new_values(alloc, 1);
+    collects_values(&rt, alloc, &mut storage, (0, 0, 0));
     collects(&rt, alloc, &mut two_storages(alloc, 1, 2), (0, 0, 0));
+    drop_values(storage);
 }
 
 #[test]
 fn a_second_collection_removes_nothing(rt: HostRuntime) {
     let alloc = rt.alloc();
     let (mut family, text, slice) = two_texts_and_a_slice(&rt, alloc);
-    collects(&rt, alloc, &mut family, (2, 0, 1));
-    collects(&rt, alloc, &mut family, (2, 0, 0));
+    collects_texts(&rt, alloc, &mut family, (2, 0, 1));
+    collects_texts(&rt, alloc, &mut family, (2, 0, 0));
     release(&rt, &mut family.first.second, text);
     release_slice(&rt, &mut family.second, slice);
-    collects(&rt, alloc, &mut family, (0, 0, 2));
-    collects(&rt, alloc, &mut family, (0, 0, 0));
+    collects_texts(&rt, alloc, &mut family, (0, 0, 2));
+    collects_texts(&rt, alloc, &mut family, (0, 0, 0));
+    drop_texts(family);
 }
 
 #[test]
@@ -112,6 +114,7 @@ fn a_second_collection_keeps_what_is_declared(rt: HostRuntime) {
     let alloc = rt.alloc();
     let (mut family, outer, _) = a_value_over_a_slice(&rt, alloc);
     let _ = own(&rt, &mut family.second, outer);
-    collects(&rt, alloc, &mut family, (2, 1, 0));
-    collects(&rt, alloc, &mut family, (2, 1, 0));
+    collects_outers(&rt, alloc, &mut family, (2, 1, 0));
+    collects_outers(&rt, alloc, &mut family, (2, 1, 0));
+    drop_outers(family);
 }

@@ -1,36 +1,38 @@
 //! Storages with many entries.
 use crate::kinds::Alike;
 use crate::nodes::{Nodes, intern_leaf, intern_node};
-use crate::steps::{collects, intern, intern_slice, own, own_slice, push, release};
-use intern_fixtures::{Node, NodeSlice};
-use ra_ap_intern::{
-    GarbageCollector, InternSliceStorage, InternStorage, Interned, InternedRef, NoStorages,
+use crate::steps::{
+    collects, collects_values, intern, intern_slice, own, own_slice, push, release,
 };
+use intern_fixtures::{Node, NodeSlice, drop_values, new_slices, new_values};
+use ra_ap_intern::{GarbageCollector, InternSliceStorage, Interned, InternedRef, NoStorages};
 use std::alloc::Global;
 use std::process::Abort;
 
 #[test]
 fn half_of_the_values_that_all_hash_alike_are_collected(rt: HostRuntime) {
     let alloc = rt.alloc();
-    let mut storage = InternStorage::new(alloc, 1);
+    let mut storage = new_values(alloc, 1);
     for number in 0..1_000 {
         let value = intern(&rt, &mut storage, Alike(number), number);
         if number % 2 == 1 {
             let _ = own(&rt, &mut storage, value);
         }
     }
-    collects(&rt, alloc, &mut storage, (500, 0, 500));
+    collects_values(&rt, alloc, &mut storage, (500, 0, 500));
+    drop_values(storage);
 }
 
 #[test]
 fn a_chain_of_a_hundred_thousand_nodes_is_collected(rt: HostRuntime) {
     let alloc = rt.alloc();
-    let mut storage = InternStorage::new(alloc, 1);
+    let mut storage = new_values(alloc, 1);
     let last = intern_chain(&rt, alloc, &mut storage, 100_000);
     let last = own(&rt, &mut storage, last);
-    collects(&rt, alloc, &mut storage, (100_000, 99_999, 0));
+    collects_values(&rt, alloc, &mut storage, (100_000, 99_999, 0));
     release(&rt, &mut storage, last);
-    collects(&rt, alloc, &mut storage, (0, 0, 100_000));
+    collects_values(&rt, alloc, &mut storage, (0, 0, 100_000));
+    drop_values(storage);
 }
 
 /// Interns this many nodes, at least one, each over the one before. It gives the last.
@@ -50,22 +52,23 @@ fn intern_chain(
 #[test]
 fn ten_thousand_owned_nodes_over_one_leaf_are_collected(rt: HostRuntime) {
     let alloc = rt.alloc();
-    let mut storage = InternStorage::new(alloc, 1);
+    let mut storage = new_values(alloc, 1);
     let nodes = intern_fan(&rt, alloc, &mut storage, 10_000);
     let owned = own_all(&rt, alloc, &mut storage, &nodes);
-    collects(&rt, alloc, &mut storage, (10_001, 10_000, 0));
+    collects_values(&rt, alloc, &mut storage, (10_001, 10_000, 0));
     for node in owned {
         release(&rt, &mut storage, node);
     }
-    collects(&rt, alloc, &mut storage, (0, 0, 10_001));
+    collects_values(&rt, alloc, &mut storage, (0, 0, 10_001));
+    drop_values(storage);
 }
 
 #[test]
 fn ten_thousand_nodes_of_a_slice_over_one_leaf_are_kept(rt: HostRuntime) {
     let alloc = rt.alloc();
-    let mut storage = InternStorage::new(alloc, 1);
+    let mut storage = new_values(alloc, 1);
     let nodes = intern_fan(&rt, alloc, &mut storage, 10_000);
-    let mut slices: InternSliceStorage<NodeSlice> = InternSliceStorage::new(alloc, 2);
+    let mut slices: InternSliceStorage<NodeSlice> = new_slices(alloc, 2);
     let slice = intern_slice(&rt, &mut slices, 0, nodes.as_slice(), 0);
     let _ = own_slice(&rt, &mut slices, slice);
     let family = GarbageCollector::add_storage(NoStorages, storage);

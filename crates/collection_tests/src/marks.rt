@@ -2,11 +2,11 @@
 ghost use Rattle.std.specs.Prelude.{◌≡◌, true};
 
 use crate::kinds::Outer;
-use crate::nodes::{intern_leaf, intern_owned};
-use crate::outers::{Outers, a_value_over_a_slice};
-use crate::steps::{collects_by, has_len, own, registers};
+use crate::nodes::{intern_leaf, intern_owned, registers_nodes};
+use crate::outers::{Outers, a_value_over_a_slice, drop_outers, registers_outers};
+use crate::steps::{collects_by, drop_collector, has_len, is_equal, own};
 use crate::texts::intern_text;
-use intern_fixtures::{GcString, NodeSlice, StringSlice};
+use intern_fixtures::{GcString, NodeSlice, StringSlice, drop_values, new_values};
 use ra_ap_intern::{
     GarbageCollector, GcInternedSliceVisit, GcInternedVisit, InternStorage, Internable,
     InternedRef, InternedSliceRef, Name,
@@ -30,7 +30,7 @@ fn marks<T: Internable>(
 )
     requires { T.Internable.USE_GC ≡ true }
 {
-    assert_eq!(rt; gc.mark_interned_alive(reference), answer);
+    is_equal(rt, gc.mark_interned_alive(reference), answer);
 }
 
 /// Marks a slice, which is answered thus.
@@ -40,12 +40,12 @@ fn marks_slice(
     slice: InternedSliceRef<StringSlice>,
     answer: ControlFlow<()>,
 ) {
-    assert_eq!(rt; gc.mark_interned_slice_alive(slice), answer);
+    is_equal(rt, gc.mark_interned_slice_alive(slice), answer);
 }
 
 /// There were this many visits, and this many mark calls.
 fn has_tallies(rt: &impl Abort, gc: &GarbageCollector, tallies: (usize, u64)) {
-    assert_eq!(rt; (gc.visits(), gc.mark_calls()), tallies);
+    is_equal(rt, (gc.visits(), gc.mark_calls()), tallies);
 }
 
 /// A collector that has registered a value over a slice of which only the value is owned, with
@@ -62,19 +62,21 @@ fn a_registered_value_over_a_slice(
     let (mut family, outer, inner) = a_value_over_a_slice(rt, alloc);
     let _ = own(rt, &mut family.second, outer);
     let mut gc = GarbageCollector::new(alloc);
-    registers(rt, &mut gc, &family);
+    registers_outers(rt, &mut gc, &family);
     (gc, family, outer, inner)
 }
 
 #[test]
 fn a_mark_call_marks_what_is_registered_and_not_counted(rt: HostRuntime) {
     let alloc = rt.alloc();
-    let (mut gc, _, outer, inner) = a_registered_value_over_a_slice(&rt, alloc);
+    let (mut gc, family, outer, inner) = a_registered_value_over_a_slice(&rt, alloc);
     let text = a_text_outside(&rt, alloc);
     marks_four_times(&rt, &mut gc, outer, inner, text);
     assert!(rt; gc.is_marked(inner.name()));
     assert!(rt; !gc.is_marked(outer.name()));
     assert!(rt; !gc.is_marked(text.name()));
+    drop_outers(family);
+    drop_collector(gc);
 }
 
 /// A reference to a text of a storage outside.
@@ -104,12 +106,14 @@ fn a_registration_forgets_all_marks(rt: HostRuntime) {
     let (mut gc, family, outer, inner) = a_registered_value_over_a_slice(&rt, alloc);
     let text = a_text_outside(&rt, alloc);
     marks_four_times(&rt, &mut gc, outer, inner, text);
-    registers(&rt, &mut gc, &family);
+    registers_outers(&rt, &mut gc, &family);
     none_is_marked(&rt, &gc, [inner.name(), outer.name(), text.name()]);
     has_tallies(&rt, &gc, (0, 0));
     marks_slice(&rt, &mut gc, inner, MARKED);
     marks(&rt, &mut gc, text, NOT_MARKED);
     assert!(rt; !gc.is_marked(text.name()));
+    drop_outers(family);
+    drop_collector(gc);
 }
 
 /// No name is marked.
@@ -122,49 +126,56 @@ fn none_is_marked(rt: &impl Abort, gc: &GarbageCollector, names: [Name; 3]) {
 #[test]
 fn nothing_is_marked_before_a_registration(rt: HostRuntime) {
     let alloc = rt.alloc();
-    let (_, _, inner) = a_value_over_a_slice(&rt, alloc);
+    let (family, _, inner) = a_value_over_a_slice(&rt, alloc);
     let mut gc = GarbageCollector::new(alloc);
     marks_slice(&rt, &mut gc, inner, NOT_MARKED);
     has_tallies(&rt, &gc, (0, 1));
     assert!(rt; !gc.is_marked(inner.name()));
+    drop_outers(family);
+    drop_collector(gc);
 }
 
 #[test]
 fn a_visit_marks_each_declared_child_in_turn(rt: HostRuntime) {
     let alloc = rt.alloc();
-    let mut storage = InternStorage::new(alloc, 1);
+    let mut storage = new_values(alloc, 1);
     let child = intern_leaf(&rt, alloc, &mut storage, 0, 0);
     let node = intern_owned(&rt, alloc, &mut storage, &[child, child], 1);
     let mut gc = GarbageCollector::new(alloc);
-    registers(&rt, &mut gc, &storage);
+    registers_nodes(&rt, &mut gc, &storage);
     let value = node.get(&storage).expect(&rt, "stored");
     value.visit_with(&mut gc);
     has_tallies(&rt, &gc, (0, 2));
     assert!(rt; gc.is_marked(child.name()));
+    drop_values(storage);
+    drop_collector(gc);
 }
 
 #[test]
 fn a_visit_of_a_slice_marks_each_item_in_turn(rt: HostRuntime) {
     let alloc = rt.alloc();
-    let mut storage = InternStorage::new(alloc, 1);
+    let mut storage = new_values(alloc, 1);
     let child = intern_leaf(&rt, alloc, &mut storage, 0, 0);
     let mut gc = GarbageCollector::new(alloc);
-    registers(&rt, &mut gc, &storage);
+    registers_nodes(&rt, &mut gc, &storage);
     NodeSlice::visit_header(&5, &mut gc);
     has_tallies(&rt, &gc, (0, 0));
     NodeSlice::visit_slice(&[child, child], &mut gc);
     has_tallies(&rt, &gc, (0, 2));
     assert!(rt; gc.is_marked(child.name()));
+    drop_values(storage);
+    drop_collector(gc);
 }
 
 #[test]
 fn a_collection_forgets_the_marks_before_it(rt: HostRuntime) {
     let alloc = rt.alloc();
-    let mut storage = InternStorage::new(alloc, 1);
+    let mut storage = new_values(alloc, 1);
     let node = intern_leaf(&rt, alloc, &mut storage, 0, 0);
     let mut gc = GarbageCollector::new(alloc);
-    registers(&rt, &mut gc, &storage);
+    registers_nodes(&rt, &mut gc, &storage);
     marks(&rt, &mut gc, node, MARKED);
     collects_by(&rt, gc, &mut storage, (0, 0, 1));
     has_len(&rt, &storage, 0);
+    drop_values(storage);
 }

@@ -1,7 +1,7 @@
 //! Steps of tests over nodes, each with the answer that it must get.
-use crate::steps::{intern, own};
-use intern_fixtures::{Node, make_node};
-use ra_ap_intern::{InternStorage, Interned, InternedRef};
+use crate::steps::{intern, own, registers};
+use intern_fixtures::{Node, make_node, new_values};
+use ra_ap_intern::{GarbageCollector, InternStorage, Interned, InternedRef};
 use std::alloc::Global;
 use std::process::Abort;
 
@@ -45,9 +45,14 @@ pub fn intern_owned(
 
 /// A reference to the entry of a birth in a storage of this number, which is given up.
 pub fn given_up(rt: &impl Abort, alloc: Global, number: u64, birth: u64) -> InternedRef<Node> {
-    let mut storage = InternStorage::new(alloc, number);
+    let mut storage = new_values(alloc, number);
     for tag in 0..birth {
         let _ = intern_leaf(rt, alloc, &mut storage, tag, tag);
     }
     intern_leaf(rt, alloc, &mut storage, birth, birth)
+}
+
+/// Registers a storage.
+pub fn registers_nodes(rt: &impl Abort, gc: &mut GarbageCollector, storage: &Nodes) {
+    registers(rt, gc, storage);
 }

@@ -46,13 +46,22 @@ fn store(
     Ok(reference)
 }
 
+/// Stores a number, a list of numbers, and a text.
+fn store_three(
+    alloc: Global,
+    types: &mut InternStorage<Type>,
+) -> Result<[InternedRef<Type>; 3], Fail> {
+    let number = store(alloc, types, 0, &[])?;
+    let list = store(alloc, types, 1, &[number])?;
+    let text = store(alloc, types, 2, &[])?;
+    Ok([number, list, text])
+}
+
 #[test]
 fn a_collection_keeps_what_is_declared(rt: HostRuntime) -> Result<(), Fail> {
     let alloc = rt.alloc();
     let mut types = InternStorage::new(alloc, 1);
-    let number = store(alloc, &mut types, 0, &[])?;
-    let list = store(alloc, &mut types, 1, &[number])?;
-    let text = store(alloc, &mut types, 2, &[])?;
+    let [number, list, text] = store_three(alloc, &mut types)?;
     let owned = list.to_owned(&mut types)?;
 
     // The list is owned, and declares the number. Nothing leads to the text.

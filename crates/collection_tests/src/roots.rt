@@ -1,7 +1,7 @@
 //! Collections with a list of roots.
-use crate::outers::a_value_over_a_slice;
-use crate::steps::{collects, collects_keeping, has_len, own, release, release_slice};
-use crate::texts::{have_lens, two_texts_and_a_slice};
+use crate::outers::{a_value_over_a_slice, collects_outers, drop_outers};
+use crate::steps::{collects_keeping, has_len, own, release, release_slice};
+use crate::texts::{drop_texts, have_lens, two_texts_and_a_slice};
 use ra_ap_intern::Name;
 
 /// A name in a storage that no family has.
@@ -23,6 +23,7 @@ fn a_root_is_kept_as_if_it_were_counted(rt: HostRuntime) {
     have_lens(&rt, &family, (1, 1));
     collects_keeping(&rt, alloc, &mut family, &[], (0, 0, 2));
     have_lens(&rt, &family, (0, 0));
+    drop_texts(family);
 }
 
 #[test]
@@ -34,5 +35,6 @@ fn a_root_keeps_what_it_declares(rt: HostRuntime) {
     collects_keeping(&rt, alloc, &mut family, &[outer.name()], (2, 1, 0));
     collects_keeping(&rt, alloc, &mut family, &[inner.name()], (1, 0, 1));
     has_len(&rt, &family.second, 0);
-    collects(&rt, alloc, &mut family, (0, 0, 1));
+    collects_outers(&rt, alloc, &mut family, (0, 0, 1));
+    drop_outers(family);
 }

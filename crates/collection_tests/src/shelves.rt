@@ -2,11 +2,9 @@
 ghost use Rattle.std.specs.Prelude.{true};
 
 use crate::nodes::{Nodes, intern_leaf};
-use crate::steps::intern;
-use intern_fixtures::Node;
-use ra_ap_intern::{
-    GarbageCollector, GcInternedVisit, InternStorage, Internable, InternedRef, Pair,
-};
+use crate::steps::{intern, is_equal};
+use intern_fixtures::{Node, new_values};
+use ra_ap_intern::{GarbageCollector, GcInternedVisit, Internable, InternedRef, Pair};
 use std::alloc::Global;
 use std::process::Abort;
 
@@ -44,7 +42,7 @@ impl GcInternedVisit for Shelf {
 #[test]
 fn each_field_is_visited(rt: HostRuntime) {
     let alloc = rt.alloc();
-    let mut nodes: Nodes = InternStorage::new(alloc, 1);
+    let mut nodes: Nodes = new_values(alloc, 1);
     let a = intern_leaf(&rt, alloc, &mut nodes, 0, 0);
     let b = intern_leaf(&rt, alloc, &mut nodes, 1, 1);
     let c = intern_leaf(&rt, alloc, &mut nodes, 2, 2);
@@ -62,7 +60,7 @@ fn each_field_is_visited(rt: HostRuntime) {
 
 /// A collection keeps the shelf, and the four nodes that it declares.
 fn keeps_four(rt: &impl Abort, shelf: Shelf, nodes: Nodes, alloc: Global) {
-    let mut shelves = InternStorage::new(alloc, 2);
+    let mut shelves = new_values(alloc, 2);
     let shelf: InternedRef<Shelf> = intern(rt, &mut shelves, shelf, 0);
     let mut family = Pair {
         first: nodes,
@@ -71,5 +69,5 @@ fn keeps_four(rt: &impl Abort, shelf: Shelf, nodes: Nodes, alloc: Global) {
     assert!(rt; GarbageCollector::distinct(&family));
     let told = GarbageCollector::new(alloc).collect_from(&mut family, &shelf);
     let told = told.expect(rt, "memory");
-    assert_eq!(rt; (told.visits, told.mark_calls, told.removed), (5, 4, 1));
+    is_equal(rt, (told.visits, told.mark_calls, told.removed), (5, 4, 1));
 }

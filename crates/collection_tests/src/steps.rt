@@ -3,11 +3,18 @@ ghost use Rattle.std.specs.Prelude.{◌≡◌, true};
 
 use intern_fixtures::{allowed, told};
 use ra_ap_intern::{
-    Family, GarbageCollector, InternSliceStorage, InternStorage, Internable, Interned, InternedRef,
-    InternedSlice, InternedSliceRef, Name, SliceInternable,
+    Family, GarbageCollector, GcInternedSliceVisit, GcInternedVisit, InternSliceStorage,
+    InternStorage, Internable, Interned, InternedRef, InternedSlice, InternedSliceRef, Name,
+    SliceInternable,
 };
 use std::alloc::Global;
+use std::fmt::Debug;
 use std::process::Abort;
+
+/// The values are equal.
+pub fn is_equal<V: Copy + PartialEq + Debug>(rt: &impl Abort, found: V, wanted: V) {
+    assert_eq!(rt; found, wanted);
+}
 
 /// Adds a value at the end of a list.
 pub fn push<V: Drop>(rt: &impl Abort, list: &mut Vec<V>, value: V) {
@@ -15,12 +22,15 @@ pub fn push<V: Drop>(rt: &impl Abort, list: &mut Vec<V>, value: V) {
     pushed.expect(rt, "memory");
 }
 
+/// Drops a collector.
+pub fn drop_collector(_gc: GarbageCollector) {}
+
 /// Registers a family.
 pub fn registers<F: Family>(rt: &impl Abort, gc: &mut GarbageCollector, family: &F)
     requires { F.collected ≡ true }
 {
     assert!(rt; GarbageCollector::distinct(family));
-    assert_eq!(rt; gc.register(family), Ok(()));
+    is_equal(rt, gc.register(family), Ok(()));
 }
 
 /// Collects a family: the visits, the mark calls and the removed entries are these.
@@ -35,6 +45,33 @@ pub fn collects<F: Family>(
     collects_by(rt, GarbageCollector::new(alloc), family, answer);
 }
 
+/// Collects a storage of values, with this answer. A call of `collects` itself is proved for longer
+/// wherever the family is of a known type.
+pub fn collects_values<T: Internable + GcInternedVisit + Drop>(
+    rt: &impl Abort,
+    alloc: Global,
+    storage: &mut InternStorage<T>,
+    answer: (usize, u64, usize),
+)
+    requires { T.Internable.USE_GC ≡ true }
+{
+    collects(rt, alloc, storage, answer);
+}
+
+/// Collects a storage of slices, with this answer.
+pub fn collects_slices<K: SliceInternable + GcInternedSliceVisit>(
+    rt: &impl Abort,
+    alloc: Global,
+    storage: &mut InternSliceStorage<K>,
+    answer: (usize, u64, usize),
+)
+where
+    K::Header: Drop,
+    requires { K.SliceInternable.USE_GC ≡ true }
+{
+    collects(rt, alloc, storage, answer);
+}
+
 /// Collects a family by a collector: the visits, the mark calls and the removed entries are these.
 pub fn collects_by<F: Family>(
     rt: &impl Abort,
@@ -45,7 +82,7 @@ pub fn collects_by<F: Family>(
     requires { F.collected ≡ true }
 {
     assert!(rt; GarbageCollector::distinct(family));
-    assert_eq!(rt; told(gc.collect(family)), Some(answer));
+    is_equal(rt, told(gc.collect(family)), Some(answer));
 }
 
 /// Collects a family with a list of roots: the visits, the mark calls and the removed entries are
@@ -61,12 +98,12 @@ pub fn collects_keeping<F: Family>(
 {
     assert!(rt; GarbageCollector::distinct(family));
     let gc = GarbageCollector::new(alloc);
-    assert_eq!(rt; told(gc.collect_keeping(family, roots)), Some(answer));
+    is_equal(rt, told(gc.collect_keeping(family, roots)), Some(answer));
 }
 
 /// The storage has this many entries.
 pub fn has_len<T: Internable>(rt: &impl Abort, storage: &InternStorage<T>, len: usize) {
-    assert_eq!(rt; storage.len(), len);
+    is_equal(rt, storage.len(), len);
 }
 
 /// The entry that a reference names has this count.
@@ -76,7 +113,7 @@ pub fn has_count<T: Internable>(
     reference: InternedRef<T>,
     count: u64,
 ) {
-    assert_eq!(rt; storage.count(reference), Some(count));
+    is_equal(rt, storage.count(reference), Some(count));
 }
 
 /// The entry that a reference to a slice names has this count.
@@ -86,7 +123,7 @@ pub fn slice_has_count<K: SliceInternable>(
     slice: InternedSliceRef<K>,
     count: u64,
 ) {
-    assert_eq!(rt; storage.count(slice), Some(count));
+    is_equal(rt, storage.count(slice), Some(count));
 }
 
 /// Interns a value that isn't stored: it gets this birth.
@@ -100,7 +137,7 @@ pub fn intern<T: Internable + Drop>(
 {
     let (reference, back) = allowed(Interned::new_gc(storage, value)).expect(rt, "interned");
     assert!(rt; back.is_none());
-    assert_eq!(rt; reference.as_raw(), birth);
+    is_equal(rt, reference.as_raw(), birth);
     reference
 }
 
@@ -138,7 +175,7 @@ where
     let answer = InternedSlice::from_header_and_slice(storage, header, items);
     let (slice, back) = allowed(answer).expect(rt, "interned");
     assert!(rt; back.is_none());
-    assert_eq!(rt; slice.name().birth, birth);
+    is_equal(rt, slice.name().birth, birth);
     slice
 }
 
@@ -157,5 +194,5 @@ pub fn release_slice<K: SliceInternable>(
     storage: &mut InternSliceStorage<K>,
     handle: InternedSlice<K>,
 ) {
-    assert_eq!(rt; allowed(handle.release(storage)), Ok(()));
+    is_equal(rt, allowed(handle.release(storage)), Ok(()));
 }

@@ -1,6 +1,6 @@
 //! Steps of tests over texts, and over numbers behind texts: neither declares anything.
-use crate::steps::{intern, intern_slice, own, own_slice};
-use intern_fixtures::{GcString, StringSlice, allowed, make_gc_string};
+use crate::steps::{collects, intern, intern_slice, is_equal, own, own_slice};
+use intern_fixtures::{GcString, StringSlice, allowed, make_gc_string, new_slices, new_values};
 use ra_ap_intern::{
     GarbageCollector, InternSliceStorage, InternStorage, Interned, InternedRef, InternedSlice,
     InternedSliceRef, NoStorages, Pair,
@@ -48,7 +48,7 @@ pub fn intern_numbers_again(
     let answer = InternedSlice::from_header_and_slice(storage, header, numbers);
     let (again, back) = allowed(answer).expect(rt, "interned");
     assert!(rt; again == slice);
-    assert_eq!(rt; back.as_ref().map(String::as_str), Some(text));
+    is_equal(rt, back.as_ref().map(String::as_str), Some(text));
     again
 }
 
@@ -59,7 +59,7 @@ pub fn reads_text(
     reference: InternedRef<GcString>,
     text: Option<&str>,
 ) {
-    assert_eq!(rt; reference.get(storage).map(GcString::text), text);
+    is_equal(rt, reference.get(storage).map(GcString::text), text);
 }
 
 /// Reads these numbers behind this text.
@@ -71,13 +71,26 @@ pub fn reads_numbers(
 ) {
     let read = slice.get(storage).expect(rt, "stored");
     let header = (read.header.header.as_str(), read.header.length);
-    assert_eq!(rt; header, (text, numbers.len()));
-    assert_eq!(rt; read.slice, numbers);
+    is_equal(rt, header, (text, numbers.len()));
+    is_equal(rt, read.slice, numbers);
+}
+
+/// Drops the storages.
+pub fn drop_texts(_texts: Texts) {}
+
+/// Collects the storages: the visits, the mark calls and the removed entries are these.
+pub fn collects_texts(
+    rt: &impl Abort,
+    alloc: Global,
+    texts: &mut Texts,
+    answer: (usize, u64, usize),
+) {
+    collects(rt, alloc, texts, answer);
 }
 
 /// The storages have this many texts and this many slices.
 pub fn have_lens(rt: &impl Abort, texts: &Texts, lens: (usize, usize)) {
-    assert_eq!(rt; (texts.first.second.len(), texts.second.len()), lens);
+    is_equal(rt, (texts.first.second.len(), texts.second.len()), lens);
 }
 
 /// The texts "abc", which is owned, and "def", and two numbers behind "abc", which are owned.
@@ -85,12 +98,12 @@ pub fn two_texts_and_a_slice(
     rt: &impl Abort,
     alloc: Global,
 ) -> (Texts, Interned<GcString>, InternedSlice<StringSlice>) {
-    let mut texts = InternStorage::new(alloc, 1);
+    let mut texts = new_values(alloc, 1);
     let abc = intern_text(rt, alloc, &mut texts, "abc", 0);
     let _ = intern_text(rt, alloc, &mut texts, "def", 1);
     let abc = own(rt, &mut texts, abc);
 
-    let mut slices = InternSliceStorage::new(alloc, 2);
+    let mut slices = new_slices(alloc, 2);
     let pair = ("abc", [123, 456].as_slice());
     let slice = intern_numbers(rt, alloc, &mut slices, pair, 0);
     let _ = intern_numbers_again(rt, alloc, &mut slices, pair, slice);

@@ -1,7 +1,10 @@
 //! Values that count their visits, in a cell that equality and hash pass over.
 ghost use Rattle.std.specs.Prelude.{true};
 
-use crate::steps::{collects, has_count, intern, intern_slice, own, own_slice};
+use crate::steps::{
+    collects_slices, collects_values, has_count, intern, intern_slice, is_equal, own, own_slice,
+};
+use intern_fixtures::{drop_slices, drop_values, new_slices, new_values};
 use ra_ap_intern::{
     GarbageCollector, GcInternedSliceVisit, GcInternedVisit, InternSliceStorage, InternStorage,
     Internable, InternedRef, InternedSliceRef, SliceInternable,
@@ -92,16 +95,17 @@ fn intern_visited(
 #[test]
 fn a_collection_visits_each_value_once(rt: HostRuntime) {
     let alloc = rt.alloc();
-    let mut storage = InternStorage::new(alloc, 1);
+    let mut storage = new_values(alloc, 1);
     let leaf = intern_visited(&rt, alloc, &mut storage, 0, &[]);
     let left = intern_visited(&rt, alloc, &mut storage, 1, &[leaf]);
     let right = intern_visited(&rt, alloc, &mut storage, 2, &[leaf]);
     let top = intern_visited(&rt, alloc, &mut storage, 3, &[left, right]);
     let _ = own(&rt, &mut storage, top);
-    collects(&rt, alloc, &mut storage, (4, 4, 0));
+    collects_values(&rt, alloc, &mut storage, (4, 4, 0));
     were_visited(&rt, &storage, [leaf, left, right, top], 1);
-    collects(&rt, alloc, &mut storage, (4, 4, 0));
+    collects_values(&rt, alloc, &mut storage, (4, 4, 0));
     were_visited(&rt, &storage, [leaf, left, right, top], 2);
+    drop_values(storage);
 }
 
 /// Each node was visited this often.
@@ -113,31 +117,33 @@ fn were_visited(
 ) {
     for node in nodes {
         let read = node.get(storage).map(|node| node.visits.get());
-        assert_eq!(rt; read, Some(visits));
+        is_equal(rt, read, Some(visits));
     }
 }
 
 #[test]
 fn a_collection_marks_a_child_that_is_declared_twice_once(rt: HostRuntime) {
     let alloc = rt.alloc();
-    let mut storage = InternStorage::new(alloc, 1);
+    let mut storage = new_values(alloc, 1);
     let child = intern_visited(&rt, alloc, &mut storage, 0, &[]);
     let node = intern_visited(&rt, alloc, &mut storage, 1, &[child, child]);
     let _ = own(&rt, &mut storage, node);
     has_count(&rt, &storage, child, 0);
-    collects(&rt, alloc, &mut storage, (2, 2, 0));
+    collects_values(&rt, alloc, &mut storage, (2, 2, 0));
     last_marked(&rt, &storage, node, false);
+    drop_values(storage);
 }
 
 #[test]
 fn a_collection_marks_a_child_that_is_declared_once(rt: HostRuntime) {
     let alloc = rt.alloc();
-    let mut storage = InternStorage::new(alloc, 1);
+    let mut storage = new_values(alloc, 1);
     let child = intern_visited(&rt, alloc, &mut storage, 0, &[]);
     let node = intern_visited(&rt, alloc, &mut storage, 1, &[child]);
     let _ = own(&rt, &mut storage, node);
-    collects(&rt, alloc, &mut storage, (2, 1, 0));
+    collects_values(&rt, alloc, &mut storage, (2, 1, 0));
     last_marked(&rt, &storage, node, true);
+    drop_values(storage);
 }
 
 /// The last mark call of the visit of a node marked, or didn't.
@@ -148,7 +154,7 @@ fn last_marked(
     marked: bool,
 ) {
     let read = node.get(storage).map(|node| node.visits.last_marked.get());
-    assert_eq!(rt; read, Some(marked));
+    is_equal(rt, read, Some(marked));
 }
 
 /// Nodes that are slices: each is a tag, which counts its visits, before its children.
@@ -186,16 +192,17 @@ impl GcInternedSliceVisit for VisitedSlice {
 #[test]
 fn a_collection_visits_each_slice_once(rt: HostRuntime) {
     let alloc = rt.alloc();
-    let mut storage = InternSliceStorage::new(alloc, 1);
+    let mut storage = new_slices(alloc, 1);
     let leaf = intern_slice(&rt, &mut storage, Visits::new(0), &[], 0);
     let left = intern_slice(&rt, &mut storage, Visits::new(1), &[leaf], 1);
     let right = intern_slice(&rt, &mut storage, Visits::new(2), &[leaf], 2);
     let top = intern_slice(&rt, &mut storage, Visits::new(3), &[left, right], 3);
     let _ = own_slice(&rt, &mut storage, top);
-    collects(&rt, alloc, &mut storage, (4, 4, 0));
+    collects_slices(&rt, alloc, &mut storage, (4, 4, 0));
     slices_were_visited(&rt, &storage, [leaf, left, right, top], 1);
-    collects(&rt, alloc, &mut storage, (4, 4, 0));
+    collects_slices(&rt, alloc, &mut storage, (4, 4, 0));
     slices_were_visited(&rt, &storage, [leaf, left, right, top], 2);
+    drop_slices(storage);
 }
 
 /// Each slice was visited this often.
@@ -207,6 +214,6 @@ fn slices_were_visited(
 ) {
     for slice in slices {
         let read = slice.get(storage).map(|read| read.header.header.get());
-        assert_eq!(rt; read, Some(visits));
+        is_equal(rt, read, Some(visits));
     }
 }

@@ -60,17 +60,31 @@ impl Collection {
         alloc: Global,
         grove: &mut Grove,
     ) -> Result<Collected, Fault> {
-        let storages = &mut grove.storages;
-        if !GarbageCollector::distinct(storages) {
+        if !GarbageCollector::distinct(&grove.storages) {
             return Err(Fault::Wrong("two storages of a family have one number"));
         }
-        let gc = GarbageCollector::new(alloc);
         marks::asks(rt, self.name());
         let collected = match self {
-            Collection::Plain => gc.collect(storages),
-            Collection::Keeping => gc.collect_keeping(storages, grove.listed.as_slice()),
+            Collection::Plain => GarbageCollector::new(alloc).collect(&mut grove.storages),
+            Collection::Keeping => GarbageCollector::new(alloc).collect_keeping(
+                &mut grove.storages,
+                grove.listed.as_slice(),
+            ),
         };
         collected.map_err(|_| Fault::NoMemory)
+    }
+
+    // Makes the call on a family of so many nodes and so many branches.
+    fn check_of(
+        self,
+        rt: &impl Eprint,
+        alloc: Global,
+        (nodes, branches): (usize, usize),
+        wanted: Collected,
+    ) -> Result<(), Fault> {
+        marks::prepares(rt);
+        let mut grove = Grove::make(alloc, nodes, branches)?;
+        self.check_on(rt, alloc, &mut grove, wanted)
     }
 
     // Makes the call on a family of all entries, and once more on what is left, where many places
@@ -93,6 +107,24 @@ impl Collection {
     }
 
     // Makes the call. Where it is refused, the family is as it was, and the call is made once more.
+    fn collect_surely(
+        self,
+        rt: &impl Eprint,
+        alloc: Global,
+        grove: &mut Grove,
+        before: Left,
+    ) -> Result<Collected, Fault> {
+        match self.collect(rt, alloc, grove) {
+            Err(Fault::NoMemory) => {
+                marks::refused(rt, self.name());
+                grove.check(before)?;
+                self.collect(rt, alloc, grove)
+            }
+            collected => collected,
+        }
+    }
+
+    // Makes the call, which has to tell this.
     fn check_once(
         self,
         rt: &impl Eprint,
@@ -103,14 +135,7 @@ impl Collection {
     ) -> Result<(), Fault> {
         marks::takes_none(rt, "reads");
         grove.check(before)?;
-        let collected = match self.collect(rt, alloc, grove) {
-            Err(Fault::NoMemory) => {
-                marks::refused(rt, self.name());
-                grove.check(before)?;
-                self.collect(rt, alloc, grove)?
-            }
-            collected => collected?,
-        };
+        let collected = self.collect_surely(rt, alloc, grove, before)?;
         marks::takes_none(rt, "reads");
         ensure(collected == wanted, "a collection tells something else")?;
         grove.check(self.left())
@@ -131,26 +156,30 @@ pub(crate) fn check_collection(
     alloc: Global,
     call: Collection,
 ) -> Result<(), Fault> {
-    marks::prepares(rt);
-    let mut small = Grove::make(alloc, 2, 1)?;
-    call.check_on(rt, alloc, &mut small, call.small())?;
-    marks::prepares(rt);
-    let mut large = Grove::make(alloc, LARGE, LARGE)?;
-    call.check_on(rt, alloc, &mut large, call.large())?;
+    call.check_of(rt, alloc, (2, 1), call.small())?;
+    call.check_of(rt, alloc, (LARGE, LARGE), call.large())?;
     println!(rt; "{}: {}", call.name(), call.large().visits)?;
     Ok(())
 }
 
 /// Checks `register`, and the calls of a collector that take no memory.
 pub(crate) fn check_registration(rt: &(impl Print + Eprint), alloc: Global) -> Result<(), Fault> {
-    marks::prepares(rt);
-    let small = Grove::make(alloc, 2, 1)?;
-    Registration::check_on(rt, alloc, &small)?;
-    marks::prepares(rt);
-    let large = Grove::make(alloc, LARGE, LARGE)?;
-    Registration::check_on(rt, alloc, &large)?;
-    println!(rt; "GarbageCollector::register: {}", large.len())?;
+    check_registration_of(rt, alloc, 2, 1)?;
+    let length = check_registration_of(rt, alloc, LARGE, LARGE)?;
+    println!(rt; "GarbageCollector::register: {length}")?;
     Ok(())
+}
+
+// Checks them on a family of so many nodes and so many branches, and tells its length.
+fn check_registration_of(
+    rt: &impl Eprint,
+    alloc: Global,
+    nodes: usize,
+    branches: usize,
+) -> Result<usize, Fault> {
+    marks::prepares(rt);
+    let grove = Grove::make(alloc, nodes, branches)?;
+    Registration::check_on(rt, alloc, &grove)
 }
 
 /// A collector of a family, and what it has to answer.
@@ -164,19 +193,25 @@ struct Registration<'a> {
 }
 
 impl Registration<'_> {
-    // Registers the family twice. The mark calls after the first are forgotten at the second.
-    fn check_on(rt: &impl Eprint, alloc: Global, grove: &Grove) -> Result<(), Fault> {
+    // Checks the calls on a family, and tells its length.
+    fn check_on(rt: &impl Eprint, alloc: Global, grove: &Grove) -> Result<usize, Fault> {
         let mut registration = Registration {
             gc: GarbageCollector::new(alloc),
             grove,
             is_registered: false,
             is_marked: false,
         };
-        registration.mark_all(rt)?;
-        registration.register(rt)?;
-        registration.mark_all(rt)?;
-        registration.register(rt)?;
-        registration.mark_all(rt)
+        registration.check(rt)
+    }
+
+    // Registers the family twice. The mark calls after the first are forgotten at the second.
+    fn check(&mut self, rt: &impl Eprint) -> Result<usize, Fault> {
+        self.mark_all(rt)?;
+        self.register(rt)?;
+        self.mark_all(rt)?;
+        self.register(rt)?;
+        self.mark_all(rt)?;
+        Ok(self.grove.len())
     }
 
     // Registers the family. Where that is refused, all is as it was, and it is tried once more.

@@ -47,20 +47,26 @@ impl Large {
 /// Checks that want of births refuses a first value, and that this takes no memory.
 pub(crate) fn check_no_births(rt: &impl Eprint, alloc: Global) -> Result<(), Fault> {
     marks::takes_none(rt, "Interned::new, where no birth is given");
-    let mut storage = InternStorage::with_limits(alloc, 1, NO_BIRTHS);
-    refuse_first(&mut storage, Refusal::NumbersUsedUp)?;
+    refuse_without_births(&mut InternStorage::with_limits(alloc, 1, NO_BIRTHS))
+}
+
+fn refuse_without_births(storage: &mut Storage) -> Result<(), Fault> {
+    refuse_first(storage, Refusal::NumbersUsedUp)?;
     ensure(storage.is_empty(), "a value was stored without a birth")
 }
 
 /// Checks the calls on a storage that has one value, and no room.
 pub(crate) fn check_one_entry(rt: &(impl Print + Eprint), alloc: Global) -> Result<(), Fault> {
     marks::prepares(rt);
-    let mut storage = InternStorage::with_limits(alloc, 1, LIMITS);
-    store_first(&mut storage)?;
+    check_entry(rt, &mut InternStorage::with_limits(alloc, 1, LIMITS))
+}
+
+fn check_entry(rt: &(impl Print + Eprint), storage: &mut Storage) -> Result<(), Fault> {
+    store_first(storage)?;
     marks::takes_none(rt, "Interned::new, of a value that is stored");
-    find_first(&mut storage)?;
-    refuse_first(&mut storage, Refusal::CountFull)?;
-    store_second(rt, &mut storage)?;
+    find_first(storage)?;
+    refuse_first(storage, Refusal::CountFull)?;
+    store_second(rt, storage)?;
     println!(rt; "{CALL}: {}", storage.len())?;
     Ok(())
 }

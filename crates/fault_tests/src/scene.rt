@@ -32,16 +32,20 @@ pub(crate) fn check<S: Storage>(
         inputs: room(alloc, INPUTS)?,
         references: room(alloc, INPUTS)?,
     };
-    scene.fill(rt, alloc)?;
-    if !scene.storage.keeps() {
-        scene.free_all(rt)?;
-        scene.fill(rt, alloc)?;
-    }
-    println!(rt; "{}: {}", scene.storage.call(), scene.storage.lengths().0)?;
-    Ok(())
+    scene.check(rt, alloc)
 }
 
 impl<S: Storage> Scene<S> {
+    fn check(&mut self, rt: &(impl Print + Eprint), alloc: Global) -> Result<(), Fault> {
+        self.fill(rt, alloc)?;
+        if !self.storage.keeps() {
+            self.free_all(rt)?;
+            self.fill(rt, alloc)?;
+        }
+        println!(rt; "{}: {}", self.storage.call(), self.storage.lengths().0)?;
+        Ok(())
+    }
+
     fn fill(&mut self, rt: &impl Eprint, alloc: Global) -> Result<(), Fault> {
         for number in 0..INPUTS {
             self.add(rt, alloc, self.first.saturating_add(number as u64))?;
@@ -53,22 +57,31 @@ impl<S: Storage> Scene<S> {
         self.is_as_it_was()
     }
 
-    // Stores the input of a number. Where that is refused, all that was stored before is as it was,
-    // and the call is made once more.
+    // Stores the input of a number.
     fn add(&mut self, rt: &impl Eprint, alloc: Global, number: u64) -> Result<(), Fault> {
         marks::prepares(rt);
         let input = input_of(&self.storage, alloc, number)?;
-        let reference = match self.store(rt, alloc, &input) {
-            Err(Fault::NoMemory) => {
-                marks::refused(rt, self.storage.call());
-                self.is_as_it_was()?;
-                self.store(rt, alloc, &input)?
-            }
-            stored => stored?,
-        };
+        let reference = self.store_surely(rt, alloc, &input)?;
         self.inputs.push(input)?;
         self.references.push(reference)?;
         Ok(())
+    }
+
+    // Where the call is refused, all that was stored before is as it was, and it is made once more.
+    fn store_surely(
+        &mut self,
+        rt: &impl Eprint,
+        alloc: Global,
+        input: &S::Input,
+    ) -> Result<S::Reference, Fault> {
+        match self.store(rt, alloc, input) {
+            Err(Fault::NoMemory) => {
+                marks::refused(rt, self.storage.call());
+                self.is_as_it_was()?;
+                self.store(rt, alloc, input)
+            }
+            stored => stored,
+        }
     }
 
     fn store(

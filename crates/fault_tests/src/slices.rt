@@ -105,23 +105,42 @@ impl Storage for InternSliceStorage<Row> {
         offer: Text,
         input: &Input,
     ) -> Result<(), Fault> {
-        let items = input.items.as_slice();
-        let (again, back) = InternedSlice::from_header_and_slice(self, offer, items)?;
-        ensure(again == reference, "a stored slice has another birth")?;
-        ensure(
-            back.as_ref() == Some(&input.header),
-            "a stored header did not come back",
-        )?;
-        let owned = reference.to_owned(self)?;
-        let second = owned.clone(self)?;
-        ensure(owned == second, "two handles of a slice differ")?;
-        ensure(
-            input.is_read(owned.get(self)),
-            "a handle reads something else",
-        )?;
-        owned.release(self)?;
-        drop(second);
+        intern_again(self, reference, offer, input)?;
+        own_twice(self, reference, input)?;
         reference.decrement_refcount(self)?;
         Ok(())
     }
+}
+
+// Interns a slice that is stored: its header comes back.
+fn intern_again(
+    storage: &mut InternSliceStorage<Row>,
+    reference: InternedSliceRef<Row>,
+    offer: Text,
+    input: &Input,
+) -> Result<(), Fault> {
+    let items = input.items.as_slice();
+    let (again, back) = InternedSlice::from_header_and_slice(storage, offer, items)?;
+    ensure(again == reference, "a stored slice has another birth")?;
+    ensure(
+        back.as_ref() == Some(&input.header),
+        "a stored header did not come back",
+    )
+}
+
+// Makes two owned handles, and releases the first. The second is dropped, and keeps its count.
+fn own_twice(
+    storage: &mut InternSliceStorage<Row>,
+    reference: InternedSliceRef<Row>,
+    input: &Input,
+) -> Result<(), Fault> {
+    let owned = reference.to_owned(storage)?;
+    let second = owned.clone(storage)?;
+    ensure(owned == second, "two handles of a slice differ")?;
+    ensure(
+        input.is_read(owned.get(storage)),
+        "a handle reads something else",
+    )?;
+    owned.release(storage)?;
+    Ok(())
 }

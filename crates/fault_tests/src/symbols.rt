@@ -131,18 +131,8 @@ impl Storage for Symbols {
             again.as_ref() == reference,
             "a stored text has another symbol",
         )?;
-        ensure(
-            self.table.count(&again) == Some(2),
-            "a text has another count",
-        )?;
-        let third = reference.to_owned(&mut self.table)?;
-        let fourth = third.clone(&mut self.table)?;
-        ensure(
-            self.table.count(&fourth) == Some(4),
-            "a text has another count",
-        )?;
-        third.release(&mut self.table)?;
-        drop(fourth);
+        has_count(&self.table, &again, 2)?;
+        own_twice(&mut self.table, reference)?;
         again.decrease_refcount(&mut self.table)?;
         let number = sym::Integer::as_uint(&again, &self.table);
         ensure(
@@ -150,7 +140,28 @@ impl Storage for Symbols {
             "a text writes another number",
         )?;
         again.release(&mut self.table)?;
-        let preset = Symbol::intern(&mut self.table, "Clone")?;
-        ensure(preset == sym::Clone, "a preset has another symbol")
+        intern_preset(&mut self.table)
     }
+}
+
+fn has_count(table: &SymbolTable, symbol: &Symbol, count: u64) -> Result<(), Fault> {
+    ensure(
+        table.count(symbol) == Some(count),
+        "a text has another count",
+    )
+}
+
+// Makes two more symbols of a text that has two counts, and releases the first. The second is
+// dropped, and keeps its count.
+fn own_twice(table: &mut SymbolTable, reference: SymbolRef) -> Result<(), Fault> {
+    let third = reference.to_owned(table)?;
+    let fourth = third.clone(table)?;
+    has_count(table, &fourth, 4)?;
+    third.release(table)?;
+    Ok(())
+}
+
+fn intern_preset(table: &mut SymbolTable) -> Result<(), Fault> {
+    let preset = Symbol::intern(table, "Clone")?;
+    ensure(preset == sym::Clone, "a preset has another symbol")
 }

@@ -15,34 +15,23 @@ type Texts = InternStorage<GcString>;
 
 type Slices = InternSliceStorage<StringSlice>;
 
+/// A storage of texts, and one of slices.
+type Storages = Pair<Pair<NoStorages, Texts>, Slices>;
+
 /// The texts "abc", which is owned, and "def", and two numbers behind "abc", which are owned.
 #[derive(Drop)]
 struct Scene {
-    family: Pair<Pair<NoStorages, Texts>, Slices>,
+    family: Storages,
     abc: InternedRef<GcString>,
     def: InternedRef<GcString>,
     slice: InternedSliceRef<StringSlice>,
 }
 
-/// Checks the collection. Where it is refused, all is as it was, and it is made once more.
+/// Checks the collection.
 pub(crate) fn check_two_texts(rt: &(impl Print + Eprint), alloc: Global) -> Result<(), Fault> {
     marks::prepares(rt);
     let mut scene = make_scene(alloc)?;
-    marks::takes_none(rt, "reads");
-    scene.is_whole()?;
-    marks::asks(rt, CALL);
-    let collected = match scene.collect(alloc) {
-        Err(Fault::NoMemory) => {
-            marks::refused(rt, CALL);
-            scene.is_whole()?;
-            scene.collect(alloc)?
-        }
-        collected => collected?,
-    };
-    marks::takes_none(rt, "reads");
-    scene.is_cut(collected)?;
-    println!(rt; "{CALL}: {}", collected.visits)?;
-    Ok(())
+    scene.check(rt, alloc)
 }
 
 // At the second try where the first is refused.
@@ -54,21 +43,31 @@ fn make_scene(alloc: Global) -> Result<Scene, Fault> {
 }
 
 fn try_scene(alloc: Global) -> Result<Scene, Fault> {
-    let mut texts = InternStorage::new(alloc, 1);
-    let abc = store_text(alloc, &mut texts, "abc")?;
-    drop(abc.to_owned(&mut texts)?);
-    let def = store_text(alloc, &mut texts, "def")?;
-    let mut slices = InternSliceStorage::new(alloc, 2);
-    let slice = store_slice(alloc, &mut slices)?;
-    drop(slice.to_owned(&mut slices)?);
-    let family = GarbageCollector::add_storage(NoStorages, texts);
-    let family = GarbageCollector::add_slice_storage(family, slices);
+    let mut family = make_storages(alloc);
+    let (abc, def) = store_texts(alloc, &mut family.first.second)?;
+    let slice = store_slice(alloc, &mut family.second)?;
     Ok(Scene {
         family,
         abc,
         def,
         slice,
     })
+}
+
+fn make_storages(alloc: Global) -> Storages {
+    let texts = GarbageCollector::add_storage(NoStorages, InternStorage::new(alloc, 1));
+    GarbageCollector::add_slice_storage(texts, InternSliceStorage::new(alloc, 2))
+}
+
+// Interns the text that is owned, and the one that isn't.
+fn store_texts(
+    alloc: Global,
+    texts: &mut Texts,
+) -> Result<(InternedRef<GcString>, InternedRef<GcString>), Fault> {
+    let abc = store_text(alloc, texts, "abc")?;
+    drop(abc.to_owned(texts)?);
+    let def = store_text(alloc, texts, "def")?;
+    Ok((abc, def))
 }
 
 fn store_text(
@@ -80,20 +79,49 @@ fn store_text(
     Ok(reference)
 }
 
-// Interns the slice twice. It gives the second reference, which is equal to the first.
+// Interns the slice twice, and owns it. It gives the second reference, which is equal to the first.
 fn store_slice(alloc: Global, slices: &mut Slices) -> Result<InternedSliceRef<StringSlice>, Fault> {
-    let first = String::from_str(alloc, "abc")?;
-    let (first, _) = InternedSlice::from_header_and_slice(slices, first, &[123, 456])?;
-    let second = String::from_str(alloc, "abc")?;
-    let (second, back) = InternedSlice::from_header_and_slice(slices, second, &[123, 456])?;
-    ensure(
-        first == second && back.is_some(),
-        "a slice was stored twice",
-    )?;
+    let (first, _) = store_numbers(alloc, slices)?;
+    let (second, is_stored) = store_numbers(alloc, slices)?;
+    ensure(first == second && is_stored, "a slice was stored twice")?;
+    drop(second.to_owned(slices)?);
     Ok(second)
 }
 
+// Interns the two numbers behind the text, and tells whether they were stored before.
+fn store_numbers(
+    alloc: Global,
+    slices: &mut Slices,
+) -> Result<(InternedSliceRef<StringSlice>, bool), Fault> {
+    let text = String::from_str(alloc, "abc")?;
+    let (slice, back) = InternedSlice::from_header_and_slice(slices, text, &[123, 456])?;
+    Ok((slice, back.is_some()))
+}
+
 impl Scene {
+    fn check(&mut self, rt: &(impl Print + Eprint), alloc: Global) -> Result<(), Fault> {
+        marks::takes_none(rt, "reads");
+        self.is_whole()?;
+        let collected = self.collect_surely(rt, alloc)?;
+        marks::takes_none(rt, "reads");
+        self.is_cut(collected)?;
+        println!(rt; "{CALL}: {}", collected.visits)?;
+        Ok(())
+    }
+
+    // Where the call is refused, all is as it was, and it is made once more.
+    fn collect_surely(&mut self, rt: &impl Eprint, alloc: Global) -> Result<Collected, Fault> {
+        marks::asks(rt, CALL);
+        match self.collect(alloc) {
+            Err(Fault::NoMemory) => {
+                marks::refused(rt, CALL);
+                self.is_whole()?;
+                self.collect(alloc)
+            }
+            collected => collected,
+        }
+    }
+
     fn collect(&mut self, alloc: Global) -> Result<Collected, Fault> {
         if !GarbageCollector::distinct(&self.family) {
             return Err(Fault::Wrong("two storages of a family have one number"));

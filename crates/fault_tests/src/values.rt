@@ -206,30 +206,58 @@ impl<T: Value> Storage for InternStorage<T> {
     }
 
     fn pass(&mut self, reference: InternedRef<T>, offer: T, input: &T) -> Result<(), Fault> {
-        let (again, back) = T::intern(self, offer)?;
-        ensure(again == reference, "a stored value has another birth")?;
-        ensure(
-            back.as_ref() == Some(input),
-            "a stored value did not come back",
-        )?;
+        intern_again(self, reference, offer, input)?;
         if T::counts() > 0 {
             reference.decrement_refcount(self)?;
         }
-        let owned = reference.to_owned(self)?;
-        let second = owned.clone(self)?;
-        drop(owned);
-        let taken = Interned::from_raw(self, reference.as_raw())?;
-        ensure(taken == second, "two handles of a value differ")?;
-        ensure(
-            taken.get(self) == Some(input),
-            "a handle reads something else",
-        )?;
-        kept(taken.release(self)?)?;
-        kept(second.release(self)?)
+        let second = own_twice(self, reference)?;
+        let taken = take_over(self, &second, input)?;
+        release(self, taken)?;
+        release(self, second)
     }
 }
 
-// Fails where a release freed a value.
-fn kept<T: Drop>(value: Option<T>) -> Result<(), Fault> {
-    ensure(value.is_none(), "a value was freed that has owners")
+// Interns a value that is stored: it comes back.
+fn intern_again<T: Value>(
+    storage: &mut InternStorage<T>,
+    reference: InternedRef<T>,
+    offer: T,
+    input: &T,
+) -> Result<(), Fault> {
+    let (again, back) = T::intern(storage, offer)?;
+    ensure(again == reference, "a stored value has another birth")?;
+    ensure(
+        back.as_ref() == Some(input),
+        "a stored value did not come back",
+    )
+}
+
+// Makes two owned handles of a value, and gives the second. The first is dropped.
+fn own_twice<T: Value>(
+    storage: &mut InternStorage<T>,
+    reference: InternedRef<T>,
+) -> Result<Interned<T>, Fault> {
+    let owned = reference.to_owned(storage)?;
+    Ok(owned.clone(storage)?)
+}
+
+// Takes over the count of a handle that was dropped, where there is a second one.
+fn take_over<T: Value>(
+    storage: &InternStorage<T>,
+    second: &Interned<T>,
+    input: &T,
+) -> Result<Interned<T>, Fault> {
+    let taken = Interned::from_raw(storage, second.as_ref().as_raw())?;
+    ensure(taken == *second, "two handles of a value differ")?;
+    ensure(
+        taken.get(storage) == Some(input),
+        "a handle reads something else",
+    )?;
+    Ok(taken)
+}
+
+// Releases a handle of a value that stays.
+fn release<T: Value>(storage: &mut InternStorage<T>, handle: Interned<T>) -> Result<(), Fault> {
+    let freed = handle.release(storage)?;
+    ensure(freed.is_none(), "a value was freed that has owners")
 }

@@ -27,7 +27,9 @@ const ASKED: &str =
 
 type TestWorld = World<Text, Node, Branch>;
 
-type Calls = Vec<Call<Text, Node, Branch>>;
+type TestCall = Call<Text, Node, Branch>;
+
+type Calls = Vec<TestCall>;
 
 type TestReply = Reply<Text, Node, Node>;
 
@@ -70,21 +72,14 @@ pub(crate) fn check_keeping(rt: &(impl Print + Eprint), alloc: Global) -> Result
 fn run_rounds(rt: &impl Eprint, alloc: Global) -> Result<(), Fault> {
     marks::prepares(rt);
     let mut watched = Watched::new(alloc)?;
-    for number in 0..ROUNDS {
-        watched.run_round(rt, alloc, number)?;
-    }
-    marks::takes_none(rt, "reads of a world");
-    watched.is_as_it_was()
+    watched.run_rounds(rt, alloc)
 }
 
-// Tells the visits.
+// Stores some entries and collects. Tells the visits.
 fn keep_some(rt: &impl Eprint, alloc: Global) -> Result<usize, Fault> {
     marks::prepares(rt);
     let mut watched = Watched::new(alloc)?;
-    for number in 0..LISTED {
-        watched.store(rt, alloc, number)?;
-    }
-    watched.keep_listed(rt, alloc)
+    watched.keep_some(rt, alloc)
 }
 
 // The numbers of a world.
@@ -103,30 +98,43 @@ fn new_world(alloc: Global) -> TestWorld {
 // A world with two nodes, the second of which is owned and declares the first.
 fn make_world(alloc: Global) -> Result<TestWorld, Fault> {
     let mut world = new_world(alloc);
-    make_one(&mut world, alloc, Call::NewGc(Node::new(ROUNDS, None)))?;
-    let leaf = match world.slot(0) {
-        Some(Slot::ValueRef(leaf)) => *leaf,
-        _ => return Err(Fault::Wrong("a slot holds something else")),
-    };
-    make_one(
-        &mut world,
-        alloc,
-        Call::NewGc(Node::new(ROUNDS, Some(leaf))),
-    )?;
-    make_one(&mut world, alloc, Call::ToOwned(1))?;
+    make_founders(&mut world, alloc)?;
     Ok(world)
 }
 
+// At the second try where the first is refused.
+fn make_world_surely(alloc: Global) -> Result<TestWorld, Fault> {
+    match make_world(alloc) {
+        Err(Fault::NoMemory | Fault::RefusedTwice) => make_world(alloc),
+        made => made,
+    }
+}
+
+fn make_founders(world: &mut TestWorld, alloc: Global) -> Result<(), Fault> {
+    make_one(world, alloc, Call::NewGc(Node::new(ROUNDS, None)))?;
+    let leaf = match world.slot(0) {
+        Some(Slot::ValueRef(leaf)) => Some(*leaf),
+        _ => return Err(Fault::Wrong("a slot holds something else")),
+    };
+    make_one(world, alloc, Call::NewGc(Node::new(ROUNDS, leaf)))?;
+    make_one(world, alloc, Call::ToOwned(1))
+}
+
+// Makes the calls. Where the run is refused, they come back.
+fn run_all(world: &mut TestWorld, calls: Calls) -> Result<Replies, Calls> {
+    run(world, calls)
+}
+
 // Runs one call, which gives a handle.
-fn make_one(
-    world: &mut TestWorld,
-    alloc: Global,
-    call: Call<Text, Node, Branch>,
-) -> Result<(), Fault> {
+fn make_one(world: &mut TestWorld, alloc: Global, call: TestCall) -> Result<(), Fault> {
     let mut calls = Vec::with_capacity(alloc, 1)?;
     calls.push(call)?;
-    let replies = run(world, calls).map_err(|_| Fault::NoMemory)?;
-    match replies.get(0) {
+    let replies = run_all(world, calls).map_err(|_| Fault::NoMemory)?;
+    is_made(replies.get(0))
+}
+
+fn is_made(reply: Option<&TestReply>) -> Result<(), Fault> {
+    match reply {
         Some(Reply::Made(_, Back::Nothing)) => Ok(()),
         Some(Reply::Refused(Refusal::OutOfMemory, _)) => Err(Fault::NoMemory),
         _ => Err(Fault::Wrong("a call of a run has a wrong reply")),
@@ -139,17 +147,28 @@ fn slot_of(n: usize) -> usize {
 }
 
 impl Watched {
-    // At the second try where the first is refused.
     fn new(alloc: Global) -> Result<Watched, Fault> {
-        let world = match make_world(alloc) {
-            Err(Fault::NoMemory | Fault::RefusedTwice) => make_world(alloc)?,
-            made => made?,
-        };
         Ok(Watched {
-            world,
             inputs: room(alloc, ROUNDS)?,
             held: room(alloc, ALL.len() * ROUNDS)?,
+            world: make_world_surely(alloc)?,
         })
+    }
+
+    fn run_rounds(&mut self, rt: &impl Eprint, alloc: Global) -> Result<(), Fault> {
+        for number in 0..ROUNDS {
+            self.run_round(rt, alloc, number)?;
+        }
+        marks::takes_none(rt, "reads of a world");
+        self.is_as_it_was()
+    }
+
+    // Tells the visits.
+    fn keep_some(&mut self, rt: &impl Eprint, alloc: Global) -> Result<usize, Fault> {
+        for number in 0..LISTED {
+            self.store(rt, alloc, number)?;
+        }
+        self.keep_listed(rt, alloc)
     }
 
     // Makes all calls, the last of which collects what they stored, and collects what was stored
@@ -203,17 +222,25 @@ impl Watched {
         kinds: &[CallKind],
     ) -> Result<Option<CallKind>, Fault> {
         let calls = self.calls(alloc, kinds)?;
+        let replies = self.run(rt, calls, kinds)?;
+        self.take(&replies, kinds)
+    }
+
+    fn run(
+        &mut self,
+        rt: &impl Eprint,
+        calls: Calls,
+        kinds: &[CallKind],
+    ) -> Result<Replies, Fault> {
         marks::asks(rt, ASKED);
-        let replies = match run(&mut self.world, calls) {
-            Ok(replies) => replies,
+        match run_all(&mut self.world, calls) {
+            Ok(replies) => Ok(replies),
             Err(back) => {
                 marks::refused(rt, "run");
                 self.are_back(&back, kinds)?;
-                self.is_as_it_was()?;
-                run(&mut self.world, back).map_err(|_| Fault::NoMemory)?
+                run_all(&mut self.world, back).map_err(|_| Fault::NoMemory)
             }
-        };
-        self.take(&replies, kinds)
+        }
     }
 
     // At the second try where the first is refused.
@@ -225,19 +252,23 @@ impl Watched {
     }
 
     fn try_calls(&self, alloc: Global, kinds: &[CallKind]) -> Result<Calls, Fault> {
+        let input = self.input()?;
         let mut calls = Vec::with_capacity(alloc, kinds.len())?;
         for kind in kinds {
-            calls.push(self.input()?.call(alloc, *kind)?)?;
+            let call = input.call(alloc, *kind)?;
+            calls.push(call)?;
         }
         Ok(calls)
     }
 
+    // Fails unless the calls are back and all is as it was.
     fn are_back(&self, back: &Calls, kinds: &[CallKind]) -> Result<(), Fault> {
         ensure(back.len() == kinds.len(), "more or fewer calls came back")?;
+        let input = self.input()?;
         for (call, kind) in back.iter().zip(kinds.iter()) {
-            ensure(self.input()?.is_call(*kind, call), "another call came back")?;
+            ensure(input.is_call(*kind, call), "another call came back")?;
         }
-        Ok(())
+        self.is_as_it_was()
     }
 
     // Fails unless each call has its reply. Tells which one was refused.
@@ -296,35 +327,52 @@ impl Watched {
         Ok(())
     }
 
-    // Collects, and keeps what is in the slots of the lower half of the inputs. Where that is
-    // refused, all is as it was, and it is made once more. Tells the visits.
+    // Collects, and keeps what is in the slots of the lower half of the inputs. Tells the visits.
     fn keep_listed(&mut self, rt: &impl Eprint, alloc: Global) -> Result<usize, Fault> {
         let listed = LISTED / 2;
         marks::prepares(rt);
-        let mut slots = room(alloc, self.held.len())?;
-        for (held, n) in self.held.iter().zip(0..) {
-            if held.number < listed {
-                slots.push(slot_of(n))?;
-            }
-        }
-        marks::asks(rt, "World::collect_keeping");
-        let reply = match self.world.collect_keeping(&slots) {
-            Reply::Refused(Refusal::OutOfMemory, Back::Nothing) => {
-                marks::refused(rt, "World::collect_keeping");
-                self.is_as_it_was()?;
-                self.world.collect_keeping(&slots)
-            }
-            reply => reply,
-        };
-        let wanted = self.told(listed);
+        let slots = self.slots_below(alloc, listed)?;
+        let told = self.collect(rt, &slots)?;
         ensure(
-            matches!(&reply, Reply::Collected(told) if *told == wanted),
+            told == self.told(listed),
             "a collection that keeps slots tells something else",
         )?;
         self.sweep(listed);
         marks::takes_none(rt, "reads of a world");
         self.is_as_it_was()?;
-        Ok(wanted.visits)
+        Ok(told.visits)
+    }
+
+    // The slots of the inputs below a number.
+    fn slots_below(&self, alloc: Global, number: usize) -> Result<Vec<usize>, Fault> {
+        let mut slots = room(alloc, self.held.len())?;
+        for (held, n) in self.held.iter().zip(0..) {
+            if held.number < number {
+                slots.push(slot_of(n))?;
+            }
+        }
+        Ok(slots)
+    }
+
+    // Makes the call. Where it is refused, all is as it was, and it is made once more.
+    fn collect(&mut self, rt: &impl Eprint, slots: &[usize]) -> Result<Collected, Fault> {
+        marks::asks(rt, "World::collect_keeping");
+        match self.try_collect(slots) {
+            Err(Fault::NoMemory) => {
+                marks::refused(rt, "World::collect_keeping");
+                self.is_as_it_was()?;
+                self.try_collect(slots)
+            }
+            told => told,
+        }
+    }
+
+    fn try_collect(&mut self, slots: &[usize]) -> Result<Collected, Fault> {
+        match self.world.collect_keeping(slots) {
+            Reply::Collected(told) => Ok(told),
+            Reply::Refused(Refusal::OutOfMemory, Back::Nothing) => Err(Fault::NoMemory),
+            _ => Err(Fault::Wrong("a collection that keeps slots is refused")),
+        }
     }
 
     // What a collection tells that keeps what the inputs below a number stored.

@@ -1,60 +1,66 @@
 //! Each public call, where it succeeds.
 use crate::kinds::Numbers;
 use crate::steps::{
-    Numbered, clone, decrement, has_count, has_len, intern_again, intern_new, own, owner_reads,
-    reads, release,
+    Numbered, clone, decrement, has_count, has_len, intern_again, intern_new, is_equal, own,
+    owner_reads, reads, release,
 };
-use intern_fixtures::{a_map_tells_apart, a_set_tells_apart};
-use ra_ap_intern::{InternSliceStorage, Limits, Name, laws};
+use intern_fixtures::{
+    a_map_tells_apart, a_set_tells_apart, drop_slices, limited_slices, new_slices,
+};
+use ra_ap_intern::{Limits, Name, laws};
 use std::process::Abort;
 
 #[test]
 fn storages(rt: HostRuntime) {
     let alloc = rt.alloc();
-    let mut storage = InternSliceStorage::new(alloc, 7);
+    let mut storage = new_slices(alloc, 7);
     is_empty(&rt, &storage, 7);
     let _ = intern_new(&rt, alloc, &mut storage, ("x", &[1]), 0);
     has_len(&rt, &storage, 1);
 
     let limits = Limits { top: 1, numbers: 1 };
-    let mut limited = InternSliceStorage::with_limits(alloc, 8, limits);
+    let mut limited = limited_slices(alloc, 8, limits);
     is_empty(&rt, &limited, 8);
     let _ = intern_new(&rt, alloc, &mut limited, ("y", &[2]), 0);
     has_len(&rt, &limited, 1);
+    drop_slices(storage);
+    drop_slices(limited);
 }
 
 /// The storage has this number, and no entry.
 fn is_empty(rt: &impl Abort, storage: &Numbered, number: u64) {
-    assert_eq!(rt; (storage.number(), storage.len()), (number, 0));
+    is_equal(rt, (storage.number(), storage.len()), (number, 0));
 }
 
 #[test]
 fn references(rt: HostRuntime) {
     let alloc = rt.alloc();
-    let mut storage = InternSliceStorage::new(alloc, 7);
+    let mut storage = new_slices(alloc, 7);
     let x = intern_new(&rt, alloc, &mut storage, ("x", &[1, 2]), 0);
     let y = intern_new(&rt, alloc, &mut storage, ("y", &[]), 1);
     let copy = y;
     assert!(rt; copy == y);
     assert!(rt; x != y);
-    assert_eq!(rt;
+    is_equal(
+        &rt,
         y.name(),
         Name {
             storage: 7,
-            birth: 1
-        }
+            birth: 1,
+        },
     );
     reads(&rt, &storage, x, ("x", &[1, 2]));
     let owned = own(&rt, &mut storage, x, 1);
     drop(owned);
     has_count(&rt, &storage, x, 1);
     decrement(&rt, &mut storage, x, 0);
+    drop_slices(storage);
 }
 
 #[test]
 fn owned_handles(rt: HostRuntime) {
     let alloc = rt.alloc();
-    let mut storage = InternSliceStorage::new(alloc, 7);
+    let mut storage = new_slices(alloc, 7);
     let x = intern_new(&rt, alloc, &mut storage, ("x", &[1, 2]), 0);
     let owned = own(&rt, &mut storage, x, 1);
     let second = clone(&rt, &mut storage, &owned, 2);
@@ -62,28 +68,35 @@ fn owned_handles(rt: HostRuntime) {
     release(&rt, &mut storage, owned, 1);
     release(&rt, &mut storage, second, 0);
     has_len(&rt, &storage, 1);
+    drop_slices(storage);
 }
 
 #[test]
 fn a_set_of_references(rt: HostRuntime) {
     let alloc = rt.alloc();
-    let mut storage = InternSliceStorage::new(alloc, 1);
+    let mut storage = new_slices(alloc, 1);
     let x = intern_new(&rt, alloc, &mut storage, ("x", &[1]), 0);
     let y = intern_new(&rt, alloc, &mut storage, ("x", &[2]), 1);
     let again = intern_again(&rt, alloc, &mut storage, ("x", &[1]), 0);
-    assert_eq!(rt; a_set_tells_apart(alloc, x, again, &y), Ok(true));
+    is_equal(&rt, a_set_tells_apart(alloc, x, again, &y), Ok(true));
+    drop_slices(storage);
 }
 
 #[test]
 fn a_map_by_owned_handles(rt: HostRuntime) {
     let alloc = rt.alloc();
-    let mut storage = InternSliceStorage::new(alloc, 1);
+    let mut storage = new_slices(alloc, 1);
     let x = intern_new(&rt, alloc, &mut storage, ("x", &[1]), 0);
     let y = intern_new(&rt, alloc, &mut storage, ("x", &[2]), 1);
     let owned = own(&rt, &mut storage, x, 1);
     let second = clone(&rt, &mut storage, &owned, 2);
     let other = own(&rt, &mut storage, y, 1);
-    assert_eq!(rt; a_map_tells_apart(alloc, owned, &second, &other), Ok(true));
+    is_equal(
+        &rt,
+        a_map_tells_apart(alloc, owned, &second, &other),
+        Ok(true),
+    );
+    drop_slices(storage);
 }
 
 #[test]

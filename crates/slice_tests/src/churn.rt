@@ -4,7 +4,8 @@ use crate::steps::{
     Numbered, clone, has_count, has_len, intern_again, intern_in_vain, intern_new, not_released,
     own, owner_reads, push, reads, refused_in_each_way, release,
 };
-use ra_ap_intern::{InternSliceStorage, InternedSlice, InternedSliceRef, Limits, Refusal};
+use intern_fixtures::{drop_slices, limited_slices, new_slices};
+use ra_ap_intern::{InternedSlice, InternedSliceRef, Limits, Refusal};
 use std::alloc::Global;
 use std::ops::Range;
 use std::process::Abort;
@@ -15,7 +16,7 @@ type Ledger = Vec<(InternedSliceRef<Numbers>, u64)>;
 #[test]
 fn items_stay_while_counts_come_and_go(rt: HostRuntime) {
     let alloc = rt.alloc();
-    let mut storage = InternSliceStorage::new(alloc, 1);
+    let mut storage = new_slices(alloc, 1);
     let mut ledger = Vec::new(alloc);
     for numbers in [700..800, 300..400, 500..600] {
         intern_all(&rt, alloc, &mut storage, &mut ledger, numbers);
@@ -25,6 +26,7 @@ fn items_stay_while_counts_come_and_go(rt: HostRuntime) {
         are_read(&rt, &storage, &ledger, 0);
         are_found(&rt, alloc, &mut storage, &ledger);
     }
+    drop_slices(storage);
 }
 
 #[test]
@@ -34,7 +36,7 @@ fn counts_that_come_and_go_give_no_birth_back(rt: HostRuntime) {
         top: 1,
         numbers: 100,
     };
-    let mut storage = InternSliceStorage::with_limits(alloc, 1, limits);
+    let mut storage = limited_slices(alloc, 1, limits);
     let mut ledger = Vec::new(alloc);
     intern_all(&rt, alloc, &mut storage, &mut ledger, 300..400);
     for _ in 0..3 {
@@ -43,24 +45,26 @@ fn counts_that_come_and_go_give_no_birth_back(rt: HostRuntime) {
         intern_in_vain(&rt, alloc, &mut storage, ("a", &[0]));
         are_found(&rt, alloc, &mut storage, &ledger);
     }
+    drop_slices(storage);
 }
 
 #[test]
 fn handles_of_a_storage_given_up_stand_for_their_births(rt: HostRuntime) {
     let alloc = rt.alloc();
-    let mut first = InternSliceStorage::new(alloc, 1);
+    let mut first = new_slices(alloc, 1);
     let mut given_up = Vec::new(alloc);
     intern_all(&rt, alloc, &mut first, &mut given_up, 0..300);
     let handles = own_all(&rt, alloc, &mut first, &given_up);
     drop(first);
 
-    let mut second = InternSliceStorage::new(alloc, 1);
+    let mut second = new_slices(alloc, 1);
     let mut ledger = Vec::new(alloc);
     intern_all(&rt, alloc, &mut second, &mut ledger, 50..250);
     for handle in handles {
         goes_by_its_birth(&rt, &mut second, &ledger, handle);
     }
     are_read(&rt, &second, &ledger, 0);
+    drop_slices(second);
 }
 
 /// The items of a list of one number: between one and four of them.

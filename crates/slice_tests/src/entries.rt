@@ -1,14 +1,13 @@
 //! Look-ups that intern nothing, and the entries of a storage one after the other.
-use crate::steps::{Numbered, has_len, intern_new, reads};
-use intern_fixtures::make_word;
-use ra_ap_intern::InternSliceStorage;
+use crate::steps::{Numbered, has_len, intern_new, is_equal, reads};
+use intern_fixtures::{drop_slices, make_word, new_slices};
 use std::alloc::Global;
 use std::process::Abort;
 
 #[test]
 fn look_ups(rt: HostRuntime) {
     let alloc = rt.alloc();
-    let mut storage = InternSliceStorage::new(alloc, 1);
+    let mut storage = new_slices(alloc, 1);
     finds(&rt, alloc, &storage, ("x", &[1]), None);
     let _ = intern_new(&rt, alloc, &mut storage, ("x", &[1]), 0);
     let _ = intern_new(&rt, alloc, &mut storage, ("x", &[]), 1);
@@ -17,6 +16,7 @@ fn look_ups(rt: HostRuntime) {
     finds(&rt, alloc, &storage, ("x", &[2]), None);
     finds(&rt, alloc, &storage, ("y", &[1]), None);
     has_len(&rt, &storage, 2);
+    drop_slices(storage);
 }
 
 /// A look-up of a pair gives this birth, or none.
@@ -28,24 +28,26 @@ fn finds(
     birth: Option<u64>,
 ) {
     let header = make_word(alloc, text).expect(rt, "memory");
-    assert_eq!(rt;
+    is_equal(
+        rt,
         storage.get(&header, items).map(|found| found.name().birth),
-        birth
+        birth,
     );
 }
 
 #[test]
 fn entries(rt: HostRuntime) {
     let alloc = rt.alloc();
-    let mut storage = InternSliceStorage::new(alloc, 1);
+    let mut storage: Numbered = new_slices(alloc, 1);
     assert!(rt; storage.is_empty());
-    assert_eq!(rt; storage.iter().count(), 0);
+    is_equal(&rt, storage.iter().count(), 0);
     let _ = intern_new(&rt, alloc, &mut storage, ("x", &[1, 2]), 0);
     let _ = intern_new(&rt, alloc, &mut storage, ("y", &[]), 1);
     assert!(rt; !storage.is_empty());
-    assert_eq!(rt; storage.iter().count(), 2);
+    is_equal(&rt, storage.iter().count(), 2);
     gives(&rt, &storage, 0, ("x", &[1, 2]));
     gives(&rt, &storage, 1, ("y", &[]));
+    drop_slices(storage);
 }
 
 /// Among the entries is one of this birth, with this pair.
@@ -54,9 +56,9 @@ fn gives(rt: &impl Abort, storage: &Numbered, birth: u64, pair: (&str, &[u64])) 
     for (reference, slice) in storage.iter() {
         if reference.name().birth == birth {
             assert!(rt; !found);
-            assert_eq!(rt; slice.header.header.text(), pair.0);
-            assert_eq!(rt; slice.header.length, pair.1.len());
-            assert_eq!(rt; slice.slice, pair.1);
+            is_equal(rt, slice.header.header.text(), pair.0);
+            is_equal(rt, slice.header.length, pair.1.len());
+            is_equal(rt, slice.slice, pair.1);
             reads(rt, storage, reference, pair);
             found = true;
         }

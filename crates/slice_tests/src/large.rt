@@ -1,11 +1,11 @@
 //! Storages with many slices.
 use crate::steps::{intern_again, intern_new, reads};
-use ra_ap_intern::InternSliceStorage;
+use intern_fixtures::{drop_slices, new_slices};
 
 #[test]
 fn ten_thousand_slices_are_kept_apart(rt: HostRuntime) {
     let alloc = rt.alloc();
-    let mut storage = InternSliceStorage::new(alloc, 1);
+    let mut storage = new_slices(alloc, 1);
     for k in 0..10_000 {
         let _ = intern_new(&rt, alloc, &mut storage, ("a", &[k]), k);
     }
@@ -14,4 +14,5 @@ fn ten_thousand_slices_are_kept_apart(rt: HostRuntime) {
         let slice = intern_again(&rt, alloc, &mut storage, ("a", &[k]), k);
         reads(&rt, &storage, slice, ("a", &[k]));
     }
+    drop_slices(storage);
 }

@@ -1,7 +1,8 @@
 //! Owned handles of slices that must be released.
 use crate::kinds::Numbers;
 use crate::steps::{Numbered, has_count, intern_new, is_pair, is_reason, own};
-use ra_ap_intern::{InternSliceStorage, InternedSliceRef, Owed, OwedSlice, Refusal, Refused};
+use intern_fixtures::{drop_slices, new_slices};
+use ra_ap_intern::{InternedSliceRef, Owed, OwedSlice, Refusal, Refused};
 use std::process::Abort;
 
 /// Releases a handle, after which the entry has this count.
@@ -16,7 +17,7 @@ fn release(rt: &impl Abort, storage: &mut Numbered, owed: OwedSlice<Numbers>, co
 #[test]
 fn an_owed_slice_is_released(rt: HostRuntime) {
     let alloc = rt.alloc();
-    let mut storage = InternSliceStorage::new(alloc, 7);
+    let mut storage = new_slices(alloc, 7);
     let x = intern_new(&rt, alloc, &mut storage, ("x", &[1, 2]), 0);
     let owed = Owed::from(own(&rt, &mut storage, x, 1));
     let second = owed.clone(&mut storage).expect(&rt, "cloned");
@@ -24,13 +25,14 @@ fn an_owed_slice_is_released(rt: HostRuntime) {
     assert!(rt; InternedSliceRef::from(&second) == x && second == owed);
     release(&rt, &mut storage, owed, 1);
     release(&rt, &mut storage, second, 0);
+    drop_slices(storage);
 }
 
 #[test]
 fn a_refused_slice_comes_back(rt: HostRuntime) {
     let alloc = rt.alloc();
-    let mut storage = InternSliceStorage::new(alloc, 7);
-    let mut other = InternSliceStorage::new(alloc, 8);
+    let mut storage = new_slices(alloc, 7);
+    let mut other = new_slices(alloc, 8);
     let x = intern_new(&rt, alloc, &mut storage, ("x", &[]), 0);
     let owed = Owed::from(own(&rt, &mut storage, x, 1));
     match owed.release(&mut other) {
@@ -40,4 +42,6 @@ fn a_refused_slice_comes_back(rt: HostRuntime) {
             release(&rt, &mut storage, back, 0);
         }
     }
+    drop_slices(storage);
+    drop_slices(other);
 }

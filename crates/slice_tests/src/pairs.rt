@@ -1,9 +1,10 @@
 //! Pairs that are equal, and pairs that are not.
 use crate::kinds::{Marked, MarkedNumbers, UnhashedNumbers, Units};
 use crate::steps::{
-    has_count, has_len, intern, intern_again, intern_new, own, owner_reads, reads, word_of,
+    has_count, has_len, intern, intern_again, intern_new, is_equal, own, owner_reads, reads,
+    word_of,
 };
-use intern_fixtures::{Unhashed, Word};
+use intern_fixtures::{Unhashed, Word, drop_slices, new_slices};
 use ra_ap_intern::{InternSliceStorage, InternedSliceRef};
 use std::alloc::Global;
 use std::process::Abort;
@@ -11,7 +12,7 @@ use std::process::Abort;
 #[test]
 fn headers_and_items_tell_slices_apart(rt: HostRuntime) {
     let alloc = rt.alloc();
-    let mut storage = InternSliceStorage::new(alloc, 4);
+    let mut storage = new_slices(alloc, 4);
     let first = intern_new(&rt, alloc, &mut storage, ("abc", &[123, 456]), 0);
     let again = intern_again(&rt, alloc, &mut storage, ("abc", &[123, 456]), 0);
     let shorter = intern_new(&rt, alloc, &mut storage, ("abc", &[123]), 1);
@@ -25,12 +26,13 @@ fn headers_and_items_tell_slices_apart(rt: HostRuntime) {
     reads(&rt, &storage, shorter, ("abc", &[123]));
     reads(&rt, &storage, other, ("abd", &[123, 456]));
     reads(&rt, &storage, empty, ("", &[]));
+    drop_slices(storage);
 }
 
 #[test]
 fn equal_headers_with_different_items(rt: HostRuntime) {
     let alloc = rt.alloc();
-    let mut storage = InternSliceStorage::new(alloc, 1);
+    let mut storage = new_slices(alloc, 1);
     let lists = [
         (0, [1, 2].as_slice()),
         (1, [2, 1].as_slice()),
@@ -45,12 +47,13 @@ fn equal_headers_with_different_items(rt: HostRuntime) {
         let slice = intern_again(&rt, alloc, &mut storage, ("a", items), birth);
         reads(&rt, &storage, slice, ("a", items));
     }
+    drop_slices(storage);
 }
 
 #[test]
 fn equal_items_with_different_headers(rt: HostRuntime) {
     let alloc = rt.alloc();
-    let mut storage = InternSliceStorage::new(alloc, 1);
+    let mut storage = new_slices(alloc, 1);
     let texts = [(0, "a"), (1, "A"), (2, "ab"), (3, "")];
     for (birth, text) in texts {
         let _ = intern_new(&rt, alloc, &mut storage, (text, &[1, 2]), birth);
@@ -59,24 +62,26 @@ fn equal_items_with_different_headers(rt: HostRuntime) {
         let slice = intern_again(&rt, alloc, &mut storage, (text, &[1, 2]), birth);
         reads(&rt, &storage, slice, (text, &[1, 2]));
     }
+    drop_slices(storage);
 }
 
 #[test]
 fn an_empty_slice_is_an_ordinary_value(rt: HostRuntime) {
     let alloc = rt.alloc();
-    let mut storage = InternSliceStorage::new(alloc, 1);
+    let mut storage = new_slices(alloc, 1);
     let empty = intern_new(&rt, alloc, &mut storage, ("a", &[]), 0);
     let full = intern_new(&rt, alloc, &mut storage, ("a", &[0]), 1);
     assert!(rt; intern_again(&rt, alloc, &mut storage, ("a", &[]), 0) == empty);
     let owned = own(&rt, &mut storage, empty, 1);
     has_count(&rt, &storage, full, 0);
     owner_reads(&rt, &storage, &owned, ("a", &[]));
+    drop_slices(storage);
 }
 
 #[test]
 fn items_of_no_size_have_lengths(rt: HostRuntime) {
     let alloc = rt.alloc();
-    let mut storage = InternSliceStorage::new(alloc, 1);
+    let mut storage = new_slices(alloc, 1);
     let three = intern_units(&rt, alloc, &mut storage, &[(), (), ()], (0, None));
     let two = intern_units(&rt, alloc, &mut storage, &[(), ()], (1, None));
     let none = intern_units(&rt, alloc, &mut storage, &[], (2, None));
@@ -84,6 +89,7 @@ fn items_of_no_size_have_lengths(rt: HostRuntime) {
     has_length(&rt, &storage, two, 2);
     has_length(&rt, &storage, none, 0);
     let _ = intern_units(&rt, alloc, &mut storage, &[(), (), ()], (0, Some("a")));
+    drop_slices(storage);
 }
 
 /// Interns these items behind the word `a`: they get this birth, and this text comes back.
@@ -95,7 +101,7 @@ fn intern_units(
     (birth, text): (u64, Option<&str>),
 ) -> InternedSliceRef<Units> {
     let (slice, back) = intern(rt, storage, word_of(rt, alloc, "a"), items, birth);
-    assert_eq!(rt; back.as_ref().map(Word::text), text);
+    is_equal(rt, back.as_ref().map(Word::text), text);
     slice
 }
 
@@ -106,22 +112,24 @@ fn has_length(
     slice: InternedSliceRef<Units>,
     length: usize,
 ) {
-    assert_eq!(rt;
+    is_equal(
+        rt,
         slice.get(storage).map(|read| read.header.length),
-        Some(length)
+        Some(length),
     );
 }
 
 #[test]
 fn the_first_header_and_items_stay(rt: HostRuntime) {
-    let mut storage = InternSliceStorage::new(rt.alloc(), 1);
+    let mut storage = new_slices(rt.alloc(), 1);
     let first = Marked { number: 5, mark: 1 };
     let later = Marked { number: 5, mark: 2 };
     let slice = intern_marked(&rt, &mut storage, first, None);
     let again = intern_marked(&rt, &mut storage, later, Some(2));
     assert!(rt; again == slice);
-    assert_eq!(rt; storage.len(), 1);
+    is_equal(&rt, storage.len(), 1);
     has_mark(&rt, &storage, again, 1);
+    drop_slices(storage);
 }
 
 /// Interns a marked number with itself as the only item: they get birth 0, and a header with this
@@ -133,7 +141,7 @@ fn intern_marked(
     mark: Option<u64>,
 ) -> InternedSliceRef<MarkedNumbers> {
     let (slice, back) = intern(rt, storage, marked, &[marked], 0);
-    assert_eq!(rt; back.map(|header| header.mark), mark);
+    is_equal(rt, back.map(|header| header.mark), mark);
     slice
 }
 
@@ -145,13 +153,13 @@ fn has_mark(
     mark: u64,
 ) {
     let read = slice.get(storage).expect(rt, "stored");
-    assert_eq!(rt; read.header.header.mark, mark);
-    assert_eq!(rt; read.slice.first().map(|item| item.mark), Some(mark));
+    is_equal(rt, read.header.header.mark, mark);
+    is_equal(rt, read.slice.first().map(|item| item.mark), Some(mark));
 }
 
 #[test]
 fn slices_that_all_hash_alike_are_told_apart(rt: HostRuntime) {
-    let mut storage = InternSliceStorage::new(rt.alloc(), 1);
+    let mut storage = new_slices(rt.alloc(), 1);
     for k in 0..400 {
         let (header, item) = (Unhashed(k / 20), Unhashed(k % 20));
         let _ = intern_unhashed(&rt, &mut storage, header, item, (k, None));
@@ -161,7 +169,8 @@ fn slices_that_all_hash_alike_are_told_apart(rt: HostRuntime) {
         let slice = intern_unhashed(&rt, &mut storage, header, item, (k, Some(header)));
         reads_unhashed(&rt, &storage, slice, header, item);
     }
-    assert_eq!(rt; storage.len(), 400);
+    is_equal(&rt, storage.len(), 400);
+    drop_slices(storage);
 }
 
 /// Interns an item behind a header: they get this birth, and this header comes back.
@@ -173,7 +182,7 @@ fn intern_unhashed(
     (birth, known): (u64, Option<Unhashed>),
 ) -> InternedSliceRef<UnhashedNumbers> {
     let (slice, back) = intern(rt, storage, header, &[item], birth);
-    assert_eq!(rt; back, known);
+    is_equal(rt, back, known);
     slice
 }
 
@@ -186,6 +195,6 @@ fn reads_unhashed(
     item: Unhashed,
 ) {
     let read = slice.get(storage).expect(rt, "stored");
-    assert_eq!(rt; *read.header.header, header);
-    assert_eq!(rt; read.slice, [item].as_slice());
+    is_equal(rt, *read.header.header, header);
+    is_equal(rt, read.slice, [item].as_slice());
 }

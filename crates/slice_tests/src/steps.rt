@@ -8,7 +8,13 @@ use ra_ap_intern::{
     SliceInternable,
 };
 use std::alloc::Global;
+use std::fmt::Debug;
 use std::process::Abort;
+
+/// The values are equal.
+pub fn is_equal<V: Copy + PartialEq + Debug>(rt: &impl Abort, found: V, wanted: V) {
+    assert_eq!(rt; found, wanted);
+}
 
 /// A storage of numbers behind a word.
 pub type Numbered = InternSliceStorage<Numbers>;
@@ -31,7 +37,7 @@ fn is_refused<A: Drop>(rt: &impl Abort, answer: Result<A, Refusal>, reason: Refu
 
 /// This is the reason of a refusal.
 pub fn is_reason(rt: &impl Abort, why: Refusal, reason: Refusal) {
-    assert_eq!(rt; why, reason);
+    is_equal(rt, why, reason);
 }
 
 /// Interns items behind a header, which get this birth. It gives the header that comes back, if one
@@ -77,7 +83,7 @@ pub fn intern_again(
 ) -> InternedSliceRef<Numbers> {
     let len = storage.len();
     let (slice, back) = intern(rt, storage, word_of(rt, alloc, text), items, birth);
-    assert_eq!(rt; back.as_ref().map(Word::text), Some(text));
+    is_equal(rt, back.as_ref().map(Word::text), Some(text));
     has_len(rt, storage, len);
     slice
 }
@@ -95,7 +101,7 @@ pub fn intern_in_vain(
     let answer = InternedSlice::from_header_and_slice(storage, header, items);
     let Refused { why, back } = answer.err().expect(rt, "refused");
     is_reason(rt, why, Refusal::NumbersUsedUp);
-    assert_eq!(rt; back.text(), text);
+    is_equal(rt, back.text(), text);
     has_len(rt, storage, len);
 }
 
@@ -126,14 +132,14 @@ pub fn is_pair(
     (text, items): (&str, &[u64]),
 ) {
     let read = read.expect(rt, "stored");
-    assert_eq!(rt; read.header.header.text(), text);
-    assert_eq!(rt; read.header.length, items.len());
-    assert_eq!(rt; read.slice, items);
+    is_equal(rt, read.header.header.text(), text);
+    is_equal(rt, read.header.length, items.len());
+    is_equal(rt, read.slice, items);
 }
 
 /// The reference names this birth.
 pub fn has_birth<T>(rt: &impl Abort, slice: InternedSliceRef<T>, birth: u64) {
-    assert_eq!(rt; slice.name().birth, birth);
+    is_equal(rt, slice.name().birth, birth);
 }
 
 /// The entry has this count.
@@ -143,12 +149,12 @@ pub fn has_count(
     slice: InternedSliceRef<Numbers>,
     count: u64,
 ) {
-    assert_eq!(rt; storage.count(slice), Some(count));
+    is_equal(rt, storage.count(slice), Some(count));
 }
 
 /// The storage has this many entries.
 pub fn has_len(rt: &impl Abort, storage: &Numbered, len: usize) {
-    assert_eq!(rt; storage.len(), len);
+    is_equal(rt, storage.len(), len);
 }
 
 /// Makes an owned handle, after which the entry has this count.
@@ -263,5 +269,5 @@ fn reads_nothing(rt: &impl Abort, storage: &Numbered, owned: &InternedSlice<Numb
     let slice = owned.as_ref();
     assert!(rt; owned.get(storage).is_none());
     assert!(rt; slice.get(storage).is_none());
-    assert_eq!(rt; storage.count(slice), None);
+    is_equal(rt, storage.count(slice), None);
 }

@@ -1,31 +1,34 @@
 //! Counts of stored texts.
 use crate::steps::{
-    clone, decrease, free, intern_again, intern_new, intern_preset, is_preset, is_stored, keeps,
-    not_cloned, not_decreased, not_interned, not_released, reads_nothing, release,
+    clone, decrease, drop_table, free, intern_again, intern_new, intern_preset, is_preset,
+    is_stored, keeps, limited_table, new_table, not_cloned, not_decreased, not_interned,
+    not_released, reads_nothing, release,
 };
-use ra_ap_intern::{Limits, Refusal, SymbolTable, sym};
+use ra_ap_intern::{Limits, Refusal, sym};
 
 #[test]
 fn the_last_count_taken_back_frees_the_text(rt: HostRuntime) {
-    let mut table = SymbolTable::new(rt.alloc(), 1);
+    let mut table = new_table(rt.alloc(), 1);
     let mut x = intern_new(&rt, &mut table, "x", 1);
     free(&rt, &mut table, &mut x, 0);
     not_decreased(&rt, &mut table, &mut x, Refusal::Gone);
+    drop_table(table);
 }
 
 #[test]
 fn a_preset_has_no_count_to_take_back(rt: HostRuntime) {
-    let mut table = SymbolTable::new(rt.alloc(), 1);
+    let mut table = new_table(rt.alloc(), 1);
     let mut preset = sym::default;
     decrease(&rt, &mut table, &mut preset, None);
     decrease(&rt, &mut table, &mut preset, None);
     is_preset(&rt, &table, &preset, "default");
+    drop_table(table);
 }
 
 #[test]
 fn a_full_count_and_used_up_births_refuse(rt: HostRuntime) {
     let limits = Limits { top: 1, numbers: 2 };
-    let mut table = SymbolTable::with_limits(rt.alloc(), 1, limits);
+    let mut table = limited_table(rt.alloc(), 1, limits);
     let mut s = intern_new(&rt, &mut table, "x", 1);
     not_interned(&rt, &mut table, "x", Refusal::CountFull);
     not_cloned(&rt, &mut table, &s, Refusal::CountFull);
@@ -38,11 +41,12 @@ fn a_full_count_and_used_up_births_refuse(rt: HostRuntime) {
     let s = not_released(&rt, &mut table, s, Refusal::Gone);
     reads_nothing(&rt, &table, &s);
     is_stored(&rt, &table, &t, "x", 1);
+    drop_table(table);
 }
 
 #[test]
 fn a_freed_text_is_born_anew(rt: HostRuntime) {
-    let mut table = SymbolTable::new(rt.alloc(), 1);
+    let mut table = new_table(rt.alloc(), 1);
     let a = intern_new(&rt, &mut table, "v", 1);
     let b = clone(&rt, &mut table, &a, Some(2));
     let mut stale = clone(&rt, &mut table, &a, Some(3));
@@ -55,15 +59,17 @@ fn a_freed_text_is_born_anew(rt: HostRuntime) {
     let c = intern_new(&rt, &mut table, "v", 1);
     assert!(rt; stale != c);
     reads_nothing(&rt, &table, &stale);
+    drop_table(table);
 }
 
 #[test]
 fn a_symbol_let_fall_leaves_its_count(rt: HostRuntime) {
-    let mut table = SymbolTable::new(rt.alloc(), 1);
+    let mut table = new_table(rt.alloc(), 1);
     let fallen = intern_new(&rt, &mut table, "x", 1);
     drop(fallen);
     keeps(&rt, &table, 1);
     let mut x = intern_again(&rt, &mut table, "x", 2);
     decrease(&rt, &mut table, &mut x, Some(1));
     release(&rt, &mut table, x, 0);
+    drop_table(table);
 }

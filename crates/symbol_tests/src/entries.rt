@@ -1,11 +1,13 @@
 //! Look-ups that intern nothing, the texts of a table one after the other, and references.
-use crate::steps::{integer, intern_new, is_stored, keeps, release};
+use crate::steps::{
+    drop_table, integer, intern_new, is_equal, is_stored, keeps, new_table, release,
+};
 use ra_ap_intern::{Symbol, SymbolTable, sym};
 use std::process::Abort;
 
 #[test]
 fn look_ups(rt: HostRuntime) {
-    let mut table = SymbolTable::new(rt.alloc(), 1);
+    let mut table = new_table(rt.alloc(), 1);
     finds(&rt, &table, "x", None);
     let x = intern_new(&rt, &mut table, "x", 1);
     finds(&rt, &table, "x", Some(&x));
@@ -15,29 +17,32 @@ fn look_ups(rt: HostRuntime) {
     finds(&rt, &table, "256", None);
     release(&rt, &mut table, x, 0);
     finds(&rt, &table, "x", None);
+    drop_table(table);
 }
 
 /// A look-up of a text gives a reference to this symbol, or none.
 fn finds(rt: &impl Abort, table: &SymbolTable, text: &str, symbol: Option<&Symbol>) {
     let found = table.get(text);
     assert!(rt; found == symbol.map(Symbol::as_ref));
-    assert_eq!(rt;
+    is_equal(
+        rt,
         found.and_then(|found| found.as_str(table)),
-        symbol.map(|_| text)
+        symbol.map(|_| text),
     );
 }
 
 #[test]
 fn entries(rt: HostRuntime) {
-    let mut table = SymbolTable::new(rt.alloc(), 1);
+    let mut table = new_table(rt.alloc(), 1);
     assert!(rt; table.is_empty());
-    assert_eq!(rt; table.iter().count(), 0);
+    is_equal(&rt, table.iter().count(), 0);
     let x = intern_new(&rt, &mut table, "x", 1);
     let y = intern_new(&rt, &mut table, "y", 2);
     assert!(rt; !table.is_empty());
-    assert_eq!(rt; table.iter().count(), 2);
+    is_equal(&rt, table.iter().count(), 2);
     gives(&rt, &table, &x, "x");
     gives(&rt, &table, &y, "y");
+    drop_table(table);
 }
 
 /// Among the entries is one of this symbol, with this text.
@@ -56,12 +61,12 @@ fn gives(rt: &impl Abort, table: &SymbolTable, symbol: &Symbol, text: &str) {
 /// No other entry was found before this one, which keeps this text.
 fn is_first(rt: &impl Abort, found: bool, kept: &str, text: &str) {
     assert!(rt; !found);
-    assert_eq!(rt; kept, text);
+    is_equal(rt, kept, text);
 }
 
 #[test]
 fn references(rt: HostRuntime) {
-    let mut table = SymbolTable::new(rt.alloc(), 1);
+    let mut table = new_table(rt.alloc(), 1);
     let x = intern_new(&rt, &mut table, "x", 1);
     let reference = x.as_ref();
     let second = reference.to_owned(&mut table).expect(&rt, "counted");
@@ -73,4 +78,5 @@ fn references(rt: HostRuntime) {
         .expect(&rt, "a preset");
     assert!(rt; clone == sym::Clone);
     keeps(&rt, &table, 1);
+    drop_table(table);
 }

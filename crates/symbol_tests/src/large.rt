@@ -1,5 +1,5 @@
 //! Tables with many texts.
-use crate::steps::{intern_new, is_stored, keeps, release};
+use crate::steps::{drop_table, intern_new, is_stored, keeps, new_table, release};
 use ra_ap_intern::{Symbol, SymbolTable};
 use std::alloc::Global;
 use std::process::Abort;
@@ -7,7 +7,7 @@ use std::process::Abort;
 #[test]
 fn ten_thousand_texts_are_kept_apart(rt: HostRuntime) {
     let alloc = rt.alloc();
-    let mut table = SymbolTable::new(alloc, 1);
+    let mut table = new_table(alloc, 1);
     let mut symbols = Vec::new(alloc);
     for k in 0..10_000 {
         symbols
@@ -22,6 +22,7 @@ fn ten_thousand_texts_are_kept_apart(rt: HostRuntime) {
         release(&rt, &mut table, symbol, left);
     }
     keeps(&rt, &table, 0);
+    drop_table(table);
 }
 
 /// Interns the text of this number, after which the table keeps this many texts.

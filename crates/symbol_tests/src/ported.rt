@@ -1,5 +1,7 @@
 //! A test of the Rust crate, over a table.
-use crate::steps::{clone, intern_again, intern_new, intern_preset, keeps, release};
+use crate::steps::{
+    clone, drop_table, intern_again, intern_new, intern_preset, is_equal, keeps, new_table, release,
+};
 use ra_ap_intern::{Symbol, SymbolTable};
 use std::alloc::Global;
 use std::process::Abort;
@@ -7,7 +9,7 @@ use std::process::Abort;
 #[test]
 fn smoke_test(rt: HostRuntime) {
     let alloc = rt.alloc();
-    let mut table = SymbolTable::new(alloc, 1);
+    let mut table = new_table(alloc, 1);
     let _ = intern_preset(&rt, &mut table, "isize", 0);
     let hello = intern_new(&rt, &mut table, "hello", 1);
     let world = intern_new(&rt, &mut table, "world", 2);
@@ -22,6 +24,7 @@ fn smoke_test(rt: HostRuntime) {
     release(&rt, &mut table, hello, 2);
     release(&rt, &mut table, world, 1);
     release(&rt, &mut table, bang, 0);
+    drop_table(table);
 }
 
 fn two_marks_come_and_go(rt: &impl Abort, table: &mut SymbolTable) {
@@ -59,7 +62,7 @@ fn three_words_are_printed(
     let world = text(rt, table, world);
     let bang = text(rt, table, bang);
     let line = format!(in alloc; "{hello} {default} {world}{bang}").expect(rt, "memory");
-    assert_eq!(rt; line.as_str(), "hello default world!");
+    is_equal(rt, line.as_str(), "hello default world!");
 }
 
 fn two_words_are_printed(
@@ -72,7 +75,7 @@ fn two_words_are_printed(
     let world = text(rt, table, world);
     let bang = text(rt, table, bang);
     let line = format!(in alloc; "{hello} {world}{bang}").expect(rt, "memory");
-    assert_eq!(rt; line.as_str(), "hello world!");
+    is_equal(rt, line.as_str(), "hello world!");
 }
 
 /// The symbol's text.

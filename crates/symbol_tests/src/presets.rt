@@ -1,7 +1,7 @@
 //! Texts that are presets, and texts that are nearly presets.
 use crate::steps::{
-    clone, decrease, generated, gives, integer, intern_new, intern_preset, is_preset, keeps,
-    release, writes,
+    clone, decrease, drop_table, generated, gives, integer, intern_new, intern_preset, is_preset,
+    keeps, limited_table, new_table, release, writes,
 };
 use ra_ap_intern::{Limits, Symbol, SymbolTable, sym};
 use std::process::Abort;
@@ -19,7 +19,7 @@ static PRESETS: [(&str, Symbol); 8] = [
 
 #[test]
 fn texts_that_are_presets(rt: HostRuntime) {
-    let mut table = SymbolTable::new(rt.alloc(), 1);
+    let mut table = new_table(rt.alloc(), 1);
     assert!(rt; Symbol::empty() == sym::_empty_sym);
     for (text, preset) in &PRESETS {
         gives(&rt, &mut table, text, preset);
@@ -29,6 +29,7 @@ fn texts_that_are_presets(rt: HostRuntime) {
     let name = generated(&rt, &mut table, 255);
     gives(&rt, &mut table, "<ra@gennew>255", &name);
     keeps(&rt, &table, 0);
+    drop_table(table);
 }
 
 #[test]
@@ -39,7 +40,7 @@ fn presets_with_like_texts_differ(rt: HostRuntime) {
 
 #[test]
 fn texts_that_are_nearly_presets_are_stored(rt: HostRuntime) {
-    let mut table = SymbolTable::new(rt.alloc(), 1);
+    let mut table = new_table(rt.alloc(), 1);
     for (len, text) in [
         (1, "rust-preserve-none"),
         (2, "unsafe_"),
@@ -49,29 +50,32 @@ fn texts_that_are_nearly_presets_are_stored(rt: HostRuntime) {
     ] {
         let _ = intern_new(&rt, &mut table, text, len);
     }
+    drop_table(table);
 }
 
 #[test]
 fn stored_texts_of_numbers(rt: HostRuntime) {
-    let mut table = SymbolTable::new(rt.alloc(), 1);
+    let mut table = new_table(rt.alloc(), 1);
     let padded = intern_new(&rt, &mut table, "00", 1);
     assert!(rt; padded != integer(&rt, &mut table, 0));
     writes(&rt, &table, &padded, Some(0));
     let number = intern_new(&rt, &mut table, "256", 2);
     assert!(rt; number == integer(&rt, &mut table, 256));
     keeps(&rt, &table, 2);
+    drop_table(table);
 }
 
 #[test]
 fn presets_are_never_refused(rt: HostRuntime) {
     let limits = Limits { top: 1, numbers: 0 };
-    let mut table = SymbolTable::with_limits(rt.alloc(), 1, limits);
+    let mut table = limited_table(rt.alloc(), 1, limits);
     for text in ["", "default", "255", "<ra@gennew>255"] {
         stays(&rt, &mut table, text);
     }
     let _ = integer(&rt, &mut table, 255);
     let _ = generated(&rt, &mut table, 255);
     keeps(&rt, &table, 0);
+    drop_table(table);
 }
 
 /// Gives a preset up more often than it was had: it reads its text all the while.

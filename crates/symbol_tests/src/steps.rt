@@ -1,14 +1,38 @@
 //! Steps of many tests over a table of symbols, each with the answer that it must get.
 //!
 //! A step that gets another answer ends the test.
+ghost use Rattle.std.specs.Prelude.{◌<◌};
+
 use intern_fixtures::{allowed, refusal};
 use ra_ap_intern::sym::{Integer, RaGeneratedName};
-use ra_ap_intern::{Refusal, Refused, Symbol, SymbolRef, SymbolTable};
+use ra_ap_intern::{Limits, Refusal, Refused, Symbol, SymbolRef, SymbolTable};
+use std::alloc::Global;
+use std::fmt::Debug;
 use std::process::Abort;
+
+/// The values are equal.
+pub fn is_equal<V: Copy + PartialEq + Debug>(rt: &impl Abort, found: V, wanted: V) {
+    assert_eq!(rt; found, wanted);
+}
+
+/// A new table. A test that makes it itself is proved for longer, and so is one that drops it.
+pub fn new_table(alloc: Global, number: u64) -> SymbolTable {
+    SymbolTable::new(alloc, number)
+}
+
+/// A new table with these limits.
+pub fn limited_table(alloc: Global, number: u64, limits: Limits) -> SymbolTable
+    requires { 0 < limits.top }
+{
+    SymbolTable::with_limits(alloc, number, limits)
+}
+
+/// Drops a table.
+pub fn drop_table(_table: SymbolTable) {}
 
 /// The table keeps this many texts.
 pub fn keeps(rt: &impl Abort, table: &SymbolTable, len: usize) {
-    assert_eq!(rt; table.len(), len);
+    is_equal(rt, table.len(), len);
 }
 
 /// The call was refused for this reason.
@@ -18,7 +42,7 @@ fn is_refused<A: Drop>(rt: &impl Abort, answer: Result<A, Refusal>, reason: Refu
 
 /// This is the reason of a refusal.
 fn is_reason(rt: &impl Abort, why: Refusal, reason: Refusal) {
-    assert_eq!(rt; why, reason);
+    is_equal(rt, why, reason);
 }
 
 /// The symbol reads this text, of which the table has this count.
@@ -29,8 +53,11 @@ fn reads(
     text: Option<&str>,
     count: Option<u64>,
 ) {
-    assert_eq!(rt; symbol.as_str(table), text);
-    assert_eq!(rt; table.count(symbol), count, "{text:?}");
+    is_equal(
+        rt,
+        (symbol.as_str(table), table.count(symbol)),
+        (text, count),
+    );
 }
 
 /// The symbol reads this text, which the table keeps with this count.
@@ -51,7 +78,7 @@ pub fn reads_nothing(rt: &impl Abort, table: &SymbolTable, symbol: &Symbol) {
 /// The symbol's text writes this number, or none.
 pub fn writes(rt: &impl Abort, table: &SymbolTable, symbol: &Symbol, number: Option<usize>) {
     let text = symbol.as_str(table);
-    assert!(rt; Integer::as_uint(symbol, table) == number, "{text:?}");
+    is_equal(rt, (text, Integer::as_uint(symbol, table)), (text, number));
 }
 
 /// Interns a text.
@@ -129,7 +156,7 @@ pub fn clone(
 ) -> Symbol {
     let second = symbol.clone(table).expect(rt, "a second symbol is made");
     assert!(rt; second == *symbol);
-    assert_eq!(rt; table.count(symbol), count);
+    is_equal(rt, table.count(symbol), count);
     second
 }
 
@@ -145,7 +172,7 @@ pub fn not_owned(rt: &impl Abort, table: &mut SymbolTable, symbol: SymbolRef, re
 
 /// Releases a symbol, after which the table keeps this many texts.
 pub fn release(rt: &impl Abort, table: &mut SymbolTable, symbol: Symbol, len: usize) {
-    assert_eq!(rt; allowed(symbol.release(table)), Ok(()));
+    is_equal(rt, allowed(symbol.release(table)), Ok(()));
     keeps(rt, table, len);
 }
 
@@ -167,8 +194,8 @@ pub fn not_released(
 
 /// Takes one count back, after which the text has this count.
 pub fn decrease(rt: &impl Abort, table: &mut SymbolTable, symbol: &mut Symbol, count: Option<u64>) {
-    assert_eq!(rt; symbol.decrease_refcount(table), Ok(()));
-    assert_eq!(rt; table.count(symbol), count);
+    is_equal(rt, symbol.decrease_refcount(table), Ok(()));
+    is_equal(rt, table.count(symbol), count);
 }
 
 /// Takes the last count back, after which the text is gone and the table keeps this many.

@@ -1,5 +1,6 @@
 //! Each call of terms once, with its answer.
 use crate::rows::{HERE, OTHER, Row, Stage, Step, new_stage, play, play_small};
+use crate::texts::is_equal;
 use intern_fixtures::{a_map_tells_apart, a_set_tells_apart};
 use intern_terms::TermRef;
 use ra_ap_intern::Refusal;
@@ -252,7 +253,7 @@ fn references_are_put_in_order(rt: HostRuntime) {
     for place in [XY, X, Y, X] {
         put(&rt, &mut set, stage.term(&rt, place));
     }
-    assert_eq!(rt; set.len(), 3);
+    is_equal(&rt, set.len(), 3);
     assert!(rt; set.first() == Some(&stage.term(&rt, X)));
     assert!(rt; set.last() == Some(&stage.term(&rt, XY)));
 }
@@ -268,9 +269,9 @@ fn references_and_owners_are_shown_by_name(rt: HostRuntime) {
     let mut stage = made(&rt, rt.alloc());
     let x = stage.term(&rt, X);
     let shown = format!(in rt.alloc(); "{x:?}").expect(&rt, "memory");
-    assert_eq!(rt; shown.as_str(), "TermRef(#3.0)");
+    is_equal(&rt, shown.as_str(), "TermRef(#3.0)");
     stage.play(&rt, &[(HERE, Step::Keep(XY))]);
     let kept = stage.owner(&rt, 0);
     let shown = format!(in rt.alloc(); "{kept:?}").expect(&rt, "memory");
-    assert_eq!(rt; shown.as_str(), "Term(#3.2)");
+    is_equal(&rt, shown.as_str(), "Term(#3.2)");
 }

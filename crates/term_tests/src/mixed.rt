@@ -2,7 +2,7 @@
 ghost use Rattle.std.specs.Prelude.{◌<◌};
 
 use crate::sides::Side;
-use crate::texts::push;
+use crate::texts::{is_equal, push};
 use intern_terms::{Term, TermRef};
 use std::alloc::Global;
 use std::process::Abort;
@@ -214,7 +214,7 @@ impl Run {
     fn compare(&mut self, rt: &impl Abort, store: usize) {
         let term = self.draw(rt, store);
         let other = self.draw(rt, store);
-        assert_eq!(rt; term == other, term.name() == other.name());
+        is_equal(rt, term == other, term.name() == other.name());
         self.side(rt, store).compares(rt, term, other);
     }
 

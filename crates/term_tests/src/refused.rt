@@ -1,5 +1,6 @@
 //! Each refusal of each call. After it the store is as it was.
 use crate::rows::{HERE, OTHER, Row, SAME, Stage, Step, play, play_small, small_stage};
+use crate::texts::is_equal;
 use ra_ap_intern::Refusal;
 use std::alloc::Global;
 use std::process::Abort;
@@ -240,9 +241,9 @@ fn foreign_comes_before_zero(rt: HostRuntime) {
 
 #[test]
 fn refusals_have_numbers(rt: HostRuntime) {
-    assert_eq!(rt; Refusal::Foreign.number(), 1);
-    assert_eq!(rt; Refusal::Gone.number(), 2);
-    assert_eq!(rt; Refusal::CountZero.number(), 3);
-    assert_eq!(rt; Refusal::CountFull.number(), 4);
-    assert_eq!(rt; Refusal::NumbersUsedUp.number(), 5);
+    is_equal(&rt, Refusal::Foreign.number(), 1);
+    is_equal(&rt, Refusal::Gone.number(), 2);
+    is_equal(&rt, Refusal::CountZero.number(), 3);
+    is_equal(&rt, Refusal::CountFull.number(), 4);
+    is_equal(&rt, Refusal::NumbersUsedUp.number(), 5);
 }

@@ -1,6 +1,6 @@
 //! Calls on stores with their answers, as plain data, for tables.
 use crate::scene::{Scene, Told};
-use crate::texts::push;
+use crate::texts::{is_equal, push};
 use intern_terms::{Term, TermRef};
 use ra_ap_intern::{Name, Refusal};
 use std::alloc::Global;
@@ -174,7 +174,7 @@ impl Stage {
     }
 
     fn is_number(&mut self, rt: &impl Abort, store: usize, number: u64) {
-        assert_eq!(rt; self.scene(rt, store).store.number(), number);
+        is_equal(rt, self.scene(rt, store).store.number(), number);
     }
 
     fn makes(&mut self, rt: &impl Abort, store: usize, (head, places): Node, birth: u64) {
@@ -284,14 +284,14 @@ impl Stage {
     }
 
     fn is_named(&self, rt: &impl Abort, place: usize, storage: u64, birth: u64) {
-        assert_eq!(rt; self.term(rt, place).name(), Name { storage, birth });
+        is_equal(rt, self.term(rt, place).name(), Name { storage, birth });
     }
 
     fn compares(&self, rt: &impl Abort, place: usize, other: usize, order: Ordering) {
         let (term, other) = (self.term(rt, place), self.term(rt, other));
         assert!(rt; term.cmp(&other) == order);
-        assert_eq!(rt; term == other, order == Ordering::Equal);
-        assert_eq!(rt; term != other, order != Ordering::Equal);
-        assert_eq!(rt; term < other, order == Ordering::Less);
+        is_equal(rt, term == other, order == Ordering::Equal);
+        is_equal(rt, term != other, order != Ordering::Equal);
+        is_equal(rt, term < other, order == Ordering::Less);
     }
 }

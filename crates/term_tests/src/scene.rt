@@ -1,4 +1,5 @@
 //! A store of terms with the table of their heads, and calls with what they must answer.
+use crate::texts::is_equal;
 use intern_fixtures::told;
 use intern_terms::{Term, TermRef, TermStore};
 use ra_ap_intern::{Limits, Refusal, Symbol, SymbolTable};
@@ -19,6 +20,9 @@ pub struct Scene {
 pub fn head(rt: &impl Abort, table: &mut SymbolTable, text: &str) -> Symbol {
     Symbol::intern(table, text).expect(rt, "the head is interned")
 }
+
+/// Drops a scene. A test that does it itself is proved for longer.
+pub fn drop_scene(_scene: Scene) {}
 
 impl Scene {
     pub fn new(alloc: Global, number: u64) -> Scene {
@@ -57,14 +61,14 @@ impl Scene {
     /// A term that isn't stored, which gets this birth.
     pub fn make(&mut self, rt: &impl Abort, text: &str, args: &[TermRef], birth: u64) -> TermRef {
         let (term, is_stored) = self.term(rt, text, args).expect(rt, "the term is made");
-        assert_eq!(rt; (term.name().birth, is_stored), (birth, false));
+        is_equal(rt, (term.name().birth, is_stored), (birth, false));
         term
     }
 
     /// A term that is stored under this birth: the head comes back.
     pub fn find(&mut self, rt: &impl Abort, text: &str, args: &[TermRef], birth: u64) -> TermRef {
         let (term, is_stored) = self.term(rt, text, args).expect(rt, "the term is found");
-        assert_eq!(rt; (term.name().birth, is_stored), (birth, true));
+        is_equal(rt, (term.name().birth, is_stored), (birth, true));
         term
     }
 
@@ -72,8 +76,8 @@ impl Scene {
     pub fn refuses(&mut self, rt: &impl Abort, text: &str, args: &[TermRef], why: Refusal) {
         let before = self.store.len();
         let answer = self.term(rt, text, args).err();
-        assert_eq!(rt; answer, Some(why));
-        assert_eq!(rt; self.store.len(), before);
+        is_equal(rt, answer, Some(why));
+        is_equal(rt, self.store.len(), before);
     }
 
     /// What the store has of this head over these arguments.
@@ -84,7 +88,7 @@ impl Scene {
 
     /// The term has so many owners.
     pub fn has_count(&self, rt: &impl Abort, term: TermRef, count: u64) {
-        assert_eq!(rt; self.store.count(term), Some(count));
+        is_equal(rt, self.store.count(term), Some(count));
     }
 
     /// The term reads this head and these arguments.
@@ -106,11 +110,12 @@ impl Scene {
     /// The store has these terms, which are distinct, and lists each once.
     pub fn lists(&self, rt: &impl Abort, terms: &[TermRef]) {
         let number = terms.len();
-        assert_eq!(rt;
+        is_equal(
+            rt,
             (self.store.len(), self.store.iter().count()),
-            (number, number)
+            (number, number),
         );
-        assert_eq!(rt; self.store.is_empty(), terms.is_empty());
+        is_equal(rt, self.store.is_empty(), terms.is_empty());
         for term in terms {
             assert!(rt; self.is_listed(*term));
         }
@@ -138,7 +143,7 @@ impl Scene {
 
     /// The term is written so, with at most so many terms.
     pub fn writes(&self, rt: &impl Abort, term: TermRef, most: usize, text: &str) {
-        assert_eq!(rt; self.written(rt, term, most).as_str(), text);
+        is_equal(rt, self.written(rt, term, most).as_str(), text);
     }
 
     /// An owner of the term, unless it is due to be refused.
@@ -157,7 +162,7 @@ impl Scene {
     pub fn release(&mut self, rt: &impl Abort, owner: Term, due: Option<Refusal>) -> Option<Term> {
         let term = owner.as_ref();
         let refused = owner.release(&mut self.store).err();
-        assert_eq!(rt; refused.as_ref().map(|refused| refused.why), due);
+        is_equal(rt, refused.as_ref().map(|refused| refused.why), due);
         let back = refused?.back;
         assert!(rt; back.as_ref() == term);
         Some(back)
@@ -165,12 +170,12 @@ impl Scene {
 
     pub fn collects(&mut self, rt: &impl Abort, answer: Told) {
         let did = self.store.collect();
-        assert_eq!(rt; told(did), Some(answer));
+        is_equal(rt, told(did), Some(answer));
     }
 
     pub fn collects_keeping(&mut self, rt: &impl Abort, roots: &[TermRef], answer: Told) {
         let did = self.store.collect_keeping(roots);
-        assert_eq!(rt; told(did), Some(answer));
+        is_equal(rt, told(did), Some(answer));
     }
 }
 

@@ -2,6 +2,7 @@
 ghost use Rattle.std.specs.Prelude.{◌<◌};
 
 use crate::scene::Scene;
+use crate::texts::is_equal;
 use crate::trees::{Due, Trees, birth_of, text_of};
 use intern_terms::{Term, TermRef, TermStore};
 use ra_ap_intern::{Limits, SymbolTable};
@@ -43,7 +44,7 @@ impl Side {
 
     /// There are as many terms as the model has.
     fn has_len(&self, rt: &impl Abort) {
-        assert_eq!(rt; self.scene.store.len(), self.trees.len());
+        is_equal(rt, self.scene.store.len(), self.trees.len());
     }
 
     /// Makes the term with this head over these arguments: the answer is what the model owes.
@@ -76,7 +77,7 @@ impl Side {
     fn adds(&mut self, rt: &impl Abort, head: usize, args: &[TermRef]) {
         let birth = self.trees.births() as u64;
         let made = self.scene.make(rt, text_of(head), args, birth);
-        assert_eq!(rt; made.name().storage, self.scene.store.number());
+        is_equal(rt, made.name().storage, self.scene.store.number());
         self.trees.add(rt, made, head, args);
     }
 
@@ -147,7 +148,11 @@ impl Side {
         self.has_len(rt);
         for birth in 0..self.trees.births() {
             let term = self.trees.term_at(rt, birth);
-            assert_eq!(rt; self.scene.store.contains(term), self.trees.is_there(term));
+            is_equal(
+                rt,
+                self.scene.store.contains(term),
+                self.trees.is_there(term),
+            );
         }
     }
 
@@ -176,7 +181,7 @@ impl Side {
     /// Two terms of the store are equal exactly if their trees are.
     pub fn compares(&self, rt: &impl Abort, term: TermRef, other: TermRef) {
         if let Some(are_equal) = self.trees.are_equal(term, other) {
-            assert_eq!(rt; term == other, are_equal);
+            is_equal(rt, term == other, are_equal);
         }
     }
 

@@ -1,6 +1,7 @@
 //! How a plain tree is written, in full and cut off.
 use intern_terms::TermRef;
 use std::alloc::Global;
+use std::fmt::Debug;
 use std::process::Abort;
 
 /// A tree as a text, with the places at which its heads begin.
@@ -8,6 +9,11 @@ use std::process::Abort;
 pub struct Text {
     whole: String,
     starts: Vec<usize>,
+}
+
+/// The values are equal.
+pub fn is_equal<V: Copy + PartialEq + Debug>(rt: &impl Abort, found: V, wanted: V) {
+    assert_eq!(rt; found, wanted);
 }
 
 /// Adds a value at the end of a list.

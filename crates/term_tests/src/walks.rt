@@ -1,6 +1,7 @@
 //! Walks: each term of some trees once, after its arguments.
 use crate::rows::{HERE, OTHER, Row, Step, play};
-use crate::scene::{Scene, make_doubled, make_path};
+use crate::scene::{Scene, drop_scene, make_doubled, make_path};
+use crate::texts::is_equal;
 use intern_terms::{TermRef, TermStore};
 use std::process::Abort;
 
@@ -73,10 +74,11 @@ fn a_term_of_many_paths_is_walked_at_once(rt: HostRuntime) {
     let mut scene = Scene::new(rt.alloc(), 3);
     let term = make_doubled(&rt, &mut scene);
     let walk = scene.walk(&rt, &[term]);
-    assert_eq!(rt; walk.len(), 65);
+    is_equal(&rt, walk.len(), 65);
     for (place, term) in walk.iter().enumerate() {
-        assert_eq!(rt; term.name().birth, place as u64);
+        is_equal(&rt, term.name().birth, place as u64);
     }
+    drop_scene(scene);
 }
 
 #[test]
@@ -84,8 +86,9 @@ fn a_long_path_is_walked(rt: HostRuntime) {
     let mut scene = Scene::new(rt.alloc(), 3);
     let term = make_path(&rt, &mut scene, 10_000);
     let walk = scene.walk(&rt, &[term]);
-    assert_eq!(rt; walk.len(), 10_000);
+    is_equal(&rt, walk.len(), 10_000);
     is_in_order(&rt, &scene.store, &walk);
+    drop_scene(scene);
 }
 
 /// Each term comes after its arguments: here each has at most one, right before it.

@@ -1,6 +1,7 @@
 //! Worked examples, with their expected answers.
 use crate::rows::{HERE, OTHER, Row, Step, new_stage, play};
-use crate::scene::{Scene, make_doubled};
+use crate::scene::{Scene, drop_scene, make_doubled};
+use crate::texts::is_equal;
 use ra_ap_intern::Refusal;
 use std::cmp::Ordering;
 
@@ -73,9 +74,10 @@ fn shared_arguments_are_visited_once(rt: HostRuntime) {
         again = scene.find(&rt, "f", &[again, again], birth);
     }
     assert!(rt; again == term);
-    assert_eq!(rt; scene.store.len(), 65);
+    is_equal(&rt, scene.store.len(), 65);
     let _kept = scene.keep(&rt, term, None);
     scene.collects(&rt, (65, 128, 0));
+    drop_scene(scene);
 }
 
 const KEPT_FOR_ONE_COLLECTION: [Row; 3] = [

@@ -1,6 +1,7 @@
 //! Terms as texts, in full and cut off.
 use crate::rows::{HERE, Row, Step, new_stage, play};
-use crate::scene::{Scene, head, make_doubled, make_path};
+use crate::scene::{Scene, drop_scene, head, make_doubled, make_path};
+use crate::texts::is_equal;
 use ra_ap_intern::SymbolTable;
 use std::alloc::{AllocError, Global};
 use std::process::Abort;
@@ -70,10 +71,10 @@ fn presets_are_heads_of_no_table(rt: HostRuntime) {
 fn forget(rt: &impl Abort, table: &mut SymbolTable, text: &str, counts: usize) {
     let mut symbol = head(rt, table, text);
     for _ in 0..counts {
-        assert_eq!(rt; symbol.decrease_refcount(table), Ok(()));
+        is_equal(rt, symbol.decrease_refcount(table), Ok(()));
     }
     let released = symbol.release(table).map_err(|refused| refused.why);
-    assert_eq!(rt; released, Ok(()));
+    is_equal(rt, released, Ok(()));
     assert!(rt; table.get(text).is_none());
 }
 
@@ -102,6 +103,7 @@ fn a_term_that_is_gone_is_shown_by_its_name(rt: HostRuntime) {
     scene.writes(&rt, term, 9, "#3.7");
     scene.writes(&rt, term, 1, "#3.7");
     scene.writes(&rt, term, 0, "…");
+    drop_scene(scene);
 }
 
 #[test]
@@ -111,6 +113,8 @@ fn a_term_of_another_store_is_shown_by_its_name(rt: HostRuntime) {
     let term = make_path(&rt, &mut scene, 8);
     let _ = make_path(&rt, &mut other, 8);
     other.writes(&rt, term, 9, "#3.7");
+    drop_scene(scene);
+    drop_scene(other);
 }
 
 #[test]
@@ -121,6 +125,7 @@ fn a_term_of_many_paths_is_cut_off(rt: HostRuntime) {
     scene.writes(&rt, term, 66, text.as_str());
     let written = scene.written(&rt, term, 10_000);
     assert!(rt; written.as_str().ends_with("…"));
+    drop_scene(scene);
 }
 
 /// The first 66 heads of that term.

@@ -1,37 +1,41 @@
 //! Each public call, where it succeeds.
 use crate::steps::{
-    count_down, has_count, has_len, has_name, is_empty, own, release, stored, take_over,
+    count_down, has_count, has_len, has_name, is_empty, is_equal, own, release, stored, take_over,
 };
 use crate::{strings, words};
-use intern_fixtures::{GcString, Word, a_map_tells_apart, a_set_tells_apart};
-use ra_ap_intern::{InternStorage, Interned, Limits, Refusal, laws};
+use intern_fixtures::{
+    GcString, Word, a_map_tells_apart, a_set_tells_apart, drop_values, limited_values, new_values,
+};
+use ra_ap_intern::{Interned, Limits, Refusal, laws};
 use std::alloc::Global;
 use std::process::Abort;
 
 #[test]
 fn storages(rt: HostRuntime) {
     let alloc = rt.alloc();
-    let mut storage = InternStorage::new(alloc, 7);
+    let mut storage = new_values(alloc, 7);
     is_empty(&rt, &storage, 7);
     let x = words::intern_new(&rt, alloc, &mut storage, "x", 0);
     has_len(&rt, &storage, 1);
     has_count(&rt, &storage, x.as_ref(), 1);
+    drop_values(storage);
 }
 
 #[test]
 fn limited_storages(rt: HostRuntime) {
     let alloc = rt.alloc();
-    let mut limited = InternStorage::with_limits(alloc, 8, Limits { top: 1, numbers: 1 });
+    let mut limited = limited_values(alloc, 8, Limits { top: 1, numbers: 1 });
     is_empty(&rt, &limited, 8);
     let y = strings::intern_new(&rt, alloc, &mut limited, "y", 0);
     has_len(&rt, &limited, 1);
     has_count(&rt, &limited, y, 0);
+    drop_values(limited);
 }
 
 #[test]
 fn owned_handles(rt: HostRuntime) {
     let alloc = rt.alloc();
-    let mut storage = InternStorage::new(alloc, 1);
+    let mut storage = new_values(alloc, 1);
     let x = words::intern_new(&rt, alloc, &mut storage, "x", 0);
     words::reads(&rt, &storage, &x, "x");
     has_name(&rt, x.as_ref(), (1, 0));
@@ -42,22 +46,24 @@ fn owned_handles(rt: HostRuntime) {
     release(&rt, &mut storage, taken, 1);
     words::frees(&rt, &mut storage, x, "x");
     has_len(&rt, &storage, 0);
+    drop_values(storage);
 }
 
 #[test]
 fn references(rt: HostRuntime) {
     let alloc = rt.alloc();
-    let mut storage = InternStorage::new(alloc, 1);
+    let mut storage = new_values(alloc, 1);
     let _ = strings::intern_new(&rt, alloc, &mut storage, "x", 0);
     let y = strings::intern_new(&rt, alloc, &mut storage, "y", 1);
     let copy = y;
     assert!(rt; copy == y);
     has_name(&rt, y, (1, 1));
-    assert_eq!(rt; y.get(&storage).map(GcString::text), Some("y"));
+    is_equal(&rt, y.get(&storage).map(GcString::text), Some("y"));
     assert!(rt; stored(&rt, &storage, 1) == y);
     let owned = own(&rt, &mut storage, y, 1);
     drop(owned);
     count_down(&rt, &mut storage, y, 0);
+    drop_values(storage);
 }
 
 #[test]
@@ -65,14 +71,14 @@ fn a_set_of_references(rt: HostRuntime) {
     let alloc = rt.alloc();
     let (x, again, y) = x_twice_and_y(&rt, alloc);
     let told = a_set_tells_apart(alloc, x.as_ref(), again.as_ref(), &y.as_ref());
-    assert_eq!(rt; told, Ok(true));
+    is_equal(&rt, told, Ok(true));
 }
 
 #[test]
 fn a_map_by_owned_handles(rt: HostRuntime) {
     let alloc = rt.alloc();
     let (x, again, y) = x_twice_and_y(&rt, alloc);
-    assert_eq!(rt; a_map_tells_apart(alloc, x, &again, &y), Ok(true));
+    is_equal(&rt, a_map_tells_apart(alloc, x, &again, &y), Ok(true));
 }
 
 /// Two handles of one word, and a handle of another.
@@ -80,7 +86,7 @@ fn x_twice_and_y(
     rt: &impl Abort,
     alloc: Global,
 ) -> (Interned<Word>, Interned<Word>, Interned<Word>) {
-    let mut storage = InternStorage::new(alloc, 1);
+    let mut storage = new_values(alloc, 1);
     let x = words::intern_new(rt, alloc, &mut storage, "x", 0);
     let y = words::intern_new(rt, alloc, &mut storage, "y", 1);
     let again = words::intern_again(rt, alloc, &mut storage, "x", (0, 2));
@@ -122,7 +128,7 @@ fn refusals(rt: HostRuntime) {
             "out of memory; the storage is as it was",
         ),
     ] {
-        assert_eq!(rt; why.number(), number);
+        is_equal(&rt, why.number(), number);
         is_printed(&rt, alloc, why, text);
     }
 }
@@ -130,7 +136,7 @@ fn refusals(rt: HostRuntime) {
 /// The refusal is printed as this text.
 fn is_printed(rt: &impl Abort, alloc: Global, why: Refusal, text: &str) {
     let printed: Result<_, _> = format!(in alloc; "{why}");
-    assert_eq!(rt; printed.expect(rt, "memory").as_str(), text);
+    is_equal(rt, printed.expect(rt, "memory").as_str(), text);
 }
 
 #[test]

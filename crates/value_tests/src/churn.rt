@@ -7,7 +7,7 @@ use crate::steps::{
     count_down, has_count, has_len, not_counted_down, not_found, not_owned, not_released, own,
     push, reads_nothing, release, stored, take_over,
 };
-use intern_fixtures::Unhashed;
+use intern_fixtures::{Unhashed, drop_values, limited_values, new_values};
 use ra_ap_intern::{InternStorage, Interned, InternedRef, Limits, Refusal};
 use std::alloc::Global;
 use std::process::Abort;
@@ -36,14 +36,14 @@ fn numbers_that_all_hash_alike_come_and_go(rt: HostRuntime) {
 #[test]
 fn handles_of_a_storage_given_up_stand_for_their_births(rt: HostRuntime) {
     let alloc = rt.alloc();
-    let mut first: InternStorage<Number> = InternStorage::new(alloc, 1);
+    let mut first: InternStorage<Number> = new_values(alloc, 1);
     let mut given_up = Vec::new(alloc);
     come_and_go(&rt, alloc, &mut first, &mut given_up, 3);
     come_and_go(&rt, alloc, &mut first, &mut given_up, 2);
     let handles = own_all(&rt, alloc, &mut first, &given_up);
     drop(first);
 
-    let mut second: InternStorage<Number> = InternStorage::new(alloc, 1);
+    let mut second: InternStorage<Number> = new_values(alloc, 1);
     let mut ledger = Vec::new(alloc);
     come_and_go(&rt, alloc, &mut second, &mut ledger, 2);
     let _ = remove_each(&rt, alloc, &mut second, &mut ledger, 7);
@@ -53,6 +53,7 @@ fn handles_of_a_storage_given_up_stand_for_their_births(rt: HostRuntime) {
         release_by_birth(&rt, &mut second, &mut seen, handle);
     }
     is_as_told(&rt, &mut second, &seen);
+    drop_values(second);
 }
 
 #[test]
@@ -62,7 +63,7 @@ fn removals_give_no_birth_back(rt: HostRuntime) {
         top: 4,
         numbers: 300,
     };
-    let mut storage: InternStorage<Number> = InternStorage::with_limits(alloc, 1, limits);
+    let mut storage: InternStorage<Number> = limited_values(alloc, 1, limits);
     let mut ledger = Vec::new(alloc);
     come_and_go(&rt, alloc, &mut storage, &mut ledger, 2);
     not_interned(&rt, &mut storage, 300);
@@ -71,6 +72,7 @@ fn removals_give_no_birth_back(rt: HostRuntime) {
         not_interned(&rt, &mut storage, number);
     }
     is_as_told(&rt, &mut storage, &ledger);
+    drop_values(storage);
 }
 
 /// The count that these tests give to a birth. It differs from that of the births around it.
@@ -84,7 +86,7 @@ fn count_of(birth: u64) -> u64
 fn some_rounds<T: Numeral>(rt: &impl Abort, alloc: Global)
     requires { T.Internable.USE_GC ≡ false }
 {
-    let mut storage: InternStorage<T> = InternStorage::new(alloc, 1);
+    let mut storage: InternStorage<T> = new_values(alloc, 1);
     let mut ledger = Vec::new(alloc);
     for step in [2, 3, 2, 5, 1] {
         come_and_go(rt, alloc, &mut storage, &mut ledger, step);

@@ -1,10 +1,11 @@
 //! Storages in collected mode.
 use crate::kinds::Node;
 use crate::steps::{
-    count_down, has_count, has_len, intern_new_gc, not_counted_down, not_found, not_lowered,
-    not_raised, not_taken_over, own, push, refused_in_each_way, release,
+    count_down, has_count, has_len, intern_new_gc, is_equal, not_counted_down, not_found,
+    not_lowered, not_raised, not_taken_over, own, push, refused_in_each_way, release,
 };
 use crate::strings::{Strings, collect_the_only_one, intern_again, intern_new, not_interned};
+use intern_fixtures::{drop_values, limited_values, new_values};
 use ra_ap_intern::{InternStorage, InternedRef, Limits, Refusal};
 use std::alloc::Global;
 use std::process::Abort;
@@ -12,7 +13,7 @@ use std::process::Abort;
 #[test]
 fn an_entry_stays_when_nothing_counts_it(rt: HostRuntime) {
     let alloc = rt.alloc();
-    let mut storage = InternStorage::new(alloc, 1);
+    let mut storage = new_values(alloc, 1);
     let a = intern_new(&rt, alloc, &mut storage, "a", 0);
     let owned = own(&rt, &mut storage, a, 1);
     release(&rt, &mut storage, owned, 0);
@@ -22,12 +23,13 @@ fn an_entry_stays_when_nothing_counts_it(rt: HostRuntime) {
     assert!(rt; again == a);
     not_counted_down(&rt, &mut storage, a, Refusal::CountZero);
     not_taken_over(&rt, &storage, 0, Refusal::CountZero);
+    drop_values(storage);
 }
 
 #[test]
 fn a_stored_value_is_found_at_every_limit(rt: HostRuntime) {
     let alloc = rt.alloc();
-    let mut storage = InternStorage::with_limits(alloc, 1, Limits { top: 1, numbers: 1 });
+    let mut storage = limited_values(alloc, 1, Limits { top: 1, numbers: 1 });
     let a = intern_new(&rt, alloc, &mut storage, "a", 0);
     let owned = own(&rt, &mut storage, a, 1);
     not_raised(&rt, &mut storage, &owned, 1);
@@ -35,45 +37,49 @@ fn a_stored_value_is_found_at_every_limit(rt: HostRuntime) {
     assert!(rt; again == a);
     not_interned(&rt, alloc, &mut storage, "b");
     has_count(&rt, &storage, a, 1);
+    drop_values(storage);
 }
 
 #[test]
 fn a_storage_of_no_births_takes_nothing(rt: HostRuntime) {
     let alloc = rt.alloc();
-    let mut storage: Strings = InternStorage::with_limits(alloc, 1, Limits { top: 1, numbers: 0 });
+    let mut storage: Strings = limited_values(alloc, 1, Limits { top: 1, numbers: 0 });
     not_interned(&rt, alloc, &mut storage, "a");
     not_interned(&rt, alloc, &mut storage, "");
     has_len(&rt, &storage, 0);
     not_found(&rt, &storage, 0);
+    drop_values(storage);
 }
 
 #[test]
 fn a_count_of_zero_is_not_lowered(rt: HostRuntime) {
     let alloc = rt.alloc();
-    let mut storage = InternStorage::new(alloc, 1);
+    let mut storage = new_values(alloc, 1);
     let a = intern_new(&rt, alloc, &mut storage, "a", 0);
     let owned = own(&rt, &mut storage, a, 1);
     count_down(&rt, &mut storage, a, 0);
     let _ = not_lowered(&rt, &mut storage, owned);
     has_len(&rt, &storage, 1);
+    drop_values(storage);
 }
 
 #[test]
 fn a_handle_of_a_value_that_was_collected_is_refused(rt: HostRuntime) {
     let alloc = rt.alloc();
-    let mut storage = InternStorage::new(alloc, 1);
+    let mut storage = new_values(alloc, 1);
     let a = intern_new(&rt, alloc, &mut storage, "a", 0);
     let owned = own(&rt, &mut storage, a, 1);
     count_down(&rt, &mut storage, a, 0);
     collect_the_only_one(&rt, alloc, &mut storage);
     let _ = refused_in_each_way(&rt, &mut storage, owned, Refusal::Gone);
     not_found(&rt, &storage, 0);
+    drop_values(storage);
 }
 
 #[test]
 fn values_refer_to_values(rt: HostRuntime) {
     let alloc = rt.alloc();
-    let mut storage = InternStorage::new(alloc, 1);
+    let mut storage = new_values(alloc, 1);
     let leaf = Node {
         children: Vec::new(alloc),
         owned: Vec::new(alloc),
@@ -84,6 +90,7 @@ fn values_refer_to_values(rt: HostRuntime) {
     let top = intern_new_gc(&rt, &mut storage, top, 1);
     reads_above(&rt, &storage, top, (2, 1));
     has_count(&rt, &storage, leaf, 1);
+    drop_values(storage);
 }
 
 /// Reads a node with this label and with one child, which it also owns, with that label.
@@ -94,11 +101,11 @@ fn reads_above(
     (label, child_label): (u64, u64),
 ) {
     let read = top.get(storage).expect(rt, "stored");
-    assert_eq!(rt; read.label, label);
+    is_equal(rt, read.label, label);
     let child = read.children.first().expect(rt, "a child");
-    assert_eq!(rt; child.get(storage).map(|n| n.label), Some(child_label));
+    is_equal(rt, child.get(storage).map(|n| n.label), Some(child_label));
     let owned = read.owned.first().expect(rt, "an owned child");
-    assert_eq!(rt; owned.get(storage).map(|n| n.label), Some(child_label));
+    is_equal(rt, owned.get(storage).map(|n| n.label), Some(child_label));
 }
 
 /// Makes a node with one child, which it also owns.

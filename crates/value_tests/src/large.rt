@@ -4,7 +4,7 @@ ghost use Rattle.std.specs.Prelude.{◌≡◌, false};
 use crate::kinds::{Number, Numeral};
 use crate::numbers::{frees, intern_again, intern_new, reads};
 use crate::steps::{has_len, push, reads_nothing, stored};
-use intern_fixtures::Unhashed;
+use intern_fixtures::{Unhashed, drop_values, new_values};
 use ra_ap_intern::{InternStorage, Interned};
 use std::alloc::Global;
 use std::process::Abort;
@@ -12,7 +12,7 @@ use std::process::Abort;
 #[test]
 fn half_of_ten_thousand_values_are_born_anew(rt: HostRuntime) {
     let alloc = rt.alloc();
-    let mut storage: InternStorage<Number> = InternStorage::new(alloc, 1);
+    let mut storage: InternStorage<Number> = new_values(alloc, 1);
     let evens = intern_numbers(&rt, alloc, &mut storage, 10_000);
     let zero = stored(&rt, &storage, 0);
     free_numbers(&rt, &mut storage, evens);
@@ -25,16 +25,18 @@ fn half_of_ten_thousand_values_are_born_anew(rt: HostRuntime) {
     }
     has_len(&rt, &storage, 10_000);
     reads_nothing(&rt, &storage, zero);
+    drop_values(storage);
 }
 
 #[test]
 fn values_that_all_hash_alike_are_told_apart(rt: HostRuntime) {
     let alloc = rt.alloc();
-    let mut storage: InternStorage<Unhashed> = InternStorage::new(alloc, 1);
+    let mut storage: InternStorage<Unhashed> = new_values(alloc, 1);
     let evens = intern_numbers(&rt, alloc, &mut storage, 1_000);
     free_numbers(&rt, &mut storage, evens);
     let _ = intern_again(&rt, &mut storage, 1, (1, 2));
     let _ = intern_new(&rt, &mut storage, 0, 1_000);
+    drop_values(storage);
 }
 
 /// Interns the numbers below this one, each under itself as its birth. It gives the handles of the

@@ -2,7 +2,7 @@
 ghost use Rattle.std.specs.Prelude.{◌≡◌, false};
 
 use crate::kinds::Numeral;
-use crate::steps::{self, release_last};
+use crate::steps::{self, is_equal, release_last};
 use ra_ap_intern::{InternStorage, Interned, InternedRef, Refusal};
 use std::process::Abort;
 
@@ -28,7 +28,7 @@ pub fn intern_again<T: Numeral>(
     requires { T.Internable.USE_GC ≡ false }
 {
     let (handle, back) = steps::intern_again(rt, storage, T::of(number), counted);
-    assert_eq!(rt; back, T::of(number));
+    is_equal(rt, back, T::of(number));
     handle
 }
 
@@ -38,7 +38,7 @@ pub fn not_interned<T: Numeral>(rt: &impl Abort, storage: &mut InternStorage<T>,
     requires { T.Internable.USE_GC ≡ false }
 {
     let back = steps::not_interned(rt, storage, T::of(number), Refusal::NumbersUsedUp);
-    assert_eq!(rt; back, T::of(number));
+    is_equal(rt, back, T::of(number));
 }
 
 /// Reads this number.
@@ -48,7 +48,7 @@ pub fn reads<T: Numeral>(
     reference: InternedRef<T>,
     number: u64,
 ) {
-    assert_eq!(rt; reference.get(storage).copied(), Some(T::of(number)));
+    is_equal(rt, reference.get(storage).copied(), Some(T::of(number)));
 }
 
 /// Releases the last handle: this number comes back, and its entry is gone.
@@ -58,5 +58,5 @@ pub fn frees<T: Numeral>(
     handle: Interned<T>,
     number: u64,
 ) {
-    assert_eq!(rt; release_last(rt, storage, handle), T::of(number));
+    is_equal(rt, release_last(rt, storage, handle), T::of(number));
 }

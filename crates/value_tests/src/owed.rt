@@ -1,10 +1,8 @@
 //! Owned handles that must be released.
-use crate::steps::{count_down, has_count, has_len, has_name, is_reason, reads_nothing};
+use crate::steps::{count_down, has_count, has_len, has_name, is_equal, is_reason, reads_nothing};
 use crate::words::{Words, intern_again, intern_new};
-use intern_fixtures::{Word, a_map_tells_apart};
-use ra_ap_intern::{
-    InternStorage, Interned, InternedRef, Limits, Owed, OwedValue, Refusal, Refused,
-};
+use intern_fixtures::{Word, a_map_tells_apart, drop_values, limited_values, new_values};
+use ra_ap_intern::{Interned, InternedRef, Limits, Owed, OwedValue, Refusal, Refused};
 use std::alloc::Global;
 use std::process::Abort;
 
@@ -37,7 +35,7 @@ fn frees(rt: &impl Abort, storage: &mut Words, owed: OwedValue<Word>, text: &str
         .release(storage)
         .map_err(why_alone)
         .expect(rt, "released");
-    assert_eq!(rt; freed.as_ref().map(Word::text), Some(text));
+    is_equal(rt, freed.as_ref().map(Word::text), Some(text));
     reads_nothing(rt, storage, reference);
 }
 
@@ -53,7 +51,7 @@ fn not_released(
         Ok(_) => panic!(rt; "it was released"),
         Err(Refused { why, back }) => {
             is_reason(rt, why, reason);
-            assert_eq!(rt; back.name(), name);
+            is_equal(rt, back.name(), name);
             has_len(rt, storage, len);
             back
         }
@@ -70,10 +68,10 @@ fn why_alone(refused: Refused<OwedValue<Word>>) -> Refusal {
 #[test]
 fn an_owed_handle_has_the_calls_of_an_owned_one(rt: HostRuntime) {
     let alloc = rt.alloc();
-    let mut storage = InternStorage::new(alloc, 1);
+    let mut storage = new_values(alloc, 1);
     let x = owe(&rt, alloc, &mut storage, "x", 0);
     has_name(&rt, x.as_ref(), (1, 0));
-    assert_eq!(rt; x.get(&storage).map(Word::text), Some("x"));
+    is_equal(&rt, x.get(&storage).map(Word::text), Some("x"));
     let reference: InternedRef<Word> = InternedRef::from(&x);
     assert!(rt; reference == x.as_ref());
 
@@ -84,29 +82,31 @@ fn an_owed_handle_has_the_calls_of_an_owned_one(rt: HostRuntime) {
     assert!(rt; owned.as_ref() == reference);
     frees(&rt, &mut storage, Owed::from(owned), "x");
     has_len(&rt, &storage, 0);
+    drop_values(storage);
 }
 
 #[test]
 fn owed_handles_are_compared_and_shown_by_their_names(rt: HostRuntime) {
     let alloc = rt.alloc();
-    let mut storage = InternStorage::new(alloc, 3);
+    let mut storage = new_values(alloc, 3);
     let x = owe(&rt, alloc, &mut storage, "x", 0);
     let y = owe(&rt, alloc, &mut storage, "y", 1);
     let again = Owed::from(intern_again(&rt, alloc, &mut storage, "x", (0, 2)));
     assert!(rt; x == again && x != y && x < y);
-    assert_eq!(rt; a_map_tells_apart(alloc, &x, &&again, &&y), Ok(true));
+    is_equal(&rt, a_map_tells_apart(alloc, &x, &&again, &&y), Ok(true));
     let shown: Result<_, _> = format!(in alloc; "{:?}", y);
-    assert_eq!(rt; shown.expect(&rt, "memory").as_str(), "Owed(#3.1)");
+    is_equal(&rt, shown.expect(&rt, "memory").as_str(), "Owed(#3.1)");
     release(&rt, &mut storage, again, 1);
     frees(&rt, &mut storage, x, "x");
     frees(&rt, &mut storage, y, "y");
+    drop_values(storage);
 }
 
 #[test]
 fn a_refusal_gives_it_back(rt: HostRuntime) {
     let alloc = rt.alloc();
-    let mut storage = InternStorage::with_limits(alloc, 1, Limits { top: 1, numbers: 9 });
-    let mut other = InternStorage::new(alloc, 2);
+    let mut storage = limited_values(alloc, 1, Limits { top: 1, numbers: 9 });
+    let mut other = new_values(alloc, 2);
     let x = owe(&rt, alloc, &mut storage, "x", 0);
     let reference = x.as_ref();
     assert!(rt; x.get(&other).is_none());
@@ -121,6 +121,8 @@ fn a_refusal_gives_it_back(rt: HostRuntime) {
     let x = not_released(&rt, &mut storage, x, Refusal::Gone);
     not_cloned(&rt, &mut storage, &x, Refusal::Gone);
     drop(x.into_owned());
+    drop_values(storage);
+    drop_values(other);
 }
 
 /// Is refused a second handle for this reason.
@@ -134,7 +136,7 @@ fn not_cloned(rt: &impl Abort, storage: &mut Words, owed: &OwedValue<Word>, reas
 #[test]
 fn a_list_of_them_is_emptied(rt: HostRuntime) {
     let alloc = rt.alloc();
-    let mut storage = InternStorage::new(alloc, 1);
+    let mut storage = new_values(alloc, 1);
     let mut list = Vec::new(alloc);
     for (birth, text) in [(0, "x"), (1, "y"), (2, "z")] {
         let owed = owe(&rt, alloc, &mut storage, text, birth);
@@ -152,6 +154,7 @@ fn a_list_of_them_is_emptied(rt: HostRuntime) {
     }
     list.destroy_empty();
     has_len(&rt, &storage, 0);
+    drop_values(storage);
 }
 
 /// Releases two handles, and passes on why one was refused.
@@ -169,14 +172,16 @@ fn release_both(
 #[test]
 fn a_refusal_is_passed_on_by_way_of_an_owned_handle(rt: HostRuntime) {
     let alloc = rt.alloc();
-    let mut storage = InternStorage::new(alloc, 1);
-    let mut other = InternStorage::new(alloc, 2);
+    let mut storage = new_values(alloc, 1);
+    let mut other = new_values(alloc, 2);
     let x = owe(&rt, alloc, &mut storage, "x", 0);
     let y = owe(&rt, alloc, &mut other, "y", 0);
-    assert_eq!(rt; release_both(&mut storage, x, y), Err(Refusal::Foreign));
+    is_equal(&rt, release_both(&mut storage, x, y), Err(Refusal::Foreign));
     has_len(&rt, &storage, 0);
 
     // The count that was left behind is taken over, and released.
     let y = Interned::from_raw(&other, 0).expect(&rt, "taken over");
     frees(&rt, &mut other, Owed::from(y), "y");
+    drop_values(storage);
+    drop_values(other);
 }

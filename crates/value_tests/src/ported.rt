@@ -1,14 +1,14 @@
 //! A test of the Rust crate, over values of one type.
 use crate::steps::{has_len, own, release};
 use crate::words::{Words, clone, differ, equal, frees, intern_again, intern_new, reads};
-use intern_fixtures::Word;
-use ra_ap_intern::{InternStorage, Interned};
+use intern_fixtures::{Word, drop_values, new_values};
+use ra_ap_intern::Interned;
 use std::process::Abort;
 
 #[test]
 fn simple_interned_equality(rt: HostRuntime) {
     let alloc = rt.alloc();
-    let mut storage = InternStorage::new(alloc, 1);
+    let mut storage = new_values(alloc, 1);
     let a = intern_new(&rt, alloc, &mut storage, "abc", 0);
     let b = intern_again(&rt, alloc, &mut storage, "abc", (0, 2));
     equal(&rt, &a, &b);
@@ -20,6 +20,7 @@ fn simple_interned_equality(rt: HostRuntime) {
     let c = intern_new(&rt, alloc, &mut storage, "def", 1);
     differ(&rt, &a, &c);
     differ(&rt, &b, &c);
+    drop_values(storage);
 }
 
 /// Clones of two equal handles, and a clone of a clone, are equal.
@@ -35,7 +36,7 @@ fn clones_are_equal(rt: &impl Abort, storage: &mut Words, a: &Interned<Word>, b:
 #[test]
 fn simple_interned_reads(rt: HostRuntime) {
     let alloc = rt.alloc();
-    let mut storage = InternStorage::new(alloc, 1);
+    let mut storage = new_values(alloc, 1);
     let a = intern_new(&rt, alloc, &mut storage, "abc", 0);
     let b = intern_again(&rt, alloc, &mut storage, "abc", (0, 2));
     reads(&rt, &storage, &a, "abc");
@@ -51,4 +52,5 @@ fn simple_interned_reads(rt: HostRuntime) {
     has_len(&rt, &storage, 1);
     frees(&rt, &mut storage, b, "abc");
     has_len(&rt, &storage, 0);
+    drop_values(storage);
 }

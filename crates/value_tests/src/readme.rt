@@ -2,6 +2,7 @@
 ghost use Rattle.std.specs.Prelude.{false};
 
 use ra_ap_intern::{InternStorage, Internable, Interned};
+use std::alloc::Global;
 use std::test::Fail;
 
 /// A word that is stored once.
@@ -14,18 +15,29 @@ impl Internable for Word {
     ghost USE_GC = { false };
 }
 
+fn store(
+    alloc: Global,
+    words: &mut InternStorage<Word>,
+    text: &str,
+) -> Result<Interned<Word>, Fail> {
+    let word = Word(String::from_str(alloc, text)?);
+    let (handle, _) = Interned::new(words, word)?;
+    Ok(handle)
+}
+
 #[test]
 fn equal_words_are_stored_once(rt: HostRuntime) -> Result<(), Fail> {
     let alloc = rt.alloc();
     let mut words = InternStorage::new(alloc, 1);
-    let (first, _) = Interned::new(&mut words, Word(String::from_str(alloc, "hello")?))?;
-    let (second, _) = Interned::new(&mut words, Word(String::from_str(alloc, "hello")?))?;
+    let first = store(alloc, &mut words, "hello")?;
+    let second = store(alloc, &mut words, "hello")?;
     assert!(rt; first == second);
     assert_eq!(rt; words.len(), 1);
 
     // The last release removes the word and gives it back.
-    assert_eq!(rt; first.release(&mut words).map_err(|r| r.why)?, None);
+    let none = first.release(&mut words).map_err(|r| r.why)?;
+    assert!(rt; none.is_none());
     let word = second.release(&mut words).map_err(|r| r.why)?;
-    assert_eq!(rt; word, Some(Word(String::from_str(alloc, "hello")?)));
+    assert_eq!(rt; word.as_ref().map(|word| word.0.as_str()), Some("hello"));
     Ok(())
 }

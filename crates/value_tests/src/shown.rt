@@ -1,6 +1,7 @@
 //! The small calls on handles, texts and refusals: how they are written, converted and found.
+use crate::steps::is_equal;
 use crate::words::{Words, frees, intern_new};
-use intern_fixtures::{Word, allowed, make_word};
+use intern_fixtures::{Word, allowed, drop_values, limited_values, make_word, new_values};
 use ra_ap_intern::{InternStorage, Interned, InternedRef, Limits, Refusal, Text};
 use std::alloc::Global;
 use std::process::Abort;
@@ -8,40 +9,44 @@ use std::process::Abort;
 #[test]
 fn handles_are_shown_by_their_names(rt: HostRuntime) {
     let alloc = rt.alloc();
-    let mut storage = InternStorage::new(alloc, 3);
+    let mut storage = new_values(alloc, 3);
     let x = intern_new(&rt, alloc, &mut storage, "x", 0);
     let y = intern_new(&rt, alloc, &mut storage, "y", 1);
     let shown: Result<_, _> = format!(in alloc; "{:?} {:?} {}", x, y.as_ref(), y.name());
-    assert_eq!(rt;
+    is_equal(
+        &rt,
         shown.expect(&rt, "memory").as_str(),
-        "Owned(#3.0) Ref(#3.1) #3.1"
+        "Owned(#3.0) Ref(#3.1) #3.1",
     );
     assert!(rt; x < y);
+    drop_values(storage);
 }
 
 #[test]
 fn a_reference_is_made_from_a_handle(rt: HostRuntime) {
     let alloc = rt.alloc();
-    let mut storage = InternStorage::new(alloc, 1);
+    let mut storage = new_values(alloc, 1);
     let x = intern_new(&rt, alloc, &mut storage, "x", 0);
     let reference: InternedRef<Word> = InternedRef::from(&x);
-    assert_eq!(rt; reference.name(), x.name());
+    is_equal(&rt, reference.name(), x.name());
     assert!(rt; storage.contains(reference));
     frees(&rt, &mut storage, x, "x");
     assert!(rt; !storage.contains(reference));
+    drop_values(storage);
 }
 
 #[test]
 fn a_loop_walks_over_a_storage(rt: HostRuntime) {
     let alloc = rt.alloc();
-    let mut storage = InternStorage::new(alloc, 1);
+    let mut storage = new_values(alloc, 1);
     let _ = intern_new(&rt, alloc, &mut storage, "x", 0);
     let _ = intern_new(&rt, alloc, &mut storage, "y", 1);
     let mut births = 0u64;
     for (reference, _word) in &storage {
         births = births.wrapping_add(reference.as_raw()).wrapping_add(1);
     }
-    assert_eq!(rt; births, 3);
+    is_equal(&rt, births, 3);
+    drop_values(storage);
 }
 
 #[test]
@@ -52,17 +57,18 @@ fn a_text_is_made_from_a_string(rt: HostRuntime) {
     assert!(rt; text.is("word"));
     assert!(rt; !text.is("work"));
     let shown: Result<_, _> = format!(in alloc; "{text}");
-    assert_eq!(rt; shown.expect(&rt, "memory").as_str(), "word");
+    is_equal(&rt, shown.expect(&rt, "memory").as_str(), "word");
 }
 
 #[test]
 fn a_text_is_found_without_a_copy(rt: HostRuntime) {
     let alloc = rt.alloc();
-    let mut texts = InternStorage::new(alloc, 1);
+    let mut texts = new_values(alloc, 1);
     let word = Text::new(alloc, "word").expect(&rt, "memory");
     let (word, _) = allowed(Interned::new(&mut texts, word)).expect(&rt, "interned");
     assert!(rt; texts.get_text("word") == Some(word.as_ref()));
     assert!(rt; texts.get_text("work").is_none());
+    drop_values(texts);
 }
 
 /// Interns a word, passes a refusal on, and answers the birth.
@@ -74,17 +80,20 @@ fn interns(storage: &mut InternStorage<Word>, word: Word) -> Result<u64, Refusal
 #[test]
 fn a_refusal_is_passed_on(rt: HostRuntime) {
     let alloc = rt.alloc();
-    let mut storage: Words = InternStorage::with_limits(alloc, 1, Limits { top: 1, numbers: 1 });
-    assert_eq!(rt; interns(&mut storage, word_of(&rt, alloc, "x")), Ok(0));
-    assert_eq!(rt;
+    let mut storage: Words = limited_values(alloc, 1, Limits { top: 1, numbers: 1 });
+    is_equal(&rt, interns(&mut storage, word_of(&rt, alloc, "x")), Ok(0));
+    is_equal(
+        &rt,
         interns(&mut storage, word_of(&rt, alloc, "x")),
-        Err(Refusal::CountFull)
+        Err(Refusal::CountFull),
     );
-    assert_eq!(rt;
+    is_equal(
+        &rt,
         interns(&mut storage, word_of(&rt, alloc, "y")),
-        Err(Refusal::NumbersUsedUp)
+        Err(Refusal::NumbersUsedUp),
     );
-    assert_eq!(rt; Limits::default(), Limits::MAX);
+    is_equal(&rt, Limits::default(), Limits::MAX);
+    drop_values(storage);
 }
 
 /// The word of a text.

@@ -3,7 +3,13 @@ ghost use Rattle.std.specs.Prelude.{◌≡◌, true, false};
 
 use intern_fixtures::{allowed, refusal};
 use ra_ap_intern::{InternStorage, Internable, Interned, InternedRef, Name, Refusal, Refused};
+use std::fmt::Debug;
 use std::process::Abort;
+
+/// The values are equal.
+pub fn is_equal<V: Copy + PartialEq + Debug>(rt: &impl Abort, found: V, wanted: V) {
+    assert_eq!(rt; found, wanted);
+}
 
 /// Adds a value at the end of a list.
 pub fn push<V: Drop>(rt: &impl Abort, list: &mut Vec<V>, value: V) {
@@ -18,17 +24,17 @@ fn is_refused<A: Drop>(rt: &impl Abort, answer: Result<A, Refusal>, reason: Refu
 
 /// This is the reason of a refusal.
 pub fn is_reason(rt: &impl Abort, why: Refusal, reason: Refusal) {
-    assert_eq!(rt; why, reason);
+    is_equal(rt, why, reason);
 }
 
 /// The reference names this birth.
 pub fn has_birth<T>(rt: &impl Abort, reference: InternedRef<T>, birth: u64) {
-    assert_eq!(rt; reference.as_raw(), birth);
+    is_equal(rt, reference.as_raw(), birth);
 }
 
 /// The reference names this birth in the storage of this number.
 pub fn has_name<T>(rt: &impl Abort, reference: InternedRef<T>, (storage, birth): (u64, u64)) {
-    assert_eq!(rt; reference.name(), Name { storage, birth });
+    is_equal(rt, reference.name(), Name { storage, birth });
 }
 
 /// The entry has this count.
@@ -38,17 +44,17 @@ pub fn has_count<T: Internable>(
     reference: InternedRef<T>,
     count: u64,
 ) {
-    assert_eq!(rt; storage.count(reference), Some(count));
+    is_equal(rt, storage.count(reference), Some(count));
 }
 
 /// The storage has this many entries.
 pub fn has_len<T: Internable>(rt: &impl Abort, storage: &InternStorage<T>, len: usize) {
-    assert_eq!(rt; storage.len(), len);
+    is_equal(rt, storage.len(), len);
 }
 
 /// The storage has this number, and no entry.
 pub fn is_empty<T: Internable>(rt: &impl Abort, storage: &InternStorage<T>, number: u64) {
-    assert_eq!(rt; (storage.number(), storage.len()), (number, 0));
+    is_equal(rt, (storage.number(), storage.len()), (number, 0));
 }
 
 /// Interns a value that is counted and isn't stored: it gets this birth and count 1, and nothing
@@ -128,7 +134,7 @@ pub fn reads_nothing<T: Internable>(
     reference: InternedRef<T>,
 ) {
     assert!(rt; reference.get(storage).is_none());
-    assert_eq!(rt; storage.count(reference), None);
+    is_equal(rt, storage.count(reference), None);
 }
 
 /// The entry of a birth.
@@ -208,7 +214,7 @@ pub fn count_down<T: Internable>(
     reference: InternedRef<T>,
     count: u64,
 ) {
-    assert_eq!(rt; reference.decrement_refcount(storage), Ok(()));
+    is_equal(rt, reference.decrement_refcount(storage), Ok(()));
     has_count(rt, storage, reference, count);
 }
 

@@ -1,5 +1,5 @@
 //! Steps of tests over texts that are collected, each with the answer that it must get.
-use crate::steps::{self, has_birth, has_len, is_reason};
+use crate::steps::{self, has_birth, has_len, is_equal, is_reason};
 use intern_fixtures::{GcString, make_gc_string, told};
 use ra_ap_intern::{GarbageCollector, InternStorage, Interned, InternedRef, Refusal, Refused};
 use std::alloc::Global;
@@ -36,7 +36,7 @@ pub fn intern_again(
     let answer = Interned::new_gc(storage, string_of(rt, alloc, text));
     let (string, back) = answer.expect(rt, "interned");
     has_birth(rt, string, birth);
-    assert_eq!(rt; back.as_ref().map(GcString::text), Some(text));
+    is_equal(rt, back.as_ref().map(GcString::text), Some(text));
     has_len(rt, storage, len);
     string
 }
@@ -48,7 +48,7 @@ pub fn not_interned(rt: &impl Abort, alloc: Global, storage: &mut Strings, text:
     let answer = Interned::new_gc(storage, string_of(rt, alloc, text));
     let Refused { why, back } = answer.err().expect(rt, "refused");
     is_reason(rt, why, Refusal::NumbersUsedUp);
-    assert_eq!(rt; back.text(), text);
+    is_equal(rt, back.text(), text);
     has_len(rt, storage, len);
 }
 
@@ -56,6 +56,6 @@ pub fn not_interned(rt: &impl Abort, alloc: Global, storage: &mut Strings, text:
 pub fn collect_the_only_one(rt: &impl Abort, alloc: Global, storage: &mut Strings) {
     assert!(rt; GarbageCollector::distinct(storage));
     let answer = GarbageCollector::new(alloc).collect(storage);
-    assert_eq!(rt; told(answer), Some((0, 0, 1)));
+    is_equal(rt, told(answer), Some((0, 0, 1)));
     has_len(rt, storage, 0);
 }

@@ -1,5 +1,6 @@
 //! Texts as values: no preset is among them.
-use intern_fixtures::allowed;
+use crate::steps::is_equal;
+use intern_fixtures::{allowed, drop_values, new_values};
 use ra_ap_intern::{InternStorage, Interned, Text};
 use std::alloc::Global;
 use std::process::Abort;
@@ -21,20 +22,21 @@ fn value_of(rt: &impl Abort, alloc: Global, text: &str) -> Text {
 fn intern_twice(rt: &impl Abort, alloc: Global, texts: &mut InternStorage<Text>, text: &str) {
     let value = value_of(rt, alloc, text);
     let (first, back) = allowed(Interned::new(texts, value)).expect(rt, "interned");
-    assert_eq!(rt; back, None);
+    assert!(rt; back.is_none());
     let value = value_of(rt, alloc, text);
     let (second, back) = allowed(Interned::new(texts, value)).expect(rt, "interned");
-    assert_eq!(rt; back, Some(value_of(rt, alloc, text)));
+    is_equal(rt, back.as_ref().map(|text| text.as_str()), Some(text));
     assert!(rt; first == second);
-    assert_eq!(rt; first.get(texts).map(|kept| kept.as_str()), Some(text));
+    is_equal(rt, first.get(texts).map(|kept| kept.as_str()), Some(text));
 }
 
 #[test]
 fn each_text_is_kept_once(rt: HostRuntime) {
     let alloc = rt.alloc();
-    let mut texts = InternStorage::new(alloc, 1);
+    let mut texts = new_values(alloc, 1);
     for text in TEXTS {
         intern_twice(&rt, alloc, &mut texts, text);
     }
-    assert_eq!(rt; texts.len(), TEXTS.len());
+    is_equal(&rt, texts.len(), TEXTS.len());
+    drop_values(texts);
 }

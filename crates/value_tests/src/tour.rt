@@ -10,7 +10,7 @@ use std::alloc::Global;
 use std::process::Abort;
 
 /// A text that is stored once.
-#[derive(Debug, Drop, PartialEq, Eq, Hash)]
+#[derive(Drop, PartialEq, Eq, Hash)]
 struct Word(String);
 
 // Counted mode: an entry goes with its last owner.
@@ -37,27 +37,32 @@ fn make_word(rt: &impl Abort, alloc: Global, text: &str) -> Word {
     Word(String::from_str(alloc, text).expect(rt, "memory"))
 }
 
+fn text(word: &Option<Word>) -> Option<&str> {
+    word.as_ref().map(|word| word.0.as_str())
+}
+
 #[test]
 fn one_copy_of_each_word(rt: HostRuntime) {
     let alloc = rt.alloc();
     let mut words = InternStorage::new(alloc, 1);
     let hello = make_word(&rt, alloc, "hello");
     let (hello, back) = allowed(Interned::new(&mut words, hello)).expect(&rt, "interned");
-    assert_eq!(rt; back, None);
+    assert!(rt; back.is_none());
 
     // An equal word is stored already: it comes back, and the handles are equal.
     let again = make_word(&rt, alloc, "hello");
     let (again, back) = allowed(Interned::new(&mut words, again)).expect(&rt, "interned");
-    assert_eq!(rt; back, Some(make_word(&rt, alloc, "hello")));
+    assert_eq!(rt; text(&back), Some("hello"));
     assert!(rt; hello == again);
     assert_eq!(rt; words.len(), 1);
     assert_eq!(rt; words.count(hello.as_ref()), Some(2));
 
     // The last release frees the word and gives it back. A reference to it reads nothing then.
     let reference = hello.as_ref();
-    assert_eq!(rt; allowed(hello.release(&mut words)), Ok(None));
+    let none = allowed(hello.release(&mut words)).expect(&rt, "released");
+    assert!(rt; none.is_none());
     let freed = allowed(again.release(&mut words)).expect(&rt, "released");
-    assert_eq!(rt; freed, Some(make_word(&rt, alloc, "hello")));
+    assert_eq!(rt; text(&freed), Some("hello"));
     assert!(rt; reference.get(&words).is_none());
 }
 

@@ -1,5 +1,5 @@
 //! Steps of tests over words, which are counted, each with the answer that it must get.
-use crate::steps::{self, has_count, release_last};
+use crate::steps::{self, has_count, is_equal, release_last};
 use intern_fixtures::{Word, make_word};
 use ra_ap_intern::{InternStorage, Interned, Refusal};
 use std::alloc::Global;
@@ -45,7 +45,7 @@ pub fn intern_again(
     counted: (u64, u64),
 ) -> Interned<Word> {
     let (word, back) = steps::intern_again(rt, storage, word_of(rt, alloc, text), counted);
-    assert_eq!(rt; back.text(), text);
+    is_equal(rt, back.text(), text);
     word
 }
 
@@ -58,13 +58,13 @@ pub fn not_interned(
     reason: Refusal,
 ) {
     let back = steps::not_interned(rt, storage, word_of(rt, alloc, text), reason);
-    assert_eq!(rt; back.text(), text);
+    is_equal(rt, back.text(), text);
 }
 
 /// Reads this text, by the handle and by a reference.
 pub fn reads(rt: &impl Abort, storage: &Words, word: &Interned<Word>, text: &str) {
-    assert_eq!(rt; word.get(storage).map(Word::text), Some(text));
-    assert_eq!(rt; word.as_ref().get(storage).map(Word::text), Some(text));
+    is_equal(rt, word.get(storage).map(Word::text), Some(text));
+    is_equal(rt, word.as_ref().get(storage).map(Word::text), Some(text));
 }
 
 /// Makes a second handle, after which the entry has this count.
@@ -83,5 +83,5 @@ pub fn clone(
 /// Releases the last handle: the word of this text comes back, and its entry is gone.
 pub fn frees(rt: &impl Abort, storage: &mut Words, word: Interned<Word>, text: &str) {
     let freed = release_last(rt, storage, word);
-    assert_eq!(rt; freed.text(), text);
+    is_equal(rt, freed.text(), text);
 }

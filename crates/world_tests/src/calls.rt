@@ -1,8 +1,8 @@
 //! Each call, where it succeeds.
-use crate::rows::{Ask, Tell, tells_anew};
+use crate::rows::{Ask, Row, Tell, tells_anew};
 use intern_world::{Kind, Which};
 
-const COUNTED_VALUES_ARE_MADE: [(Ask, Tell); 11] = [
+const COUNTED_VALUES_ARE_MADE: [Row; 11] = [
     (Ask::New("x"), Tell::Made(0)),
     (Ask::New("x"), Tell::MadeAgain(1, Which::Counted, "x")),
     (Ask::AsRef(0), Tell::Made(2)),
@@ -22,7 +22,7 @@ fn counted_values_are_made(rt: HostRuntime) {
     tells_anew(&rt, alloc, &COUNTED_VALUES_ARE_MADE);
 }
 
-const COUNTED_VALUES_ARE_READ_AND_RELEASED: [(Ask, Tell); 11] = [
+const COUNTED_VALUES_ARE_READ_AND_RELEASED: [Row; 11] = [
     (Ask::New("x"), Tell::Made(0)),
     (Ask::AsRef(0), Tell::Made(1)),
     (Ask::Clone(0), Tell::Made(2)),
@@ -42,7 +42,7 @@ fn counted_values_are_read_and_released(rt: HostRuntime) {
     tells_anew(&rt, alloc, &COUNTED_VALUES_ARE_READ_AND_RELEASED);
 }
 
-const COLLECTED_VALUES_ARE_MADE: [(Ask, Tell); 11] = [
+const COLLECTED_VALUES_ARE_MADE: [Row; 11] = [
     (Ask::NewGc("x"), Tell::Made(0)),
     (Ask::NewGc("x"), Tell::MadeAgain(1, Which::Values, "x")),
     (Ask::ToOwned(0), Tell::Made(2)),
@@ -62,7 +62,7 @@ fn collected_values_are_made(rt: HostRuntime) {
     tells_anew(&rt, alloc, &COLLECTED_VALUES_ARE_MADE);
 }
 
-const COLLECTED_VALUES_ARE_READ_AND_RELEASED: [(Ask, Tell); 12] = [
+const COLLECTED_VALUES_ARE_READ_AND_RELEASED: [Row; 12] = [
     (Ask::NewGc("x"), Tell::Made(0)),
     (Ask::ToOwned(0), Tell::Made(1)),
     (Ask::Clone(1), Tell::Made(2)),
@@ -83,10 +83,10 @@ fn collected_values_are_read_and_released(rt: HostRuntime) {
     tells_anew(&rt, alloc, &COLLECTED_VALUES_ARE_READ_AND_RELEASED);
 }
 
-const SLICES_ARE_MADE: [(Ask, Tell); 9] = [
-    (Ask::FromHeaderAndSlice("x", 1), Tell::Made(0)),
+const SLICES_ARE_MADE: [Row; 9] = [
+    (Ask::FromHeaderAndSlice("x", &[1]), Tell::Made(0)),
     (
-        Ask::FromHeaderAndSlice("x", 1),
+        Ask::FromHeaderAndSlice("x", &[1]),
         Tell::MadeAgain(1, Which::Slices, "x"),
     ),
     (Ask::ToOwned(0), Tell::Made(2)),
@@ -104,13 +104,13 @@ fn slices_are_made(rt: HostRuntime) {
     tells_anew(&rt, alloc, &SLICES_ARE_MADE);
 }
 
-const SLICES_ARE_READ_AND_RELEASED: [(Ask, Tell); 12] = [
-    (Ask::FromHeaderAndSlice("x", 1), Tell::Made(0)),
+const SLICES_ARE_READ_AND_RELEASED: [Row; 12] = [
+    (Ask::FromHeaderAndSlice("x", &[1]), Tell::Made(0)),
     (Ask::ToOwned(0), Tell::Made(1)),
     (Ask::Clone(1), Tell::Made(2)),
-    (Ask::ReadsSlice(0, "x", 1), Tell::Read(Some(true))),
-    (Ask::ReadsSlice(1, "y", 1), Tell::Read(Some(false))),
-    (Ask::ReadsSlice(1, "x", 2), Tell::Read(Some(false))),
+    (Ask::ReadsSlice(0, "x", &[1]), Tell::Read(Some(true))),
+    (Ask::ReadsSlice(1, "y", &[1]), Tell::Read(Some(false))),
+    (Ask::ReadsSlice(1, "x", &[2]), Tell::Read(Some(false))),
     (Ask::Decrement(0), Tell::Done),
     (Ask::Count(1), Tell::Count(Some(1))),
     (Ask::Release(1), Tell::Done),
@@ -125,7 +125,7 @@ fn slices_are_read_and_released(rt: HostRuntime) {
     tells_anew(&rt, alloc, &SLICES_ARE_READ_AND_RELEASED);
 }
 
-const SYMBOLS_ARE_MADE: [(Ask, Tell); 13] = [
+const SYMBOLS_ARE_MADE: [Row; 13] = [
     (Ask::Intern("1000"), Tell::Made(0)),
     (Ask::IntegerGet(1000), Tell::Made(1)),
     (Ask::GeneratedGet(1000), Tell::Made(2)),
@@ -147,7 +147,7 @@ fn symbols_are_made(rt: HostRuntime) {
     tells_anew(&rt, alloc, &SYMBOLS_ARE_MADE);
 }
 
-const SYMBOLS_ARE_READ_AND_RELEASED: [(Ask, Tell); 10] = [
+const SYMBOLS_ARE_READ_AND_RELEASED: [Row; 10] = [
     (Ask::IntegerGet(1000), Tell::Made(0)),
     (Ask::Clone(0), Tell::Made(1)),
     (Ask::ReadsText(0, "1000"), Tell::Read(Some(true))),

@@ -37,10 +37,11 @@ fn add_node(rt: &impl Abort, alloc: Global, world: &mut Nodes, slot: usize) {
 
 /// The last node is owned, and two collections keep the chain.
 fn is_kept(rt: &impl Abort, alloc: Global, world: &mut Nodes) {
-    let calls = vec![in alloc; Call::ToOwned(999), Call::Collect, Call::Collect];
-    let told = run(world, calls.expect(rt, "memory"))
-        .ok()
-        .expect(rt, "memory");
+    let mut calls = Vec::new(alloc);
+    push(rt, &mut calls, Call::ToOwned(999));
+    push(rt, &mut calls, Call::Collect);
+    push(rt, &mut calls, Call::Collect);
+    let told = run(world, calls).ok().expect(rt, "memory");
     assert_eq!(rt; told.len(), 3);
     assert!(rt; matches!(told.get(0), Some(Reply::Made(1_000, Back::Nothing))));
     collects(rt, told.get(1), (1_000, 999, 0));
@@ -49,10 +50,10 @@ fn is_kept(rt: &impl Abort, alloc: Global, world: &mut Nodes) {
 
 /// The last node is released, and a collection removes the chain.
 fn is_removed(rt: &impl Abort, alloc: Global, world: &mut Nodes) {
-    let calls = vec![in alloc; Call::Release(1_000), Call::Collect];
-    let told = run(world, calls.expect(rt, "memory"))
-        .ok()
-        .expect(rt, "memory");
+    let mut calls = Vec::new(alloc);
+    push(rt, &mut calls, Call::Release(1_000));
+    push(rt, &mut calls, Call::Collect);
+    let told = run(world, calls).ok().expect(rt, "memory");
     assert_eq!(rt; told.len(), 2);
     assert!(rt; matches!(told.get(0), Some(Reply::Done(Back::Nothing))));
     collects(rt, told.get(1), (0, 0, 1_000));

@@ -1,7 +1,11 @@
 //! Handles that are put into slots, of other storages and tables than the world's.
-use crate::rows::{Ask, Tell, tells};
-use crate::worlds::{NUMBERS, Texts, collected, is_told, new_world, reply_to, text, value, word};
-use intern_fixtures::{GcString, StringSlice, Word, allowed};
+use crate::rows::{Ask, Row, Tell, tells};
+use crate::worlds::{
+    NUMBERS, Texts, collected, drop_world, is_told, new_world, reply_to, text, value, word,
+};
+use intern_fixtures::{
+    GcString, StringSlice, Word, allowed, drop_slices, drop_values, new_slices, new_values,
+};
 use intern_world::{Back, Call, Reply, Slot, Which};
 use ra_ap_intern::{
     InternSliceStorage, InternStorage, Interned, InternedSlice, InternedSliceRef, Refusal, Symbol,
@@ -13,7 +17,7 @@ use std::process::Abort;
 /// The number of no part of a world.
 const OTHER: u64 = 5;
 
-const A_COUNTED_VALUE: [(Ask, Tell); 11] = [
+const A_COUNTED_VALUE: [Row; 11] = [
     (Ask::New("x"), Tell::Made(1)),
     (Ask::Same(0, 1), Tell::Truth(false)),
     (Ask::ReadsCounted(0, "x"), Tell::Read(None)),
@@ -31,13 +35,15 @@ const A_COUNTED_VALUE: [(Ask, Tell); 11] = [
 fn a_counted_value_of_another_storage(rt: HostRuntime) {
     let alloc = rt.alloc();
     let mut world = new_world(alloc);
-    let mut other: InternStorage<Word> = InternStorage::new(alloc, OTHER);
+    let mut other: InternStorage<Word> = new_values(alloc, OTHER);
     let handle = counted(&rt, alloc, &mut other, "x");
     puts(&rt, alloc, &mut world, Slot::Counted(handle));
     tells(&rt, alloc, &mut world, &A_COUNTED_VALUE);
+    drop_world(world);
+    drop_values(other);
 }
 
-const A_COLLECTED_VALUE: [(Ask, Tell); 9] = [
+const A_COLLECTED_VALUE: [Row; 9] = [
     (Ask::NewGc("x"), Tell::Made(2)),
     (Ask::ReadsValue(0, "x"), Tell::Read(None)),
     (Ask::Count(1), Tell::Count(None)),
@@ -53,7 +59,7 @@ const A_COLLECTED_VALUE: [(Ask, Tell); 9] = [
 fn a_collected_value_of_another_storage(rt: HostRuntime) {
     let alloc = rt.alloc();
     let mut world = new_world(alloc);
-    let mut other: InternStorage<GcString> = InternStorage::new(alloc, OTHER);
+    let mut other: InternStorage<GcString> = new_values(alloc, OTHER);
     let made = allowed(Interned::new_gc(&mut other, value(&rt, alloc, "x")));
     let (reference, _) = made.expect(&rt, "interned");
     let owned = reference.to_owned(&mut other).expect(&rt, "owned");
@@ -61,6 +67,8 @@ fn a_collected_value_of_another_storage(rt: HostRuntime) {
     puts(&rt, alloc, &mut world, Slot::Value(owned));
     tells(&rt, alloc, &mut world, &A_COLLECTED_VALUE);
     nothing_is_kept(&rt, &mut world);
+    drop_world(world);
+    drop_values(other);
 }
 
 /// Of the collected values, slots 0 and 1 have handles of another storage, and slot 2 that of the
@@ -70,8 +78,8 @@ fn nothing_is_kept(rt: &impl Abort, world: &mut Texts) {
     is_told(rt, &world.collect_keeping(&[2]), &collected(0, 0, 0));
 }
 
-const A_SLICE: [(Ask, Tell); 7] = [
-    (Ask::ReadsSlice(0, "x", 1), Tell::Read(None)),
+const A_SLICE: [Row; 7] = [
+    (Ask::ReadsSlice(0, "x", &[1]), Tell::Read(None)),
     (Ask::ToOwned(0), Tell::Refused(Refusal::Foreign)),
     (Ask::Decrement(0), Tell::Refused(Refusal::Foreign)),
     (Ask::Clone(1), Tell::Refused(Refusal::Foreign)),
@@ -84,15 +92,17 @@ const A_SLICE: [(Ask, Tell); 7] = [
 fn a_slice_of_another_storage(rt: HostRuntime) {
     let alloc = rt.alloc();
     let mut world = new_world(alloc);
-    let mut other: InternSliceStorage<StringSlice> = InternSliceStorage::new(alloc, OTHER);
+    let mut other: InternSliceStorage<StringSlice> = new_slices(alloc, OTHER);
     let reference = slice(&rt, alloc, &mut other);
     let owned = reference.to_owned(&mut other).expect(&rt, "owned");
     puts(&rt, alloc, &mut world, Slot::SliceRef(reference));
     puts(&rt, alloc, &mut world, Slot::Slice(owned));
     tells(&rt, alloc, &mut world, &A_SLICE);
+    drop_world(world);
+    drop_slices(other);
 }
 
-const A_SYMBOL: [(Ask, Tell); 10] = [
+const A_SYMBOL: [Row; 10] = [
     (Ask::Intern("hello"), Tell::Made(2)),
     (Ask::Same(0, 2), Tell::Truth(false)),
     (Ask::ReadsText(0, "hello"), Tell::Read(None)),
@@ -115,9 +125,10 @@ fn a_symbol_of_another_table(rt: HostRuntime) {
     puts(&rt, alloc, &mut world, Slot::Symbol(symbol));
     puts(&rt, alloc, &mut world, Slot::Symbol(preset));
     tells(&rt, alloc, &mut world, &A_SYMBOL);
+    drop_world(world);
 }
 
-const A_LATER_BIRTH: [(Ask, Tell); 11] = [
+const A_LATER_BIRTH: [Row; 11] = [
     (Ask::ReadsCounted(0, "b"), Tell::Read(None)),
     (Ask::New("x"), Tell::Made(1)),
     (Ask::Count(0), Tell::Count(None)),
@@ -135,11 +146,13 @@ const A_LATER_BIRTH: [(Ask, Tell); 11] = [
 fn a_birth_that_is_given_later(rt: HostRuntime) {
     let alloc = rt.alloc();
     let mut world = new_world(alloc);
-    let mut other: InternStorage<Word> = InternStorage::new(alloc, NUMBERS.counted);
+    let mut other: InternStorage<Word> = new_values(alloc, NUMBERS.counted);
     let _ = counted(&rt, alloc, &mut other, "a");
     let handle = counted(&rt, alloc, &mut other, "b");
     puts(&rt, alloc, &mut world, Slot::Counted(handle));
     tells(&rt, alloc, &mut world, &A_LATER_BIRTH);
+    drop_world(world);
+    drop_values(other);
 }
 
 /// Puts a handle into a new slot.

@@ -1,10 +1,10 @@
 //! Handles of entries that are gone: what would change a count is refused, and the run goes on. After
 //! each refusal a call shows that nothing has changed.
-use crate::rows::{Ask, Tell, tells_anew};
+use crate::rows::{Ask, Row, Tell, tells_anew};
 use intern_world::{Kind, Which};
 use ra_ap_intern::Refusal;
 
-const A_COUNTED_VALUE: [(Ask, Tell); 16] = [
+const A_COUNTED_VALUE: [Row; 16] = [
     (Ask::New("x"), Tell::Made(0)),
     (Ask::AsRef(0), Tell::Made(1)),
     (Ask::FromRaw(Kind::Counted, 0), Tell::Made(2)),
@@ -32,7 +32,7 @@ fn a_counted_value(rt: HostRuntime) {
     tells_anew(&rt, alloc, &A_COUNTED_VALUE);
 }
 
-const A_COLLECTED_VALUE: [(Ask, Tell); 17] = [
+const A_COLLECTED_VALUE: [Row; 17] = [
     (Ask::NewGc("x"), Tell::Made(0)),
     (Ask::ToOwned(0), Tell::Made(1)),
     (Ask::Decrement(0), Tell::Done),
@@ -61,19 +61,19 @@ fn a_collected_value(rt: HostRuntime) {
     tells_anew(&rt, alloc, &A_COLLECTED_VALUE);
 }
 
-const A_SLICE: [(Ask, Tell); 14] = [
-    (Ask::FromHeaderAndSlice("x", 1), Tell::Made(0)),
+const A_SLICE: [Row; 14] = [
+    (Ask::FromHeaderAndSlice("x", &[1]), Tell::Made(0)),
     (Ask::ToOwned(0), Tell::Made(1)),
     (Ask::Decrement(0), Tell::Done),
     (Ask::Collect, Tell::Collected(0, 0, 1)),
     (Ask::Clone(1), Tell::Refused(Refusal::Gone)),
     (Ask::Count(1), Tell::Count(None)),
     (Ask::Release(1), Tell::Refused(Refusal::Gone)),
-    (Ask::ReadsSlice(1, "x", 1), Tell::Read(None)),
+    (Ask::ReadsSlice(1, "x", &[1]), Tell::Read(None)),
     (Ask::ToOwned(0), Tell::Refused(Refusal::Gone)),
     (Ask::Decrement(0), Tell::Refused(Refusal::Gone)),
     (Ask::Len(Which::Slices), Tell::Number(0)),
-    (Ask::FromHeaderAndSlice("x", 1), Tell::Made(2)),
+    (Ask::FromHeaderAndSlice("x", &[1]), Tell::Made(2)),
     (Ask::Same(0, 2), Tell::Truth(false)),
     (Ask::Count(2), Tell::Count(Some(0))),
 ];
@@ -84,7 +84,7 @@ fn a_slice(rt: HostRuntime) {
     tells_anew(&rt, alloc, &A_SLICE);
 }
 
-const A_SYMBOL: [(Ask, Tell); 13] = [
+const A_SYMBOL: [Row; 13] = [
     (Ask::Intern("hello"), Tell::Made(0)),
     (Ask::Clone(0), Tell::Made(1)),
     (Ask::Release(0), Tell::Done),

@@ -1,8 +1,9 @@
 //! Many calls of all kinds, in the order that a generator draws.
 ghost use Rattle.std.specs.Prelude.{◌<◌};
 
-use crate::model::{GENERATED, INTEGERS, Model};
-use crate::worlds::{Row, Rows, Texts, new_world, push, replies};
+use crate::model::{GENERATED, INTEGERS, KeyRow, Model};
+use crate::rows::tells;
+use crate::worlds::{Texts, drop_world, new_world, push};
 use intern_world::{Kind, Which};
 use std::alloc::Global;
 use std::process::Abort;
@@ -13,12 +14,13 @@ fn ten_thousand_calls(rt: HostRuntime) {
     let mut world = new_world(alloc);
     let mut model = Model::new(alloc);
     let rows = draw_all(&rt, alloc, &mut model);
-    replies(&rt, &mut world, rows);
+    tells(&rt, alloc, &mut world, &rows);
     is_as_told(&rt, alloc, &mut world, &model);
+    drop_world(world);
 }
 
 /// Draws 10,000 calls, each with the model's reply.
-fn draw_all(rt: &impl Abort, alloc: Global, model: &mut Model) -> Rows {
+fn draw_all(rt: &impl Abort, alloc: Global, model: &mut Model) -> Vec<KeyRow> {
     let mut dice = Dice(1);
     let mut rows = Vec::new(alloc);
     for _ in 0..10_000 {
@@ -32,27 +34,27 @@ fn draw_all(rt: &impl Abort, alloc: Global, model: &mut Model) -> Rows {
 fn is_as_told(rt: &impl Abort, alloc: Global, world: &mut Texts, model: &Model) {
     let mut rows = Vec::new(alloc);
     for slot in 0..model.len() {
-        push(rt, &mut rows, model.reads_all(rt, slot));
+        push(rt, &mut rows, model.reads_all(slot));
         push(rt, &mut rows, model.count(slot));
     }
     for which in [Which::Counted, Which::Values, Which::Slices, Which::Symbols] {
         push(rt, &mut rows, model.len_of(which));
     }
-    replies(rt, world, rows);
+    tells(rt, alloc, world, &rows);
     assert!(rt; world.slot(model.len()).is_none());
 }
 
 /// Draws a call.
-fn draw(rt: &impl Abort, model: &mut Model, dice: &mut Dice) -> Row {
+fn draw(rt: &impl Abort, model: &mut Model, dice: &mut Dice) -> KeyRow {
     match dice.below(4) {
         0 => draw_making(rt, model, dice),
         1 => draw_counting(rt, model, dice),
-        2 => draw_reading(rt, model, dice),
+        2 => draw_reading(model, dice),
         _ => draw_telling(model, dice),
     }
 }
 
-fn draw_making(rt: &impl Abort, model: &mut Model, dice: &mut Dice) -> Row {
+fn draw_making(rt: &impl Abort, model: &mut Model, dice: &mut Dice) -> KeyRow {
     let number = draw_number(dice) as usize;
     match dice.below(9) {
         0 => model.new_counted(rt, dice.below(100)),
@@ -67,27 +69,27 @@ fn draw_making(rt: &impl Abort, model: &mut Model, dice: &mut Dice) -> Row {
     }
 }
 
-fn draw_counting(rt: &impl Abort, model: &mut Model, dice: &mut Dice) -> Row {
+fn draw_counting(rt: &impl Abort, model: &mut Model, dice: &mut Dice) -> KeyRow {
     let slot = draw_slot(model, dice);
     match dice.below(8) {
         0 => model.as_ref(rt, slot),
         1 => model.clone(rt, slot),
         2 | 3 => model.to_owned(rt, slot),
-        4 | 5 | 6 => model.release(rt, slot),
-        _ => model.decrement(rt, slot),
+        4 | 5 | 6 => model.release(slot),
+        _ => model.decrement(slot),
     }
 }
 
-fn draw_reading(rt: &impl Abort, model: &mut Model, dice: &mut Dice) -> Row {
+fn draw_reading(model: &mut Model, dice: &mut Dice) -> KeyRow {
     let slot = draw_slot(model, dice);
     match dice.below(5) {
-        0 | 1 | 2 => model.reads_all(rt, slot),
-        3 => model.reads(rt, slot, draw_key(dice), draw_part(dice)),
+        0 | 1 | 2 => model.reads_all(slot),
+        3 => model.reads(slot, draw_key(dice), draw_part(dice)),
         _ => model.same(slot, draw_slot(model, dice)),
     }
 }
 
-fn draw_telling(model: &mut Model, dice: &mut Dice) -> Row {
+fn draw_telling(model: &mut Model, dice: &mut Dice) -> KeyRow {
     let slot = draw_slot(model, dice);
     match dice.below(9) {
         0 => model.collect(),

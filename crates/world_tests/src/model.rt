@@ -1,12 +1,13 @@
 //! A model of a world in plain lists: what each call must reply, and what is left after it.
-use crate::worlds::{
-    Returned, Row, Told, collected, done, items, made, push, refused, value, word,
-};
-use intern_fixtures::{GcString, Word};
-use intern_world::{Back, Call, Kind, Reply, Slot, Which};
+use crate::rows::{Ask, Tell, Wording};
+use crate::worlds::push;
+use intern_world::{Kind, Which};
 use ra_ap_intern::Refusal;
 use std::alloc::Global;
 use std::process::Abort;
+
+/// A call with its reply, in which a key stands for its text.
+pub type KeyRow = (Ask<u64>, Tell<u64>);
 
 /// The key of the number 0's digits: those from here on are of the integers.
 pub const INTEGERS: u64 = 1_000;
@@ -43,7 +44,6 @@ struct Part {
 /// The parts of a world, and what its slots hold. A value is known by its key.
 #[derive(Drop)]
 pub struct Model {
-    alloc: Global,
     counted: Part,
     values: Part,
     slices: Part,
@@ -114,7 +114,6 @@ impl Model {
     /// A model of a new world.
     pub fn new(alloc: Global) -> Model {
         Model {
-            alloc,
             counted: Part::new(alloc),
             values: Part::new(alloc),
             slices: Part::new(alloc),
@@ -128,163 +127,149 @@ impl Model {
         self.slots.len()
     }
 
-    pub fn new_counted(&mut self, rt: &impl Abort, key: u64) -> Row {
+    pub fn new_counted(&mut self, rt: &impl Abort, key: u64) -> KeyRow {
         let (birth, was_there) = self.counted.intern(rt, key);
-        let back = if was_there {
-            Back::Counted(self.word(rt, key))
-        } else {
-            Back::Nothing
-        };
-        (
-            Call::New(self.word(rt, key)),
-            self.own(rt, Which::Counted, birth, back),
-        )
+        let slot = self.own(rt, Which::Counted, birth);
+        (Ask::New(key), made_of(slot, Which::Counted, key, was_there))
     }
 
-    pub fn new_value(&mut self, rt: &impl Abort, key: u64) -> Row {
+    pub fn new_value(&mut self, rt: &impl Abort, key: u64) -> KeyRow {
         let (birth, was_there) = self.values.intern(rt, key);
-        let back = if was_there {
-            Back::Value(self.value(rt, key))
-        } else {
-            Back::Nothing
-        };
         let slot = self.place(rt, Held::Reference(Which::Values, birth));
-        (Call::NewGc(self.value(rt, key)), Reply::Made(slot, back))
+        (
+            Ask::NewGc(key),
+            made_of(Tell::Made(slot), Which::Values, key, was_there),
+        )
     }
 
-    pub fn new_slice(&mut self, rt: &impl Abort, key: u64) -> Row {
+    pub fn new_slice(&mut self, rt: &impl Abort, key: u64) -> KeyRow {
         let (birth, was_there) = self.slices.intern(rt, key);
-        let back = if was_there {
-            Back::Header(self.text(rt, key))
-        } else {
-            Back::Nothing
-        };
         let slot = self.place(rt, Held::Reference(Which::Slices, birth));
-        let call = Call::FromHeaderAndSlice(self.text(rt, key), self.items(rt, key));
-        (call, Reply::Made(slot, back))
-    }
-
-    pub fn intern(&mut self, rt: &impl Abort, key: u64) -> Row {
-        (Call::Intern(self.text(rt, key)), self.symbol(rt, key))
-    }
-
-    pub fn integer(&mut self, rt: &impl Abort, number: usize) -> Row {
         (
-            Call::IntegerGet(number),
-            self.symbol(rt, INTEGERS.wrapping_add(number as u64)),
+            Ask::FromHeaderAndSlice(key, items_of(key)),
+            made_of(Tell::Made(slot), Which::Slices, key, was_there),
         )
     }
 
-    pub fn generated(&mut self, rt: &impl Abort, number: usize) -> Row {
-        (
-            Call::GeneratedGet(number),
-            self.symbol(rt, GENERATED.wrapping_add(number as u64)),
-        )
+    pub fn intern(&mut self, rt: &impl Abort, key: u64) -> KeyRow {
+        (Ask::Intern(key), self.symbol(rt, key))
     }
 
-    pub fn empty(&mut self, rt: &impl Abort) -> Row {
-        (Call::Empty, self.symbol(rt, EMPTY))
+    pub fn integer(&mut self, rt: &impl Abort, number: usize) -> KeyRow {
+        let key = INTEGERS.wrapping_add(number as u64);
+        (Ask::IntegerGet(number), self.symbol(rt, key))
     }
 
-    pub fn put(&mut self, rt: &impl Abort) -> Row {
-        (Call::Put(Slot::Empty), made(self.place(rt, Held::Nothing)))
+    pub fn generated(&mut self, rt: &impl Abort, number: usize) -> KeyRow {
+        let key = GENERATED.wrapping_add(number as u64);
+        (Ask::GeneratedGet(number), self.symbol(rt, key))
     }
 
-    pub fn from_raw(&mut self, rt: &impl Abort, kind: Kind, birth: u64) -> Row {
+    pub fn empty(&mut self, rt: &impl Abort) -> KeyRow {
+        (Ask::Empty, self.symbol(rt, EMPTY))
+    }
+
+    pub fn put(&mut self, rt: &impl Abort) -> KeyRow {
+        (Ask::PutEmpty, Tell::Made(self.place(rt, Held::Nothing)))
+    }
+
+    pub fn from_raw(&mut self, rt: &impl Abort, kind: Kind, birth: u64) -> KeyRow {
         let (which, is_owned) = match kind {
             Kind::Counted => (Which::Counted, true),
             Kind::CountedRef => (Which::Counted, false),
             Kind::Value => (Which::Values, true),
             Kind::ValueRef => (Which::Values, false),
         };
-        let reply = match self.get(which, birth) {
-            None => refused(Refusal::Gone),
-            Some(Entry { count: 0, .. }) if is_owned => refused(Refusal::CountZero),
-            Some(_) if is_owned => made(self.place(rt, Held::Owned(which, birth))),
-            Some(_) => made(self.place(rt, Held::Reference(which, birth))),
+        let tell = match self.get(which, birth) {
+            None => Tell::Refused(Refusal::Gone),
+            Some(Entry { count: 0, .. }) if is_owned => Tell::Refused(Refusal::CountZero),
+            Some(_) if is_owned => Tell::Made(self.place(rt, Held::Owned(which, birth))),
+            Some(_) => Tell::Made(self.place(rt, Held::Reference(which, birth))),
         };
-        (Call::FromRaw(kind, birth), reply)
+        (Ask::FromRaw(kind, birth), tell)
     }
 
-    pub fn as_ref(&mut self, rt: &impl Abort, slot: usize) -> Row {
-        let reply = match self.held(slot) {
-            Held::Owned(Which::Symbols, _) => Reply::WrongSlot,
-            Held::Owned(which, birth) => made(self.place(rt, Held::Reference(which, birth))),
-            _ => Reply::WrongSlot,
+    pub fn as_ref(&mut self, rt: &impl Abort, slot: usize) -> KeyRow {
+        let tell = match self.held(slot) {
+            Held::Owned(Which::Symbols, _) => Tell::WrongSlot,
+            Held::Owned(which, birth) => {
+                Tell::Made(self.place(rt, Held::Reference(which, birth)))
+            }
+            _ => Tell::WrongSlot,
         };
-        (Call::AsRef(slot), reply)
+        (Ask::AsRef(slot), tell)
     }
 
-    pub fn clone(&mut self, rt: &impl Abort, slot: usize) -> Row {
-        let reply = match self.held(slot) {
-            Held::Owned(which, birth) => self.own_again(rt, which, birth),
-            Held::Preset(key) => made(self.place(rt, Held::Preset(key))),
-            _ => Reply::WrongSlot,
+    pub fn clone(&mut self, rt: &impl Abort, slot: usize) -> KeyRow {
+        let tell = match self.held(slot) {
+            Held::Owned(which, birth) => self.own(rt, which, birth),
+            Held::Preset(key) => Tell::Made(self.place(rt, Held::Preset(key))),
+            _ => Tell::WrongSlot,
         };
-        (Call::Clone(slot), reply)
+        (Ask::Clone(slot), tell)
     }
 
-    pub fn to_owned(&mut self, rt: &impl Abort, slot: usize) -> Row {
-        let reply = match self.held(slot) {
-            Held::Reference(which, birth) => self.own_again(rt, which, birth),
-            _ => Reply::WrongSlot,
+    pub fn to_owned(&mut self, rt: &impl Abort, slot: usize) -> KeyRow {
+        let tell = match self.held(slot) {
+            Held::Reference(which, birth) => self.own(rt, which, birth),
+            _ => Tell::WrongSlot,
         };
-        (Call::ToOwned(slot), reply)
+        (Ask::ToOwned(slot), tell)
     }
 
-    pub fn release(&mut self, rt: &impl Abort, slot: usize) -> Row {
-        let reply = match self.held(slot) {
-            Held::Owned(which, birth) => self.release_of(rt, which, birth),
-            Held::Preset(_) => done(),
-            _ => Reply::WrongSlot,
+    pub fn release(&mut self, slot: usize) -> KeyRow {
+        let tell = match self.held(slot) {
+            Held::Owned(which, birth) => self.release_of(which, birth),
+            Held::Preset(_) => Tell::Done,
+            _ => Tell::WrongSlot,
         };
-        if let (Reply::Done(_), Some(held)) = (&reply, self.slots.get_mut(slot)) {
+        if let (Tell::Done | Tell::Freed(_, _), Some(held)) = (tell, self.slots.get_mut(slot)) {
             *held = Held::Nothing;
         }
-        (Call::Release(slot), reply)
+        (Ask::Release(slot), tell)
     }
 
-    pub fn decrement(&mut self, rt: &impl Abort, slot: usize) -> Row {
-        let reply = match self.held(slot) {
+    pub fn decrement(&mut self, slot: usize) -> KeyRow {
+        let tell = match self.held(slot) {
             Held::Reference(which, birth) => self.count_down(which, birth),
-            Held::Owned(Which::Symbols, birth) => self.release_of(rt, Which::Symbols, birth),
-            Held::Preset(_) => done(),
-            _ => Reply::WrongSlot,
+            Held::Owned(Which::Symbols, birth) => self.release_of(Which::Symbols, birth),
+            Held::Preset(_) => Tell::Done,
+            _ => Tell::WrongSlot,
         };
-        (Call::Decrement(slot), reply)
+        (Ask::Decrement(slot), tell)
     }
 
-    pub fn as_raw(&self, slot: usize) -> Row {
-        let reply = match self.held(slot) {
-            Held::Reference(Which::Counted | Which::Values, birth) => Reply::Number(birth),
-            _ => Reply::WrongSlot,
+    pub fn as_raw(&self, slot: usize) -> KeyRow {
+        let tell = match self.held(slot) {
+            Held::Reference(Which::Counted | Which::Values, birth) => Tell::Number(birth),
+            _ => Tell::WrongSlot,
         };
-        (Call::AsRaw(slot), reply)
+        (Ask::AsRaw(slot), tell)
     }
 
-    pub fn reads(&self, rt: &impl Abort, slot: usize, key: u64, which: Which) -> Row {
-        let call = match which {
-            Which::Counted => Call::ReadsCounted(slot, self.word(rt, key)),
-            Which::Values => Call::ReadsValue(slot, self.value(rt, key)),
-            Which::Slices => Call::ReadsSlice(slot, self.text(rt, key), self.items(rt, key)),
-            Which::Symbols => Call::ReadsText(slot, self.text(rt, key)),
+    pub fn reads(&self, slot: usize, key: u64, which: Which) -> KeyRow {
+        let ask = match which {
+            Which::Counted => Ask::ReadsCounted(slot, key),
+            Which::Values => Ask::ReadsValue(slot, key),
+            Which::Slices => Ask::ReadsSlice(slot, key, items_of(key)),
+            Which::Symbols => Ask::ReadsText(slot, key),
         };
-        let reply = if self.part_of(slot) == Some(which) {
-            Reply::Read(self.key_at(slot).map(|found| found == key))
+        let tell = if self.part_of(slot) == Some(which) {
+            Tell::Read(self.key_at(slot).map(|found| found == key))
         } else {
-            Reply::WrongSlot
+            Tell::WrongSlot
         };
-        (call, reply)
+        (ask, tell)
     }
 
     /// The call that asks whether a slot reads what the model has there.
-    pub fn reads_all(&self, rt: &impl Abort, slot: usize) -> Row {
+    pub fn reads_all(&self, slot: usize) -> KeyRow {
         let which = self.part_of(slot).unwrap_or(Which::Counted);
         let key = self.key_at(slot).unwrap_or(0);
-        self.reads(rt, slot, key, which)
+        self.reads(slot, key, which)
     }
 
-    pub fn same(&self, n: usize, m: usize) -> Row {
+    pub fn same(&self, n: usize, m: usize) -> KeyRow {
         let is_same = match (self.held(n), self.held(m)) {
             (Held::Owned(a, birth), Held::Owned(b, other)) if a == b => Some(birth == other),
             (Held::Reference(a, birth), Held::Reference(b, other)) if a == b => {
@@ -295,70 +280,52 @@ impl Model {
             | (Held::Preset(_), Held::Owned(Which::Symbols, _)) => Some(false),
             _ => None,
         };
-        let reply = match is_same {
-            Some(is_same) => Reply::Truth(is_same),
-            None => Reply::WrongSlot,
+        let tell = match is_same {
+            Some(is_same) => Tell::Truth(is_same),
+            None => Tell::WrongSlot,
         };
-        (Call::Same(n, m), reply)
+        (Ask::Same(n, m), tell)
     }
 
-    pub fn count(&self, slot: usize) -> Row {
-        let reply = match self.held(slot) {
+    pub fn count(&self, slot: usize) -> KeyRow {
+        let tell = match self.held(slot) {
             Held::Owned(which, birth) | Held::Reference(which, birth) => {
-                Reply::Count(self.get(which, birth).map(|entry| entry.count))
+                Tell::Count(self.get(which, birth).map(|entry| entry.count))
             }
-            Held::Preset(_) => Reply::Count(None),
-            Held::Nothing => Reply::WrongSlot,
+            Held::Preset(_) => Tell::Count(None),
+            Held::Nothing => Tell::WrongSlot,
         };
-        (Call::Count(slot), reply)
+        (Ask::Count(slot), tell)
     }
 
-    pub fn len_of(&self, which: Which) -> Row {
+    pub fn len_of(&self, which: Which) -> KeyRow {
         let len = match which {
             Which::Counted => self.counted.len(),
             Which::Values => self.values.len(),
             Which::Slices => self.slices.len(),
             Which::Symbols => self.texts.len(),
         };
-        (Call::Len(which), Reply::Number(len as u64))
+        (Ask::Len(which), Tell::Number(len as u64))
     }
 
-    pub fn uint(&self, slot: usize) -> Row {
-        let reply = match self.part_of(slot) {
-            Some(Which::Symbols) => Reply::Uint(self.key_at(slot).and_then(number_of)),
-            _ => Reply::WrongSlot,
+    pub fn uint(&self, slot: usize) -> KeyRow {
+        let tell = match self.part_of(slot) {
+            Some(Which::Symbols) => Tell::Uint(self.key_at(slot).and_then(number_of)),
+            _ => Tell::WrongSlot,
         };
-        (Call::AsUint(slot), reply)
+        (Ask::AsUint(slot), tell)
     }
 
-    pub fn collect(&mut self) -> Row {
+    pub fn collect(&mut self) -> KeyRow {
         let (values, no_values) = self.values.collect();
         let (slices, no_slices) = self.slices.collect();
         let visits = values.saturating_add(slices);
         let removed = no_values.saturating_add(no_slices);
-        (Call::Collect, collected(visits, 0, removed))
+        (Ask::Collect, Tell::Collected(visits, 0, removed))
     }
 }
 
 impl Model {
-    fn word(&self, rt: &impl Abort, key: u64) -> Word {
-        word(rt, self.alloc, self.text(rt, key).as_str())
-    }
-
-    fn value(&self, rt: &impl Abort, key: u64) -> GcString {
-        value(rt, self.alloc, self.text(rt, key).as_str())
-    }
-
-    fn text(&self, rt: &impl Abort, key: u64) -> String {
-        text_of(rt, self.alloc, key)
-    }
-
-    /// The items behind the header of a key.
-    fn items(&self, rt: &impl Abort, key: u64) -> Vec<u32> {
-        let item = (key % 3) as u32;
-        items(rt, self.alloc, &[item, item])
-    }
-
     /// What a slot holds. One that isn't there holds nothing.
     fn held(&self, slot: usize) -> Held {
         match self.slots.get(slot) {
@@ -413,57 +380,76 @@ impl Model {
     }
 
     /// Puts the symbol of a key into a new slot.
-    fn symbol(&mut self, rt: &impl Abort, key: u64) -> Told {
+    fn symbol(&mut self, rt: &impl Abort, key: u64) -> Tell<u64> {
         if is_preset(key) {
-            made(self.place(rt, Held::Preset(key)))
+            Tell::Made(self.place(rt, Held::Preset(key)))
         } else {
             let (birth, _) = self.texts.intern(rt, key);
-            self.own_again(rt, Which::Symbols, birth)
+            self.own(rt, Which::Symbols, birth)
         }
     }
 
     /// Counts an entry once more, for a handle in a new slot.
-    fn own(&mut self, rt: &impl Abort, which: Which, birth: u64, back: Returned) -> Told {
+    fn own(&mut self, rt: &impl Abort, which: Which, birth: u64) -> Tell<u64> {
         match self.get(which, birth) {
-            None => refused(Refusal::Gone),
+            None => Tell::Refused(Refusal::Gone),
             Some(Entry { key, count }) => {
                 let count = count.saturating_add(1);
                 self.set(which, birth, Some(Entry { key, count }));
-                Reply::Made(self.place(rt, Held::Owned(which, birth)), back)
+                Tell::Made(self.place(rt, Held::Owned(which, birth)))
             }
         }
     }
 
-    fn own_again(&mut self, rt: &impl Abort, which: Which, birth: u64) -> Told {
-        self.own(rt, which, birth, Back::Nothing)
-    }
-
     /// Counts an entry once less.
-    fn count_down(&mut self, which: Which, birth: u64) -> Told {
+    fn count_down(&mut self, which: Which, birth: u64) -> Tell<u64> {
         match self.get(which, birth) {
-            None => refused(Refusal::Gone),
-            Some(Entry { count: 0, .. }) => refused(Refusal::CountZero),
+            None => Tell::Refused(Refusal::Gone),
+            Some(Entry { count: 0, .. }) => Tell::Refused(Refusal::CountZero),
             Some(Entry { key, count }) => {
                 let count = count.saturating_sub(1);
                 self.set(which, birth, Some(Entry { key, count }));
-                done()
+                Tell::Done
             }
         }
     }
 
     /// Counts an entry once less. One that isn't collected goes with its last count.
-    fn release_of(&mut self, rt: &impl Abort, which: Which, birth: u64) -> Told {
+    fn release_of(&mut self, which: Which, birth: u64) -> Tell<u64> {
         match (which, self.get(which, birth)) {
             (Which::Counted, Some(Entry { key, count: 1 })) => {
                 self.set(which, birth, None);
-                Reply::Done(Back::Counted(self.word(rt, key)))
+                Tell::Freed(which, key)
             }
             (Which::Symbols, Some(Entry { count: 1, .. })) => {
                 self.set(which, birth, None);
-                done()
+                Tell::Done
             }
             _ => self.count_down(which, birth),
         }
+    }
+}
+
+/// The reply of an interning that put a handle into a slot: what it took comes back if it was there.
+fn made_of(made: Tell<u64>, which: Which, key: u64, was_there: bool) -> Tell<u64> {
+    match made {
+        Tell::Made(slot) if was_there => Tell::MadeAgain(slot, which, key),
+        _ => made,
+    }
+}
+
+/// The items behind the header of a key.
+fn items_of(key: u64) -> &'static [u32] {
+    match key % 3 {
+        0 => &[0, 0],
+        1 => &[1, 1],
+        _ => &[2, 2],
+    }
+}
+
+impl Wording for u64 {
+    fn text(&self, rt: &impl Abort, alloc: Global) -> String {
+        text_of(rt, alloc, *self)
     }
 }
 

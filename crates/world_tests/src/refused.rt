@@ -1,10 +1,10 @@
 //! Runs that go on after a refusal, in worlds in which counts go to one, and each part gives two
 //! births. After each refusal a call shows that nothing has changed.
-use crate::rows::{Ask, Tell, small_tells};
+use crate::rows::{Ask, Row, Tell, small_tells};
 use intern_world::{Kind, Which};
 use ra_ap_intern::Refusal;
 
-const COUNTED_VALUES_ARE_REFUSED: [(Ask, Tell); 15] = [
+const COUNTED_VALUES_ARE_REFUSED: [Row; 15] = [
     (Ask::New("x"), Tell::Made(0)),
     (
         Ask::New("x"),
@@ -40,7 +40,7 @@ fn counted_values_are_refused(rt: HostRuntime) {
     small_tells(&rt, alloc, &COUNTED_VALUES_ARE_REFUSED);
 }
 
-const COLLECTED_VALUES_ARE_REFUSED: [(Ask, Tell); 15] = [
+const COLLECTED_VALUES_ARE_REFUSED: [Row; 15] = [
     (Ask::NewGc("x"), Tell::Made(0)),
     (Ask::Decrement(0), Tell::Refused(Refusal::CountZero)),
     (
@@ -73,11 +73,11 @@ fn collected_values_are_refused(rt: HostRuntime) {
     small_tells(&rt, alloc, &COLLECTED_VALUES_ARE_REFUSED);
 }
 
-const SLICES_ARE_REFUSED: [(Ask, Tell); 11] = [
-    (Ask::FromHeaderAndSlice("x", 1), Tell::Made(0)),
-    (Ask::FromHeaderAndSlice("y", 1), Tell::Made(1)),
+const SLICES_ARE_REFUSED: [Row; 11] = [
+    (Ask::FromHeaderAndSlice("x", &[1]), Tell::Made(0)),
+    (Ask::FromHeaderAndSlice("y", &[1]), Tell::Made(1)),
     (
-        Ask::FromHeaderAndSlice("z", 1),
+        Ask::FromHeaderAndSlice("z", &[1]),
         Tell::GivenBack(Refusal::NumbersUsedUp, Which::Slices, "z"),
     ),
     (Ask::Len(Which::Slices), Tell::Number(2)),
@@ -88,7 +88,7 @@ const SLICES_ARE_REFUSED: [(Ask, Tell); 11] = [
     (Ask::Count(2), Tell::Count(Some(1))),
     (Ask::Count(1), Tell::Count(Some(0))),
     (
-        Ask::FromHeaderAndSlice("y", 1),
+        Ask::FromHeaderAndSlice("y", &[1]),
         Tell::MadeAgain(3, Which::Slices, "y"),
     ),
 ];
@@ -99,7 +99,7 @@ fn slices_are_refused(rt: HostRuntime) {
     small_tells(&rt, alloc, &SLICES_ARE_REFUSED);
 }
 
-const TEXTS_ARE_REFUSED: [(Ask, Tell); 14] = [
+const TEXTS_ARE_REFUSED: [Row; 14] = [
     (Ask::Intern("hello"), Tell::Made(0)),
     (Ask::Intern("hello"), Tell::Refused(Refusal::CountFull)),
     (Ask::Count(0), Tell::Count(Some(1))),
@@ -122,7 +122,7 @@ fn texts_are_refused(rt: HostRuntime) {
     small_tells(&rt, alloc, &TEXTS_ARE_REFUSED);
 }
 
-const GENERATED_NAMES_ARE_REFUSED: [(Ask, Tell); 10] = [
+const GENERATED_NAMES_ARE_REFUSED: [Row; 10] = [
     (Ask::GeneratedGet(256), Tell::Made(0)),
     (Ask::GeneratedGet(256), Tell::Refused(Refusal::CountFull)),
     (Ask::Count(0), Tell::Count(Some(1))),

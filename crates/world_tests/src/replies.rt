@@ -1,10 +1,10 @@
 //! Runs with their replies.
-use crate::rows::{Ask, Tell, tells, tells_anew};
-use crate::worlds::{collected, is_told, new_world};
+use crate::rows::{Ask, Row, Tell, tells, tells_anew};
+use crate::worlds::{collected, drop_world, is_told, new_world};
 use intern_world::{Reply, Which};
 use ra_ap_intern::Refusal;
 
-const HANDLES_OF_ONE_VALUE: [(Ask, Tell); 8] = [
+const HANDLES_OF_ONE_VALUE: [Row; 8] = [
     (Ask::New("x"), Tell::Made(0)),
     (Ask::AsRef(0), Tell::Made(1)),
     (Ask::New("x"), Tell::MadeAgain(2, Which::Counted, "x")),
@@ -21,7 +21,7 @@ fn handles_of_one_value(rt: HostRuntime) {
     tells_anew(&rt, alloc, &HANDLES_OF_ONE_VALUE);
 }
 
-const A_COLLECTION_IN_A_RUN: [(Ask, Tell); 10] = [
+const A_COLLECTION_IN_A_RUN: [Row; 10] = [
     (Ask::NewGc("a"), Tell::Made(0)),
     (Ask::ToOwned(0), Tell::Made(1)),
     (Ask::NewGc("b"), Tell::Made(2)),
@@ -40,7 +40,7 @@ fn a_collection_in_a_run(rt: HostRuntime) {
     tells_anew(&rt, alloc, &A_COLLECTION_IN_A_RUN);
 }
 
-const PRESETS_IN_A_RUN: [(Ask, Tell); 8] = [
+const PRESETS_IN_A_RUN: [Row; 8] = [
     (Ask::IntegerGet(255), Tell::Made(0)),
     (Ask::Intern("255"), Tell::Made(1)),
     (Ask::Same(0, 1), Tell::Truth(true)),
@@ -57,8 +57,8 @@ fn presets_in_a_run(rt: HostRuntime) {
     tells_anew(&rt, alloc, &PRESETS_IN_A_RUN);
 }
 
-const A_SLICE_AND_THREE_TEXTS: [(Ask, Tell); 6] = [
-    (Ask::FromHeaderAndSlice("a", 1), Tell::Made(0)),
+const A_SLICE_AND_THREE_TEXTS: [Row; 6] = [
+    (Ask::FromHeaderAndSlice("a", &[1]), Tell::Made(0)),
     (Ask::Intern("hello"), Tell::Made(1)),
     (Ask::IntegerGet(256), Tell::Made(2)),
     (Ask::GeneratedGet(256), Tell::Made(3)),
@@ -92,4 +92,5 @@ fn a_collection_keeps_what_slots_name(rt: HostRuntime) {
     tells(&rt, alloc, &mut world, &gone);
     is_told(&rt, &world.collect_keeping(&[7]), &Reply::WrongSlot);
     is_told(&rt, &world.collect_keeping(&[]), &collected(0, 0, 1));
+    drop_world(world);
 }

@@ -1,10 +1,10 @@
 //! Handles of entries without a count: what would lower one, or take one over, is refused, and the
 //! run goes on. After each refusal a call shows that nothing has changed.
-use crate::rows::{Ask, Tell, tells_anew};
+use crate::rows::{Ask, Row, Tell, tells_anew};
 use intern_world::{Kind, Which};
 use ra_ap_intern::Refusal;
 
-const A_COUNTED_VALUE: [(Ask, Tell); 12] = [
+const A_COUNTED_VALUE: [Row; 12] = [
     (Ask::New("x"), Tell::Made(0)),
     (Ask::AsRef(0), Tell::Made(1)),
     (Ask::Decrement(1), Tell::Done),
@@ -28,7 +28,7 @@ fn a_counted_value(rt: HostRuntime) {
     tells_anew(&rt, alloc, &A_COUNTED_VALUE);
 }
 
-const A_COLLECTED_VALUE: [(Ask, Tell); 12] = [
+const A_COLLECTED_VALUE: [Row; 12] = [
     (Ask::NewGc("x"), Tell::Made(0)),
     (Ask::ToOwned(0), Tell::Made(1)),
     (Ask::Decrement(0), Tell::Done),
@@ -52,14 +52,14 @@ fn a_collected_value(rt: HostRuntime) {
     tells_anew(&rt, alloc, &A_COLLECTED_VALUE);
 }
 
-const A_SLICE: [(Ask, Tell); 11] = [
-    (Ask::FromHeaderAndSlice("x", 1), Tell::Made(0)),
+const A_SLICE: [Row; 11] = [
+    (Ask::FromHeaderAndSlice("x", &[1]), Tell::Made(0)),
     (Ask::ToOwned(0), Tell::Made(1)),
     (Ask::Decrement(0), Tell::Done),
     (Ask::Decrement(0), Tell::Refused(Refusal::CountZero)),
     (Ask::Count(0), Tell::Count(Some(0))),
     (Ask::Release(1), Tell::Refused(Refusal::CountZero)),
-    (Ask::ReadsSlice(1, "x", 1), Tell::Read(Some(true))),
+    (Ask::ReadsSlice(1, "x", &[1]), Tell::Read(Some(true))),
     (Ask::Len(Which::Slices), Tell::Number(1)),
     (Ask::ToOwned(0), Tell::Made(2)),
     (Ask::Count(0), Tell::Count(Some(1))),

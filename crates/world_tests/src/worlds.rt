@@ -13,11 +13,6 @@ pub type Told = Reply<Word, GcString, String>;
 
 pub type Returned = Back<Word, GcString, String>;
 
-/// A call with the reply that it must get.
-pub type Row = (Asked, Told);
-
-pub type Rows = Vec<Row>;
-
 /// The numbers of the worlds of these tests.
 pub const NUMBERS: Numbers = Numbers {
     counted: 1,
@@ -35,6 +30,9 @@ pub fn new_world(alloc: Global) -> Texts {
 pub fn small_world(alloc: Global) -> Texts {
     World::with_limits(alloc, NUMBERS, Limits { top: 1, numbers: 2 })
 }
+
+/// Drops a world. A test that does it itself is proved for longer.
+pub fn drop_world(_world: Texts) {}
 
 /// Adds a value at the end of a list.
 pub fn push<V: Drop>(rt: &impl Abort, list: &mut Vec<V>, value: V) {
@@ -82,15 +80,8 @@ pub fn collected(visits: usize, mark_calls: u64, removed: usize) -> Told {
     })
 }
 
-/// Makes the calls in one run, which gives the replies beside them.
-pub fn replies(rt: &impl Abort, world: &mut Texts, rows: Rows) {
-    let alloc = *rows.allocator();
-    let mut calls = Vec::new(alloc);
-    let mut expected = Vec::new(alloc);
-    for (call, reply) in rows {
-        push(rt, &mut calls, call);
-        push(rt, &mut expected, reply);
-    }
+/// Makes the calls in one run, which gives these replies.
+pub fn replies(rt: &impl Abort, world: &mut Texts, calls: Vec<Asked>, expected: &[Told]) {
     let told = run(world, calls).ok().expect(rt, "memory");
     assert_eq!(rt; told.len(), expected.len());
     for (i, (reply, wanted)) in told.iter().zip(expected.iter()).enumerate() {

@@ -1,7 +1,6 @@
 //! Each call that takes a slot, on each kind of slots.
-use crate::worlds::{
-    Asked, Texts, Told, items, made, new_world, replies, reply_to, text, value, word,
-};
+use crate::rows::{Ask, Row, Tell, call_of, tells};
+use crate::worlds::{Texts, drop_world, new_world, reply_to};
 use intern_world::{Call, Reply, Slot, Which};
 use std::alloc::Global;
 use std::process::Abort;
@@ -95,6 +94,7 @@ fn two_slots_are_compared_where_they_are_of_one_kind(rt: &impl Abort, alloc: Glo
         }
     }
     is_as_made(rt, alloc, &mut world);
+    drop_world(world);
 }
 
 /// A slot that holds a handle is as itself, and can be compared with no other of eight.
@@ -117,6 +117,7 @@ fn collections_begin_at_what_is_collected(rt: &impl Abort, alloc: Global) {
         assert_eq!(rt; !matches!(&reply, Reply::WrongSlot), is_root, "slot {slot}");
     }
     is_as_made(rt, alloc, &mut world);
+    drop_world(world);
 }
 
 /// The call takes these slots of eight, and on any other changes nothing.
@@ -130,49 +131,53 @@ fn takes(rt: &impl Abort, alloc: Global, call: Taking, slots: &[usize]) {
 /// Whether the call takes this slot of eight. Where it doesn't, it changes nothing.
 fn does_take(rt: &impl Abort, alloc: Global, call: Taking, slot: usize) -> bool {
     let mut world = eight_slots(rt, alloc);
-    let reply = reply_to(rt, alloc, &mut world, call_on(rt, alloc, call, slot));
+    let reply = reply_to(
+        rt,
+        alloc,
+        &mut world,
+        call_of(rt, alloc, &ask_on(call, slot)),
+    );
     let is_wrong = matches!(&reply, Reply::WrongSlot);
     if is_wrong {
         is_as_made(rt, alloc, &mut world);
     }
+    drop_world(world);
     !is_wrong
 }
 
 /// The call on a slot.
-fn call_on(rt: &impl Abort, alloc: Global, call: Taking, slot: usize) -> Asked {
+fn ask_on(call: Taking, slot: usize) -> Ask<&'static str> {
     match call {
-        Taking::AsRef => Call::AsRef(slot),
-        Taking::Clone => Call::Clone(slot),
-        Taking::ToOwned => Call::ToOwned(slot),
-        Taking::Release => Call::Release(slot),
-        Taking::Decrement => Call::Decrement(slot),
-        Taking::AsRaw => Call::AsRaw(slot),
-        Taking::ReadsCounted => Call::ReadsCounted(slot, word(rt, alloc, "x")),
-        Taking::ReadsValue => Call::ReadsValue(slot, value(rt, alloc, "x")),
-        Taking::ReadsSlice => {
-            Call::ReadsSlice(slot, text(rt, alloc, "x"), items(rt, alloc, &[1]))
-        }
-        Taking::ReadsText => Call::ReadsText(slot, text(rt, alloc, "x")),
-        Taking::Count => Call::Count(slot),
-        Taking::AsUint => Call::AsUint(slot),
+        Taking::AsRef => Ask::AsRef(slot),
+        Taking::Clone => Ask::Clone(slot),
+        Taking::ToOwned => Ask::ToOwned(slot),
+        Taking::Release => Ask::Release(slot),
+        Taking::Decrement => Ask::Decrement(slot),
+        Taking::AsRaw => Ask::AsRaw(slot),
+        Taking::ReadsCounted => Ask::ReadsCounted(slot, "x"),
+        Taking::ReadsValue => Ask::ReadsValue(slot, "x"),
+        Taking::ReadsSlice => Ask::ReadsSlice(slot, "x", &[1]),
+        Taking::ReadsText => Ask::ReadsText(slot, "x"),
+        Taking::Count => Ask::Count(slot),
+        Taking::AsUint => Ask::AsUint(slot),
     }
 }
+
+const EIGHT_SLOTS: [Row; 8] = [
+    (Ask::PutEmpty, Tell::Made(EMPTY)),
+    (Ask::New("x"), Tell::Made(COUNTED)),
+    (Ask::AsRef(COUNTED), Tell::Made(COUNTED_REF)),
+    (Ask::NewGc("x"), Tell::Made(VALUE_REF)),
+    (Ask::ToOwned(VALUE_REF), Tell::Made(VALUE)),
+    (Ask::FromHeaderAndSlice("x", &[1]), Tell::Made(SLICE_REF)),
+    (Ask::ToOwned(SLICE_REF), Tell::Made(SLICE)),
+    (Ask::Intern("x"), Tell::Made(SYMBOL)),
+];
 
 /// A world with a slot of each kind, where each part has an entry, counted once.
 fn eight_slots(rt: &impl Abort, alloc: Global) -> Texts {
     let mut world = new_world(alloc);
-    let slice = Call::FromHeaderAndSlice(text(rt, alloc, "x"), items(rt, alloc, &[1]));
-    let rows = vec![in alloc;
-        (Call::Put(Slot::Empty), made(EMPTY)),
-        (Call::New(word(rt, alloc, "x")), made(COUNTED)),
-        (Call::AsRef(COUNTED), made(COUNTED_REF)),
-        (Call::NewGc(value(rt, alloc, "x")), made(VALUE_REF)),
-        (Call::ToOwned(VALUE_REF), made(VALUE)),
-        (slice, made(SLICE_REF)),
-        (Call::ToOwned(SLICE_REF), made(SLICE)),
-        (Call::Intern(text(rt, alloc, "x")), made(SYMBOL)),
-    ];
-    replies(rt, &mut world, rows.expect(rt, "memory"));
+    tells(rt, alloc, &mut world, &EIGHT_SLOTS);
     world
 }
 

@@ -97,18 +97,23 @@ impl Grove {
     /// A family of so many nodes and so many branches.
     pub(crate) fn make(alloc: Global, nodes: usize, branches: usize) -> Result<Grove, Fault> {
         let mut grove = Grove {
-            storages: make_storages(alloc),
             nodes: room(alloc, nodes)?,
             branches: room(alloc, branches)?,
             listed: room(alloc, nodes)?,
+            storages: make_storages(alloc),
         };
+        grove.fill(nodes, branches)?;
+        Ok(grove)
+    }
+
+    fn fill(&mut self, nodes: usize, branches: usize) -> Result<(), Fault> {
         for number in 0..nodes {
-            grove.add_node(number)?;
+            self.add_node(number)?;
         }
         for number in 0..branches {
-            grove.add_branch(number)?;
+            self.add_branch(number)?;
         }
-        Ok(grove)
+        Ok(())
     }
 
     /// How many entries were stored.
@@ -190,13 +195,26 @@ impl Grove {
     /// Fails unless the family has exactly the entries that are left, as they were stored.
     pub(crate) fn check(&self, left: Left) -> Result<(), Fault> {
         self.check_lengths(left)?;
+        self.check_nodes(left)?;
+        self.check_branches(left)
+    }
+
+    fn check_nodes(&self, left: Left) -> Result<(), Fault> {
         for (reference, number) in self.nodes.iter().zip(0..) {
-            let is_right = self.shows_node(*reference, number, left.has_node(number))?;
-            ensure(is_right, "a node of a family is wrong")?;
+            ensure(
+                self.shows_node(*reference, number, left.has_node(number)),
+                "a node of a family is wrong",
+            )?;
         }
+        Ok(())
+    }
+
+    fn check_branches(&self, left: Left) -> Result<(), Fault> {
         for (reference, number) in self.branches.iter().zip(0..) {
-            let is_right = self.shows_branch(*reference, number, left.has_branch(number))?;
-            ensure(is_right, "a slice of a family is wrong")?;
+            ensure(
+                self.shows_branch(*reference, number, left.has_branch(number)),
+                "a slice of a family is wrong",
+            )?;
         }
         Ok(())
     }
@@ -212,21 +230,14 @@ impl Grove {
     }
 
     // Whether a node is found, read and counted as it was stored, or not at all where it is gone.
-    fn shows_node(
-        &self,
-        reference: InternedRef<Node>,
-        number: usize,
-        is_left: bool,
-    ) -> Result<bool, Fault> {
+    fn shows_node(&self, reference: InternedRef<Node>, number: usize, is_left: bool) -> bool {
         let node = self.node(number);
         let nodes = &self.storages.first.second;
         let count = u64::from(owns_node(number));
-        Ok(
-            reference.as_raw() == number as u64
-                && nodes.get(&node) == is_left.then_some(reference)
-                && reference.get(nodes) == is_left.then_some(&node)
-                && nodes.count(reference) == is_left.then_some(count),
-        )
+        reference.as_raw() == number as u64
+            && nodes.get(&node) == is_left.then_some(reference)
+            && reference.get(nodes) == is_left.then_some(&node)
+            && nodes.count(reference) == is_left.then_some(count)
     }
 
     // The same for a branch.
@@ -235,22 +246,25 @@ impl Grove {
         reference: InternedSliceRef<Branch>,
         number: usize,
         is_left: bool,
-    ) -> Result<bool, Fault> {
+    ) -> bool {
         let header = self.header(number);
         let items = items_of(number);
         let branches = &self.storages.second;
         let count = u64::from(owns_branch(number));
-        Ok(
-            reference.name().birth == number as u64
-                && branches.get(&header, items) == is_left.then_some(reference)
-                && reads(reference.get(branches), &header, items) == is_left
-                && branches.count(reference) == is_left.then_some(count),
-        )
+        reference.name().birth == number as u64
+            && branches.get(&header, items) == is_left.then_some(reference)
+            && reads(reference.get(branches), &header, items) == is_left
+            && branches.count(reference) == is_left.then_some(count)
     }
 
     /// Interns all that was stored once more. What is left keeps its birth, and the rest gets the
     /// births that follow.
     pub(crate) fn store_again(&mut self, left: Left) -> Result<(), Fault> {
+        self.store_nodes_again(left)?;
+        self.store_branches_again(left)
+    }
+
+    fn store_nodes_again(&mut self, left: Left) -> Result<(), Fault> {
         let mut next = self.nodes.len();
         for number in 0..self.nodes.len() {
             let is_left = left.has_node(number);
@@ -261,6 +275,10 @@ impl Grove {
                 "a node has another birth after a collection",
             )?;
         }
+        Ok(())
+    }
+
+    fn store_branches_again(&mut self, left: Left) -> Result<(), Fault> {
         let mut next = self.branches.len();
         for number in 0..self.branches.len() {
             let is_left = left.has_branch(number);

@@ -3,7 +3,7 @@ use super::TestWorld;
 use crate::collections::node::{Branch, Node, items_of};
 use crate::values::text_of;
 use intern_world::{Back, Call, Slot};
-use ra_ap_intern::{HeaderSlice, Text, sym};
+use ra_ap_intern::{HeaderSlice, InternSliceStorage, InternStorage, SymbolTable, Text, sym};
 use std::alloc::{AllocError, Global};
 
 /// How many nodes a world has before all others.
@@ -69,11 +69,10 @@ pub(crate) struct Input {
 
 impl Input {
     fn try_make(alloc: Global, number: usize) -> Result<Input, AllocError> {
-        let generated = format!(in alloc; "<ra@gennew>{}", large(number))?;
         Ok(Input {
             number,
+            generated: generated_of(alloc, number)?,
             text: text_of(alloc, number as u64)?,
-            generated: Text::new(alloc, generated.as_str())?,
         })
     }
 
@@ -147,29 +146,29 @@ impl Input {
         is_gone: bool,
     ) -> bool {
         match kind {
-            CallKind::New => self.is_text_in(slot, world),
-            CallKind::NewGc => self.is_node_in(slot, world, is_gone),
-            CallKind::FromHeaderAndSlice => self.is_branch_in(slot, world, is_gone),
-            CallKind::Intern => is_symbol_in(slot, world, &self.text),
-            CallKind::IntegerGet => self.is_integer_in(slot, world),
-            CallKind::GeneratedGet => is_symbol_in(slot, world, &self.generated),
+            CallKind::New => self.is_text_in(slot, world.counted()),
+            CallKind::NewGc => self.is_node_in(slot, world.values(), is_gone),
+            CallKind::FromHeaderAndSlice => self.is_branch_in(slot, world.slices(), is_gone),
+            CallKind::Intern => is_symbol_in(slot, world.table(), &self.text),
+            CallKind::IntegerGet => self.is_integer_in(slot, world.table()),
+            CallKind::GeneratedGet => is_symbol_in(slot, world.table(), &self.generated),
             CallKind::Collect => false,
         }
     }
 
-    fn is_text_in(&self, slot: &Slot<Text, Node, Branch>, world: &TestWorld) -> bool {
+    fn is_text_in(&self, slot: &Slot<Text, Node, Branch>, texts: &InternStorage<Text>) -> bool {
         let Slot::Counted(handle) = slot else {
             return false;
         };
         handle.as_ref().as_raw() == self.number as u64
-            && handle.get(world.counted()) == Some(&self.text)
-            && world.counted().count(handle.as_ref()) == Some(1)
+            && handle.get(texts) == Some(&self.text)
+            && texts.count(handle.as_ref()) == Some(1)
     }
 
     fn is_node_in(
         &self,
         slot: &Slot<Text, Node, Branch>,
-        world: &TestWorld,
+        nodes: &InternStorage<Node>,
         is_gone: bool,
     ) -> bool {
         let Slot::ValueRef(reference) = slot else {
@@ -177,30 +176,30 @@ impl Input {
         };
         let node = self.node();
         reference.as_raw() == self.number.saturating_add(FOUNDERS) as u64
-            && reference.get(world.values()) == (!is_gone).then_some(&node)
-            && world.values().count(*reference) == (!is_gone).then_some(0)
+            && reference.get(nodes) == (!is_gone).then_some(&node)
+            && nodes.count(*reference) == (!is_gone).then_some(0)
     }
 
     fn is_branch_in(
         &self,
         slot: &Slot<Text, Node, Branch>,
-        world: &TestWorld,
+        branches: &InternSliceStorage<Branch>,
         is_gone: bool,
     ) -> bool {
         let Slot::SliceRef(reference) = slot else {
             return false;
         };
         reference.name().birth == self.number as u64
-            && self.is_read(reference.get(world.slices())) == !is_gone
-            && world.slices().count(*reference) == (!is_gone).then_some(0)
+            && self.is_read(reference.get(branches)) == !is_gone
+            && branches.count(*reference) == (!is_gone).then_some(0)
     }
 
-    fn is_integer_in(&self, slot: &Slot<Text, Node, Branch>, world: &TestWorld) -> bool {
+    fn is_integer_in(&self, slot: &Slot<Text, Node, Branch>, table: &SymbolTable) -> bool {
         let Slot::Symbol(symbol) = slot else {
             return false;
         };
-        sym::Integer::as_uint(symbol, world.table()) == Some(large(self.number))
-            && world.table().count(symbol) == Some(1)
+        sym::Integer::as_uint(symbol, table) == Some(large(self.number))
+            && table.count(symbol) == Some(1)
     }
 
     fn is_read(&self, read: Option<HeaderSlice<'_, Node, u64>>) -> bool {
@@ -211,15 +210,21 @@ impl Input {
     }
 }
 
+// The text of the generated name of a number.
+fn generated_of(alloc: Global, number: usize) -> Result<Text, AllocError> {
+    let text = format!(in alloc; "<ra@gennew>{}", large(number))?;
+    Text::new(alloc, text.as_str())
+}
+
 // The number whose texts are stored. Those of numbers up to 255 are presets.
 fn large(number: usize) -> usize {
     number.saturating_add(256)
 }
 
 // Whether a slot holds the only symbol of this text.
-fn is_symbol_in(slot: &Slot<Text, Node, Branch>, world: &TestWorld, text: &Text) -> bool {
+fn is_symbol_in(slot: &Slot<Text, Node, Branch>, table: &SymbolTable, text: &Text) -> bool {
     let Slot::Symbol(symbol) = slot else {
         return false;
     };
-    symbol.as_str(world.table()) == Some(text.as_str()) && world.table().count(symbol) == Some(1)
+    symbol.as_str(table) == Some(text.as_str()) && table.count(symbol) == Some(1)
 }

@@ -1,9 +1,9 @@
 //! A run that interns one value twice, on a new world. Where its first call is refused for want of
 //! memory, its third gives the first handle.
-use super::{Calls, NUMBERS, Replies, TestReply, TestWorld, new_world};
+use super::{Calls, NUMBERS, Replies, TestCall, TestReply, TestWorld, new_world, run_all};
 use crate::fault::{Fault, ensure};
 use crate::marks;
-use intern_world::{Back, Call, Reply, World, run};
+use intern_world::{Back, Call, Reply, World};
 use ra_ap_intern::{Limits, Refusal, Text};
 use std::alloc::{AllocError, Global};
 
@@ -23,6 +23,10 @@ pub(crate) fn check_new(rt: &impl Eprint, alloc: Global) -> Result<(), Fault> {
         "World::new, World::with_limits and reads of a new world",
     );
     check_nothing(&new_world(alloc))?;
+    check_limited(alloc)
+}
+
+fn check_limited(alloc: Global) -> Result<(), Fault> {
     let limits = Limits { top: 1, numbers: 1 };
     check_nothing(&World::with_limits(alloc, NUMBERS, limits))
 }
@@ -37,11 +41,15 @@ pub(crate) fn check_one_value(rt: &(impl Print + Eprint), alloc: Global) -> Resu
 
 fn run_one_value(rt: &impl Eprint, alloc: Global) -> Result<(), Fault> {
     marks::prepares(rt);
-    let mut world = new_world(alloc);
-    let replies = run_calls(rt, &mut world, calls(alloc)?)?;
+    run_in(rt, alloc, &mut new_world(alloc))
+}
+
+fn run_in(rt: &impl Eprint, alloc: Global, world: &mut TestWorld) -> Result<(), Fault> {
+    let calls = calls(alloc)?;
+    let replies = run_calls(rt, world, calls)?;
     marks::takes_none(rt, "reads of a world");
     check_replies(rt, &replies)?;
-    check_empty(&world)
+    check_empty(world)
 }
 
 fn check_replies(rt: &impl Eprint, replies: &Replies) -> Result<(), Fault> {
@@ -66,31 +74,36 @@ fn calls(alloc: Global) -> Result<Calls, AllocError> {
 // The value is interned twice and both handles are released. Then the reference is read, and the
 // first slot released again.
 fn try_calls(alloc: Global) -> Result<Calls, AllocError> {
-    let first = Text::new(alloc, VALUE)?;
-    let second = Text::new(alloc, VALUE)?;
-    let read = Text::new(alloc, VALUE)?;
-    Ok(vec![in alloc;
-        Call::New(first),
-        Call::AsRef(0),
-        Call::New(second),
-        Call::Same(0, 2),
-        Call::Release(0),
-        Call::Release(2),
-        Call::ReadsCounted(1, read),
-        Call::Release(0),
-    ]?)
+    let mut calls = Vec::with_capacity(alloc, CALLS)?;
+    for place in 0..CALLS {
+        let call = call_at(alloc, place)?;
+        calls.push(call)?;
+    }
+    Ok(calls)
+}
+
+// The call at a place.
+fn call_at(alloc: Global, place: usize) -> Result<TestCall, AllocError> {
+    Ok(match place {
+        0 | 2 => Call::New(Text::new(alloc, VALUE)?),
+        1 => Call::AsRef(0),
+        3 => Call::Same(0, 2),
+        5 => Call::Release(2),
+        6 => Call::ReadsCounted(1, Text::new(alloc, VALUE)?),
+        _ => Call::Release(0),
+    })
 }
 
 // Where the room for replies and slots is refused, the calls are back and the world is as it was,
 // and the run is made once more.
 fn run_calls(rt: &impl Eprint, world: &mut TestWorld, calls: Calls) -> Result<Replies, Fault> {
     marks::asks(rt, ASKED);
-    match run(world, calls) {
+    match run_all(world, calls) {
         Ok(replies) => Ok(replies),
         Err(back) => {
             marks::refused(rt, "run, on one value");
             check_back(world, &back)?;
-            run(world, back).map_err(|_| Fault::NoMemory)
+            run_all(world, back).map_err(|_| Fault::NoMemory)
         }
     }
 }
