@@ -1,6 +1,6 @@
 -- What is known of values that are equal exactly if they are seen as the same, and what a collection
 -- leaves of them.
-use Rattle.std.proofs.Common.{◌≡◌, ◌↔◌, Bool, true, false, ◌&&◌, List, [], ◌∷◌, map, Option, Some, None, IsSome, is_some, Result, Ok, Err, IfOk, OnErr, refl, sym, ap, ◌∙◌}
+use Rattle.std.proofs.Common.{◌≡◌, ◌↔◌, Bool, true, false, ◌&&◌, List, [], ◌∷◌, map, Option, Some, None, IsSome, is_some, Result, Ok, Err, IfOk, OnErr, refl, sym, ap, subst, ◌∙◌}
 use Rattle.std.specs.Cmp.{IsEquivalence}
 use Rattle.std.specs.List.{flat_map}
 use Rattle.std.specs.Option.{option_map}
@@ -10,12 +10,12 @@ use Rattle.ra_ap_intern.specs.Families.{IsCollection, entries_of, kept_named}
 use Rattle.ra_ap_intern.specs.Name.{Name}
 use Rattle.ra_ap_intern.specs.Named.{same_name}
 use Rattle.ra_ap_intern.specs.Names.{has}
-use Rattle.ra_ap_intern.specs.Reach.{Entry, IsReachedSet, Reached}
+use Rattle.ra_ap_intern.specs.Reach.{Entry, IsReachedSet, Reached, is_entry, starts_with}
 use Rattle.ra_ap_intern.specs.State.{State, IsState, reads, counts, interned, interned_name}
 use Rattle.ra_ap_intern.specs.declared.gc.Collected.{Collected}
 use Rattle.intern_store.proofs.Named.{names_same, same_names}
 use Rattle.intern_store.proofs.Reading.{interned_reads}
-use Rattle.ra_ap_intern.proofs.CallerCollections.{kept_reads, kept_counts, child_kept, children_read, entry_read}
+use Rattle.ra_ap_intern.proofs.CallerCollections.{kept_reads, kept_counts, root_reads, child_kept, children_read, entry_read}
 use Rattle.ra_ap_intern.proofs.CallerReads.{read_once}
 
 -- two names are those of two others
@@ -118,19 +118,41 @@ module _ {F V : Type 0} (part : F → State V) (kept : F → (Name → Bool) →
   Collects r = IfOk r (λ told. (names : List Name) × IsCollection begins all names told
       × (t ≡ kept s (has names))) × OnErr r (t ≡ s)
 
+  -- what holds where the family is cut to what is reached holds after a collection, if it held before
+  pub collected : (P : F → Type 0) → P s
+      → ((names : List Name) → IsReachedSet begins all names → P (kept s (has names)))
+      → (r : Result Collected AllocError) → Collects r → P t
+  collected P whole cut (Ok told) is = subst P (sym is.0.2) (cut is.0.0 is.0.1.reached)
+  collected P whole cut (Err e) is = subst P (sym is.1) whole
+
   pub collected_reads : (r : Result Collected AllocError) → Collects r → (name : Name)
       → Reached begins all name → reads (part t) name ≡ reads (part s) name
-  collected_reads (Ok told) is name path =
-      ap (λ f. reads (part f) name) is.0.2 ∙ ap (λ p. reads p name) (of_part s (has is.0.0))
-      ∙ kept_reads (part s) (has is.0.0) name ((is.0.1.reached.reached name).1 path)
-  collected_reads (Err e) is name path = ap (λ f. reads (part f) name) is.1
+  collected_reads r is name path =
+      collected (λ f. reads (part f) name ≡ reads (part s) name) refl (λ names set.
+      ap (λ p. reads p name) (of_part s (has names))
+      ∙ kept_reads (part s) (has names) name ((set.reached name).1 path)) r is
 
   pub collected_counts : (r : Result Collected AllocError) → Collects r → (name : Name)
       → Reached begins all name → counts (part t) name ≡ counts (part s) name
-  collected_counts (Ok told) is name path =
-      ap (λ f. counts (part f) name) is.0.2 ∙ ap (λ p. counts p name) (of_part s (has is.0.0))
-      ∙ kept_counts (part s) (has is.0.0) name ((is.0.1.reached.reached name).1 path)
-  collected_counts (Err e) is name path = ap (λ f. counts (part f) name) is.1
+  collected_counts r is name path =
+      collected (λ f. counts (part f) name ≡ counts (part s) name) refl (λ names set.
+      ap (λ p. counts p name) (of_part s (has names))
+      ∙ kept_counts (part s) (has names) name ((set.reached name).1 path)) r is
+
+-- and so does a root, also where it reads nothing
+pub collected_root : {F V : Type 0} (part : F → State V) (kept : F → (Name → Bool) → F)
+    (of_part : (f : F) (set : Name → Bool) → part (kept f set) ≡ kept_named (part f) set)
+    (children : V → List Name) (listed : List Name) (all : List Entry) (s t : F)
+    (r : Result Collected AllocError)
+    → Collects part kept of_part (starts_with listed all) all s t r
+    → (name : Name) → has listed name ≡ true
+    → (is_entry (entries_of children (part s)) name ≡ true → is_entry all name ≡ true)
+    → reads (part t) name ≡ reads (part s) name
+collected_root part kept of_part children listed all s t r is name among within =
+    collected part kept of_part (starts_with listed all) all s t
+    (λ f. reads (part f) name ≡ reads (part s) name) refl (λ names set.
+    ap (λ p. reads p name) (of_part s (has names))
+    ∙ root_reads children (part s) all listed names set name among within) r is
 
 -- where each declares one name, their names are listed
 pub listed_singly : {V : Type 0} (name : V → Name) (vs : List V)

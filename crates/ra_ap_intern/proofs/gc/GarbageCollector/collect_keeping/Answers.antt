@@ -5,6 +5,7 @@ use Rattle.intern_marks.specs.Reach.{starts_with}
 use Rattle.intern_marks.specs.Trace.{IsTrace}
 use Rattle.intern_marks.proofs.Steps.{root_places, each-registered}
 use Rattle.intern_marks.proofs.Traces.{trace_begins}
+use Rattle.ra_ap_intern.proofs.Following.{collection}
 use Rattle.ra_ap_intern.proofs.Registering.{learnt_size}
 use Rattle.ra_ap_intern.proofs.gc.GarbageCollector.collect_keeping.Goals as goal
 
@@ -13,7 +14,11 @@ returns-clause-ok g c =
     let all = g.F.Family.entries c.args.family.now in
     let listed = c.args.roots.now in
     let learnt = c.in_ok-learn.ensures.ok in
-    c.finish.ensures listed
+    let traced = c.followed.ensures listed
     (subst (IsTrace (starts_with listed all) all) (sym c.root.ensures) (trace_begins all listed c.learn.new.self learnt))
     (ap (λ (m : Marks). len m.registered) c.root.ensures ∙ ap len (each-registered true root root_places c.learn.new.self listed)
-    ∙ learnt_size true all c.learn.new.self learnt)
+    ∙ learnt_size true all c.learn.new.self learnt) in (
+      c.followed.result.marked,
+      collection _ _ _ _ traced c.sweep.ensures.visits c.sweep.ensures.mark_calls c.sweep.ensures.removed,
+      c.sweep.ensures.family,
+    )
