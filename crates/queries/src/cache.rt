@@ -262,7 +262,8 @@ impl Cache {
             IsFrame sheet self.old.keys top →
             IsPath sheet self.old.keys first path.now.frames.items top.key → WaitsFor top key →
             IsRight sheet key answer → IsCache sheet self.new }
-        ensures goes_on { (sheet : Formulas) (first key : KeyType) → IsFrame sheet self.old.keys top →
+        ensures goes_on { (sheet : Formulas) (first key : KeyType) →
+            IsFrame sheet self.old.keys top →
             IsPath sheet self.old.keys first path.now.frames.items top.key → WaitsFor top key →
             IsRight sheet key answer →
             IfOk result (GoesOn sheet self.new.keys first path.now.frames.items) }
