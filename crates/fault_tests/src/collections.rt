@@ -19,6 +19,8 @@ pub(crate) enum Collection {
     Plain,
     /// `GarbageCollector::collect_keeping`.
     Keeping,
+    /// `GarbageCollector::trace`, and then `Trace::sweep`.
+    Tracing,
 }
 
 impl Collection {
@@ -26,6 +28,7 @@ impl Collection {
         match self {
             Collection::Plain => "GarbageCollector::collect",
             Collection::Keeping => "GarbageCollector::collect_keeping",
+            Collection::Tracing => "GarbageCollector::trace",
         }
     }
 
@@ -33,7 +36,7 @@ impl Collection {
     fn left(self) -> Left {
         match self {
             Collection::Plain => Left::Reached,
-            Collection::Keeping => Left::Listed,
+            Collection::Keeping | Collection::Tracing => Left::Listed,
         }
     }
 
@@ -41,7 +44,7 @@ impl Collection {
     fn small(self) -> Collected {
         match self {
             Collection::Plain => told(2, 0, 1),
-            Collection::Keeping => told(3, 0, 0),
+            Collection::Keeping | Collection::Tracing => told(3, 0, 0),
         }
     }
 
@@ -49,7 +52,7 @@ impl Collection {
     fn large(self) -> Collected {
         match self {
             Collection::Plain => told(224, 64, 288),
-            Collection::Keeping => told(288, 96, 224),
+            Collection::Keeping | Collection::Tracing => told(288, 96, 224),
         }
     }
 
@@ -70,6 +73,15 @@ impl Collection {
                 &mut grove.storages,
                 grove.listed.as_slice(),
             ),
+            Collection::Tracing => {
+                match GarbageCollector::new(alloc).trace(&grove.storages, &grove.roots) {
+                    Ok(trace) => {
+                        marks::takes_none(rt, "Trace::sweep");
+                        Ok(trace.sweep(&mut grove.storages))
+                    }
+                    Err(error) => Err(error),
+                }
+            }
         };
         collected.map_err(|_| Fault::NoMemory)
     }

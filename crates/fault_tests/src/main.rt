@@ -43,6 +43,7 @@ fn check_all(rt: &(impl Print + Eprint), alloc: Global) -> Result<(), Fault> {
     check_registration(rt, alloc)?;
     check_collection(rt, alloc, Collection::Plain)?;
     check_collection(rt, alloc, Collection::Keeping)?;
+    check_collection(rt, alloc, Collection::Tracing)?;
     check_new(rt, alloc)?;
     check_runs(rt, alloc)?;
     check_one_value(rt, alloc)?;

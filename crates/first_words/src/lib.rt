@@ -1,11 +1,13 @@
 //! Words that are stored once.
 #![tactic(auto)]
 
-ghost use Rattle.std.specs.Prelude.{◌≡◌, false, option_copied};
+ghost use Rattle.std.specs.Prelude.{◌≡◌, false, IfOk, option_copied};
 ghost use Rattle.ra_ap_intern.specs.Handle.{name_of};
-ghost use Rattle.ra_ap_intern.specs.State.{reads};
+ghost use Rattle.ra_ap_intern.specs.Outcome.{Becomes};
+ghost use Rattle.ra_ap_intern.specs.State.{reads, interned_name, interned_counted};
 
 use ra_ap_intern::{InternStorage, Internable, Interned, Refused};
+use std::cmp::PartialEq;
 
 /// A word.
 #[derive(Drop, PartialEq, Eq, Hash)]
@@ -17,11 +19,16 @@ impl Internable for Word {
     ghost USE_GC = { false };
 }
 
-/// The handle of a word. The word comes back where it is stored already, or can't be.
+/// The handle of a word, counted once more. The word comes back if it is stored, or can't be.
 pub fn handle_of(
     words: &mut InternStorage<Word>,
     word: Word,
-) -> Result<(Interned<Word>, Option<Word>), Refused<Word>> {
+) -> Result<(Interned<Word>, Option<Word>), Refused<Word>>
+    ensures name { let eq = ⟦<Word as PartialEq>⟧.eq in
+        IfOk result (λ r. name_of r.0 ≡ interned_name eq words.old word) }
+    ensures state { let eq = ⟦<Word as PartialEq>⟧.eq in
+        Becomes result words.old words.new (interned_counted eq words.old word) }
+{
     Interned::new(words, word)
 }
 

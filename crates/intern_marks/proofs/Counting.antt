@@ -32,7 +32,7 @@ few_names family names once each =
     omega (arith, length-map family named)
 
 -- so where they are as many, they are the names of all entries
-all_named : (family : List Entry) (names : List Name) → IsDistinct same_name names
+pub all_named : (family : List Entry) (names : List Name) → IsDistinct same_name names
     → ((x : Name) → has names x ≡ true → is_entry family x ≡ true) → length family ≤ length names
     → (x : Name) → is_entry family x ≡ true → has names x ≡ true
 all_named family names once each many x there =
@@ -50,7 +50,7 @@ begins_entry None b h = h
 begins_entry (Some e) b h = refl
 
 -- a path ends at an entry
-reached_entry : (listed : List Name) (family : List Entry) (before : List Name) (x : Name)
+pub reached_entry : (listed : List Name) (family : List Entry) (before : List Name) (x : Name)
     → IsPath (starts_with listed family) family before x → is_entry family x ≡ true
 reached_entry listed family [] x path = begins_entry (entry_of family x) (has listed x) path
 reached_entry listed family (parent ∷ before) x path = path.0

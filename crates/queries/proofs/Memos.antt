@@ -1,8 +1,7 @@
 -- What stays true of memos.
-use Rattle.std.proofs.Common.{◌≡◌, ◌↔◌, ℕ, ◌+◌, ◌≤◌, Bool, true, false, cond, List, [], ◌∷◌, Option, Some, None, is_some, refl, sym, ap, subst, ◌∙◌, arith}
-use Rattle.std.specs.Cmp.{IsEquivalence}
+use Rattle.std.proofs.Common.{◌≡◌, ◌↔◌, ℕ, ◌+◌, ◌≤◌, Bool, true, false, ◌&&◌, cond, List, [], ◌∷◌, Option, Some, None, is_some, refl, sym, ap, subst, ◌∙◌, arith}
 use Rattle.std.specs.Cmp.Lexicographic.{pointwise}
-use Rattle.std.specs.HashMap.{HashMap, get, get_by}
+use Rattle.std.specs.HashMap.{HashMap, get}
 use Rattle.std.specs.List.{filter}
 use Rattle.std.specs.Map.{lookup}
 use Rattle.ra_ap_intern.specs.Families.{kept_named}
@@ -11,8 +10,8 @@ use Rattle.std.proofs.lemmas.Option.{same_Some}
 use Rattle.ra_ap_intern.specs.Handle.{ref_name}
 use Rattle.ra_ap_intern.specs.Name.{Name}
 use Rattle.ra_ap_intern.specs.Named.{same_name}
-use Rattle.ra_ap_intern.specs.State.{State, IsState, reads, interned, interned_name, name_of_value}
-use Rattle.ra_ap_intern.proofs.CallerLemmas.{names_same, viewed_equivalence, interned_reads, interned_reads_on, read_found, reads-kept_named}
+use Rattle.ra_ap_intern.specs.State.{State, IsState, reads, interned, name_of_value}
+use Rattle.ra_ap_intern.proofs.CallerLemmas.{names_same, interned_reads_on, found_itself, map_named, reads-kept_named}
 use Rattle.queries.specs.declared.cache.Memo.{Memo}
 use Rattle.queries.specs.declared.key.Key.{Key}
 use Rattle.queries.specs.declared.key.Key.TheVariants.{Cell, Total}
@@ -26,39 +25,27 @@ use Rattle.queries.specs.Sheet.{Formulas, formula_at, same_place, cell_value, gi
 -- ---- queries are interned
 
 module _ (eq : Key → Key → Bool) (alike : (a b : Key) → (eq a b ≡ true) ↔ (a ≡ b)) where
-  equivalence : IsEquivalence eq
-  equivalence = viewed_equivalence eq (λ k. k) alike
-
-  pub stored_reads : (s t : State Key) (key : Key) (name : Name) → name ≡ interned_name eq s key
-      → t ≡ (interned eq s key).state → reads t name ≡ Some key
-  stored_reads s t key name named now =
-      let r = interned_reads eq equivalence s key in
-      (λ i. reads (now i) (named i)) ∙ r.1 ∙ ap Some (sym ((alike key r.0).0 r.2))
-
   pub stored_on : (s t : State Key) → IsState eq s → (key : Key) → t ≡ (interned eq s key).state
       → ReadsOn s t
   stored_on s t ok key now name k at =
       ap (λ u. reads u name) now ∙ interned_reads_on eq s ok key name k at
 
-  found_name : (s : State Key) → IsState eq s → (key : Key) (name : Name)
-      → reads s name ≡ Some key → name_of_value eq s key ≡ Some name
-  found_name s ok key name read =
-      read_found eq equivalence s ok key name key read ((alike key key).1 refl)
-
   pub found_one : (s : State Key) → IsState eq s → (key : Key) (found name : Name)
       → Some found ≡ name_of_value eq s key → reads s name ≡ Some key → found ≡ name
-  found_one s ok key found name at read = same_Some _ _ (at ∙ found_name s ok key name read)
+  found_one s ok key found name at read =
+      same_Some _ _ (at ∙ found_itself eq alike s ok key name read)
 
   pub found_none : (s : State Key) → IsState eq s → (key : Key) (name : Name)
       → None ≡ name_of_value eq s key → reads s name ≡ Some key → ⊥
-  found_none s ok key name at read = let found = at ∙ found_name s ok key name read in absurd (cc)
+  found_none s ok key name at read =
+      let found = at ∙ found_itself eq alike s ok key name read in absurd (cc)
 
 -- ---- memos are found by names
 
 module _ {S : Type 0} (eq : Handle → Handle → Bool)
     (named : (a b : Handle) → eq a b ≡ same_name (ref_name a) (ref_name b)) where
   pub memo_by : (m : HashMap Handle Memo S) (h : Handle) → get eq m h ≡ memo_in m (ref_name h)
-  memo_by m h = λ i. get_by (λ r. named h r i) m
+  memo_by m h = map_named eq same_name ref_name named m h
 
   -- after a memo is put under a handle, or taken away
   pub memo_updated : (old new : HashMap Handle Memo S) (handle : Handle) (memo : Option Memo)
@@ -140,6 +127,14 @@ same_values eq alike (x ∷ xs) (y ∷ ys) is =
     let first = (alike x y).0 both.0 in
     let rest = same_values eq alike xs ys both.1 in λ i. first i ∷ rest i
 
+pub values_same : (eq : Value → Value → Bool) → ((a b : Value) → (eq a b ≡ true) ↔ (a ≡ b))
+    → (xs ys : List Value) → xs ≡ ys → pointwise eq xs ys ≡ true
+values_same eq alike xs ys is = subst (λ zs. pointwise eq xs zs ≡ true) is (itself xs)
+  where
+    itself : (zs : List Value) → pointwise eq zs zs ≡ true
+    itself [] = refl
+    itself (z ∷ zs) = ap (λ t. t && pointwise eq zs zs) ((alike z z).1 refl) ∙ itself zs
+
 -- an older memo's value is what the query gives from the values that it read
 pub memo_given : (sheet : Formulas) (keys : State Key) (revision : ℕ) (name : Name) (memo : Memo)
     (key : Key) → IsMemo sheet keys revision name memo → reads keys name ≡ Some key
@@ -192,61 +187,73 @@ module _ (old new : Formulas) (place : Place)
 
 -- ---- a collection
 
--- what is found among the entries that pass is found among all, and passes
-module _ (name : Name) (passes : Name → Bool) (memo : Memo) where
+-- among the entries that pass, a name that passes finds what it did, and another nothing
+module _ (name : Name) (passes : Name → Bool) where
   abbrev named : Handle → Bool
   named r = same_name name (ref_name r)
 
   abbrev passing : List (Handle × Memo) → List (Handle × Memo)
   passing entries = filter (λ e. passes (ref_name e.0)) entries
 
-  abbrev FoundAmong : List (Handle × Memo) → Type 0
-  FoundAmong es = (lookup named es ≡ Some memo) × (passes name ≡ true)
-
   found_later : (e : Handle × Memo) (es : List (Handle × Memo))
-      → (lookup named (passing es) ≡ Some memo → FoundAmong es) → (t u : Bool)
+      → lookup named (passing es) ≡ cond (passes name) (lookup named es) None → (t u : Bool)
       → passes (ref_name e.0) ≡ t → named e.0 ≡ u
-      → lookup named (cond t (e ∷ passing es) (passing es)) ≡ Some memo → FoundAmong (e ∷ es)
-  found_later e es rest true true pass same found =
-      let here = sym (ap (λ v. cond v (Some e.1) (lookup named (passing es))) same) ∙ found in
-      (ap (λ v. cond v (Some e.1) (lookup named es)) same ∙ here, ap passes (names_same _ _ same) ∙ pass)
-  found_later e es rest true false pass same found =
-      let here = sym (ap (λ v. cond v (Some e.1) (lookup named (passing es))) same) ∙ found in
-      let later = rest here in
-      (ap (λ v. cond v (Some e.1) (lookup named es)) same ∙ later.0, later.1)
-  found_later e es rest false true pass same found =
-      let later = rest found in
-      let never = sym pass ∙ ap passes (sym (names_same _ _ same)) ∙ later.1 in absurd (cc)
-  found_later e es rest false false pass same found =
-      let later = rest found in
-      (ap (λ v. cond v (Some e.1) (lookup named es)) same ∙ later.0, later.1)
+      → lookup named (cond t (e ∷ passing es) (passing es))
+      ≡ cond (passes name) (cond u (Some e.1) (lookup named es)) None
+  found_later e es rest true true pass same =
+      ap (λ v. cond v (Some e.1) (lookup named (passing es))) same
+      ∙ sym (ap (λ v. cond v (Some e.1) None) (ap passes (names_same _ _ same) ∙ pass))
+  found_later e es rest true false pass same =
+      ap (λ v. cond v (Some e.1) (lookup named (passing es))) same ∙ rest
+  found_later e es rest false true pass same =
+      let out = ap passes (names_same _ _ same) ∙ pass in
+      rest ∙ ap (λ v. cond v (lookup named es) None) out
+      ∙ sym (ap (λ v. cond v (Some e.1) None) out)
+  found_later e es rest false false pass same = rest
 
-  kept_lookup : (entries : List (Handle × Memo)) → lookup named (passing entries) ≡ Some memo
-      → FoundAmong entries
-  kept_lookup [] at = absurd (cc)
-  kept_lookup (e ∷ es) at =
-      found_later e es (kept_lookup es) (passes (ref_name e.0)) (named e.0) refl refl at
+  pub found_among : (entries : List (Handle × Memo)) → lookup named (passing entries)
+      ≡ cond (passes name) (lookup named entries) None
+  found_among [] = nothing (passes name)
+    where
+      nothing : (t : Bool) → lookup named (passing []) ≡ cond t (lookup named (passing [])) None
+      nothing true = refl
+      nothing false = refl
+  found_among (e ∷ es) =
+      found_later e es (found_among es) (passes (ref_name e.0)) (named e.0) refl refl
+
+pub memos_filtered : {S : Type 0} (passes : Name → Bool) (memos left : HashMap Handle Memo S)
+    → left.entries ≡ filter (λ e. passes (ref_name e.0)) memos.entries → (h : Handle)
+    → memo_in left (ref_name h) ≡ cond (passes (ref_name h)) (memo_in memos (ref_name h)) None
+memos_filtered passes memos left entries h =
+    ap (lookup (λ r. same_name (ref_name h) (ref_name r))) entries
+    ∙ found_among (ref_name h) passes memos.entries
 
 -- the memos of the queries that are left
 pub memos_kept : {S : Type 0} (sheet : Formulas) (keys later : State Key) (revision : ℕ)
     (memos left : HashMap Handle Memo S) (set : Name → Bool) → AreMemos sheet keys revision memos
     → later ≡ kept_named keys set
-    → left.entries ≡ filter (λ e. is_some (reads later (ref_name e.0))) memos.entries
+    → ((h : Handle) → memo_in left (ref_name h)
+    ≡ cond (is_some (reads later (ref_name h))) (memo_in memos (ref_name h)) None)
     → AreMemos sheet later revision left
-memos_kept sheet keys later revision memos left set is kept entries h memo at =
-    let found = kept_lookup (ref_name h) (λ n. is_some (reads later n)) memo memos.entries
-    (sym (ap (lookup (λ r. same_name (ref_name h) (ref_name r))) entries) ∙ at) in
-    let m = is h memo found.0 in
-    let now = ap (λ s. reads s (ref_name h)) kept ∙ reads-kept_named keys set (ref_name h) in record {
-      key = m.key;
-      stored = now ∙ there (set (ref_name h)) m.key m.stored (sym (ap is_some now) ∙ found.1);
-      early = m.early;
-      given = m.given;
-      right = m.right;
-    }
+memos_kept sheet keys later revision memos left set is kept filtered h memo at =
+    go (is_some (reads later (ref_name h))) refl (sym (filtered h) ∙ at)
   where
     there : (t : Bool) (key : Key) → reads keys (ref_name h) ≡ Some key
         → is_some (cond t (reads keys (ref_name h)) None) ≡ true
         → cond t (reads keys (ref_name h)) None ≡ Some key
     there true key read is = read
     there false key read is = absurd (cc)
+
+    go : (t : Bool) → is_some (reads later (ref_name h)) ≡ t
+        → cond t (memo_in memos (ref_name h)) None ≡ Some memo
+        → IsMemo sheet later revision (ref_name h) memo
+    go true stays found =
+        let m = is h memo found in
+        let now = ap (λ s. reads s (ref_name h)) kept ∙ reads-kept_named keys set (ref_name h) in record {
+          key = m.key;
+          stored = now ∙ there (set (ref_name h)) m.key m.stored (sym (ap is_some now) ∙ stays);
+          early = m.early;
+          given = m.given;
+          right = m.right;
+        }
+    go false goes found = absurd (cc)

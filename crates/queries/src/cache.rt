@@ -1,9 +1,9 @@
 //! The cache: what each query came to, and when that was last known to be right.
-ghost use Rattle.std.specs.Prelude.{◌≡◌, ◌∷◌, Bool, true, false, [], Some, None, All, IfOk, OnOk, OnErr, IfSome, length, slice_get, option_copied};
+ghost use Rattle.std.specs.Prelude.{◌≡◌, ◌↔◌, ◌∷◌, Bool, true, false, [], map as list_map, Some, None, All, IsErrOf, IfOk, IsOkUnless, OnOk, OnErr, IfSome, IsSome, length, slice_get, option_copied};
 ghost use Rattle.ra_ap_intern.specs.Handle.{ref_name};
 ghost use Rattle.ra_ap_intern.specs.Name.{Name as KeyName};
 ghost use Rattle.ra_ap_intern.specs.State.{reads};
-ghost use Rattle.queries.specs.Cache.{Handle, memo_at, IsMemo, IsCache, ReadsOn};
+ghost use Rattle.queries.specs.Cache.{Handle, memo_at, IsMemo, IsCache, IsCollected, ReadsOn, HasGiven, current_answer, one_computed, one_verified};
 ghost use Rattle.queries.specs.Evaluation.{Evaluates, IsRight, LeadsToCycle};
 ghost use Rattle.queries.specs.Path.{WaitsFor, IsFrame, IsPath, IsStuck, GoesOn};
 ghost use Rattle.queries.specs.Sheet.{Formulas, formula_at, same_place, gives};
@@ -18,7 +18,7 @@ use crate::path::{Frame, Path};
 use crate::place::Place;
 use crate::sheet::Sheet;
 use crate::value::{Answer, Value};
-use ra_ap_intern::{GarbageCollector, InternStorage, Interned};
+use ra_ap_intern::{GarbageCollector, InternStorage, Interned, Refusal};
 use std::alloc::{AllocError, Global};
 use std::collections::HashMap;
 
@@ -36,7 +36,7 @@ pub struct Memo {
 }
 
 /// How queries were answered.
-#[derive(Clone, Copy, PartialEq, Eq, Debug)]
+#[derive(Clone, Copy, Default, PartialEq, Eq, Debug)]
 pub struct Counts {
     /// From the values that they read.
     pub computed: u64,
@@ -63,7 +63,7 @@ pub struct Cache {
 impl Memo {
     // Whether these are the values that it read.
     fn has_read(&self, values: &[Value]) -> bool
-        ensures { result ≡ true → self.now.values.items ≡ values.now }
+        ensures { (result ≡ true) ↔ (self.now.values.items ≡ values.now) }
     {
         laws::values_are_equal_exactly_if_they_are_the_same();
         self.values.as_slice() == values
@@ -88,20 +88,19 @@ impl Cache {
             keys: InternStorage::new(alloc, 1),
             memos: HashMap::new(alloc),
             revision: 0,
-            counts: Counts {
-                computed: 0,
-                verified: 0,
-                reused: 0,
-            },
+            counts: Counts::default(),
         }
     }
 
     /// The formula of a cell has changed: its memo goes, and no other is right by itself any more.
+    /// Refused as `RevisionsUsedUp` at the last revision.
     pub fn raise(&mut self, place: Place) -> Result<(), Fault>
         ensures cache { OnOk result ((old new : Formulas) → IsCache old self.old →
             ((p : PlaceType) → same_place place p ≡ false → formula_at new p ≡ formula_at old p) →
             IsCache new self.new) }
         ensures err { OnErr result (self.new ≡ self.old) }
+        ensures used_up { IsErrOf result Fault.RevisionsUsedUp ↔ (self.old.revision ≡ u64.MAX) }
+        ensures otherwise { IsOkUnless result Fault.RevisionsUsedUp }
     {
         if self.revision == u64::MAX {
             return Err(Fault::RevisionsUsedUp);
@@ -152,7 +151,7 @@ impl Cache {
     }
 
     // The handle of a query.
-    fn handle(&mut self, key: Key) -> Result<KeyRef, Fault>
+    fn handle(&mut self, key: Key) -> Result<KeyRef, Refusal>
         ensures stored { IfOk result (λ handle. reads self.new.keys (ref_name handle) ≡ Some key) }
         ensures on { ReadsOn self.old.keys self.new.keys }
         ensures cache { (sheet : Formulas) → IsCache sheet self.old → IsCache sheet self.new }
@@ -172,8 +171,9 @@ impl Cache {
     }
 
     // A memo of a query, in place of the one that it had.
-    fn put(&mut self, handle: KeyRef, memo: Memo) -> Result<(), Fault>
+    fn put(&mut self, handle: KeyRef, memo: Memo) -> Result<(), AllocError>
         ensures keys { self.new.keys ≡ self.old.keys }
+        ensures counts { self.new.counts ≡ self.old.counts }
         ensures cache { (sheet : Formulas) → IsCache sheet self.old →
             IsMemo sheet self.old.keys self.old.revision (ref_name handle) memo →
             IsCache sheet self.new }
@@ -185,7 +185,9 @@ impl Cache {
 
     // The answer of a memo of this revision.
     fn current(&self, handle: KeyRef) -> Option<Answer>
-        ensures { (sheet : Formulas) (key : KeyType) → IsCache sheet self.now →
+        ensures exact { result
+            ≡ current_answer (memo_at self.now (ref_name handle)) self.now.revision }
+        ensures right { (sheet : Formulas) (key : KeyType) → IsCache sheet self.now →
             reads self.now.keys (ref_name handle) ≡ Some key → IfSome result (IsRight sheet key) }
     {
         let memo = self.memo(handle)?;
@@ -330,6 +332,11 @@ impl Cache {
         requires frame { IsFrame sheet.now self.old.keys frame }
         requires complete { slice_get frame.wants.items (length frame.values.items) ≡ None }
         ensures value { IfOk result (λ value. Evaluates sheet.now frame.key value) }
+        ensures verified { OnOk result (HasGiven self.old (ref_name frame.handle) frame.values.items
+            → self.new.counts ≡ one_verified self.old.counts) }
+        ensures computed { OnOk result
+            ((HasGiven self.old (ref_name frame.handle) frame.values.items → ⊥) →
+            self.new.counts ≡ one_computed self.old.counts) }
         ensures keys { self.new.keys ≡ self.old.keys }
         ensures cache { IsCache sheet.now self.new }
     {
@@ -346,11 +353,16 @@ impl Cache {
 
     // What a query gives from the values that it has read: what it gave from them before, or else
     // it is computed.
-    fn given(&mut self, sheet: &Sheet, frame: &Frame) -> Result<Value, Fault>
+    fn given(&mut self, sheet: &Sheet, frame: &Frame) -> Result<Value, AllocError>
         requires cache { IsCache sheet.now self.old }
         requires stored { reads self.old.keys (ref_name frame.now.handle) ≡ Some frame.now.key }
         ensures given { IfOk result (λ value.
             value ≡ gives sheet.now frame.now.key frame.now.values.items) }
+        ensures verified { HasGiven self.old (ref_name frame.now.handle) frame.now.values.items →
+            self.new.counts ≡ one_verified self.old.counts }
+        ensures computed { let name = ref_name frame.now.handle in
+            (HasGiven self.old name frame.now.values.items → ⊥) →
+            self.new.counts ≡ one_computed self.old.counts }
         ensures keys { self.new.keys ≡ self.old.keys }
         ensures cache { IsCache sheet.now self.new }
     {
@@ -359,24 +371,29 @@ impl Cache {
             return Ok(value);
         }
         self.counts.computed = self.counts.computed.saturating_add(1);
-        Ok(sheet.give(frame.key, frame.values.as_slice())?)
+        sheet.give(frame.key, frame.values.as_slice())
     }
 
     // The value of an older memo, where all that it read is the same again.
     fn unchanged(&self, frame: &Frame) -> Option<Value>
-        ensures { (sheet : Formulas) → IsCache sheet self.now →
+        ensures known { IsSome result
+            ↔ HasGiven self.now (ref_name frame.now.handle) frame.now.values.items }
+        ensures right { (sheet : Formulas) → IsCache sheet self.now →
             reads self.now.keys (ref_name frame.now.handle) ≡ Some frame.now.key →
             IfSome result (λ value. value ≡ gives sheet frame.now.key frame.now.values.items) }
     {
         let memo = self.memo(frame.handle)?;
+        if !memo.has_read(&frame.values) {
+            return None;
+        }
         match memo.answer {
-            Answer::Value(value) if memo.has_read(&frame.values) => Some(value),
-            _ => None,
+            Answer::Value(value) => Some(value),
+            Answer::Cycle(_) => None,
         }
     }
 
     // None of the queries on the path has a value.
-    fn give_up(&mut self, path: &Path, top: Frame, through: Key) -> Result<(), Fault>
+    fn give_up(&mut self, path: &Path, top: Frame, through: Key) -> Result<(), AllocError>
         ensures { (sheet : Formulas) → IsCache sheet self.old →
             IsStuck sheet self.old.keys through top →
             All (IsStuck sheet self.old.keys through) path.now.frames.items →
@@ -390,7 +407,7 @@ impl Cache {
     }
 
     // A query has no value at this revision.
-    fn put_cycle(&mut self, handle: KeyRef, through: Key) -> Result<(), Fault>
+    fn put_cycle(&mut self, handle: KeyRef, through: Key) -> Result<(), AllocError>
         ensures keys { self.new.keys ≡ self.old.keys }
         ensures cache { (sheet : Formulas) (key : KeyType) → IsCache sheet self.old →
             reads self.old.keys (ref_name handle) ≡ Some key → LeadsToCycle sheet key through →
@@ -405,9 +422,13 @@ impl Cache {
         self.put(handle, memo)
     }
 
-    /// Removes the queries that these handles don't need, with their memos. It tells how many.
+    /// Removes all queries but these, with their memos, and tells how many. Where there is no
+    /// memory, nothing changes.
     pub fn collect(&mut self, needed: &[KeyRef]) -> Result<usize, AllocError>
-        ensures { (sheet : Formulas) → IsCache sheet self.old → IsCache sheet self.new }
+        ensures ok { IfOk result
+            (IsCollected (list_map ref_name needed.now) self.old self.new) }
+        ensures err { OnErr result (self.new ≡ self.old) }
+        ensures right { (sheet : Formulas) → IsCache sheet self.old → IsCache sheet self.new }
     {
         let collected = GarbageCollector::new(self.alloc).collect_from(&mut self.keys, &needed)?;
         let keys = &self.keys;

@@ -1,64 +1,39 @@
 //! Why a run gave up.
-use ra_ap_intern::{Refusal, Refused};
-use std::alloc::{AllocError, AllocFailed};
+use ra_ap_intern::Refusal;
+use std::alloc::AllocError;
+use thiserror::Error;
 
 /// Why a run gave up.
-#[derive(Clone, Copy, PartialEq, Eq, Debug)]
+#[derive(Clone, Copy, PartialEq, Eq, Debug, Error)]
 pub enum Fault {
-    /// A read failed. Nothing was written.
+    /// When a read failed. Nothing was written.
+    #[error("input failed")]
     Input,
-    /// The input isn't UTF-8. Nothing was written.
+    /// When the input isn't UTF-8. Nothing was written.
+    #[error("input is not UTF-8")]
     NotText,
-    /// There was no memory.
-    OutOfMemory,
-    /// A storage has given all its births.
+    /// When a request for memory was refused. Nothing was written.
+    #[error("out of memory")]
+    OutOfMemory(#[from(alloc)] AllocError),
+    /// When a new query has no handle, since its storage has given all births.
+    #[error("all births are given")]
     NumbersUsedUp,
-    /// There was the last revision.
+    /// When a cell is edited after 2^64 - 1 edits.
+    #[error("all revisions are used up")]
     RevisionsUsedUp,
-    /// An evaluation took 2^64 steps.
+    /// When an evaluation isn't done after 2^64 - 1 steps.
+    #[error("all steps are used up")]
     StepsUsedUp,
-    /// A write failed. A beginning of the answers was written.
+    /// When a write failed. A beginning of the answers was written.
+    #[error("output failed")]
     Output,
-}
-
-impl Fault {
-    /// The line on standard error, without its line feed.
-    pub fn line(self) -> &'static str {
-        match self {
-            Fault::Input => "queries: input failed",
-            Fault::NotText => "queries: input is not UTF-8",
-            Fault::OutOfMemory => "queries: out of memory",
-            Fault::NumbersUsedUp => "queries: all births are given",
-            Fault::RevisionsUsedUp => "queries: all revisions are used up",
-            Fault::StepsUsedUp => "queries: all steps are used up",
-            Fault::Output => "queries: output failed",
-        }
-    }
-}
-
-impl From<AllocError> for Fault {
-    fn from(_error: AllocError) -> Fault {
-        Fault::OutOfMemory
-    }
-}
-
-impl<T: Drop> From<AllocFailed<T>> for Fault {
-    fn from(_error: AllocFailed<T>) -> Fault {
-        Fault::OutOfMemory
-    }
 }
 
 impl From<Refusal> for Fault {
     fn from(refusal: Refusal) -> Fault {
         match refusal {
             Refusal::NumbersUsedUp => Fault::NumbersUsedUp,
-            _ => Fault::OutOfMemory,
+            _ => Fault::OutOfMemory(AllocError),
         }
-    }
-}
-
-impl<T: Drop> From<Refused<T>> for Fault {
-    fn from(refused: Refused<T>) -> Fault {
-        Fault::from(refused.why)
     }
 }

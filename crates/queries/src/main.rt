@@ -6,7 +6,6 @@ mod fault;
 mod formula;
 mod key;
 mod laws;
-mod line;
 mod parser;
 mod path;
 mod place;
@@ -22,10 +21,10 @@ use crate::run::serve;
 use std::process::ExitCode;
 
 fn main(rt: HostRuntime) -> ExitCode {
-    match serve(rt.alloc(), &mut rt.stdin(), &mut rt.stdout()) {
+    match serve(rt.alloc(), rt.stdin(), &mut rt.stdout()) {
         Ok(()) => ExitCode::from(0),
         Err(fault) => {
-            let _ = rt.eprintln(fault.line());
+            let _ = eprintln!(rt; "queries: {fault}");
             ExitCode::from(2)
         }
     }

@@ -2,11 +2,10 @@
 ghost use Rattle.std.specs.Prelude.{◌≡◌, ◌∷◌, ◌++◌, [], length, slice_get, Any, OnOk, MatchOption, IsTrue};
 ghost use Rattle.ra_ap_intern.specs.Handle.{ref_name};
 
-use crate::fault::Fault;
 use crate::key::{Key, KeyRef};
 use crate::laws;
 use crate::value::Value;
-use std::alloc::Global;
+use std::alloc::{AllocError, Global};
 use std::collections::HashSet;
 
 /// A query that is being computed.
@@ -58,15 +57,14 @@ impl Frame {
     }
 
     /// Takes the value of that query.
-    pub fn take(&mut self, handle: KeyRef, value: Value) -> Result<(), Fault>
+    pub fn take(&mut self, handle: KeyRef, value: Value) -> Result<(), AllocError>
         ensures key { OnOk result (self.new.key ≡ self.old.key) }
         ensures handle { OnOk result (self.new.handle ≡ self.old.handle) }
         ensures wants { OnOk result (self.new.wants.items ≡ self.old.wants.items) }
         ensures values { OnOk result (self.new.values.items ≡ self.old.values.items ++ value ∷ []) }
     {
         self.reads.push(handle)?;
-        self.values.push(value)?;
-        Ok(())
+        Ok(self.values.push(value)?)
     }
 }
 
@@ -82,12 +80,11 @@ impl Path {
     }
 
     /// One more query waits.
-    pub fn push(&mut self, frame: Frame) -> Result<(), Fault>
+    pub fn push(&mut self, frame: Frame) -> Result<(), AllocError>
         ensures { OnOk result (self.new.frames.items ≡ self.old.frames.items ++ frame ∷ []) }
     {
         self.waiting.insert(frame.handle)?;
-        self.frames.push(frame)?;
-        Ok(())
+        Ok(self.frames.push(frame)?)
     }
 
     /// The last query goes on.

@@ -2,10 +2,10 @@
 use std::fmt;
 
 /// How many columns there are: the last is `XFD`.
-pub const COLUMNS: u32 = 16384;
+pub const COLUMNS: i64 = 16384;
 
 /// How many rows there are.
-pub const ROWS: u32 = 1048576;
+pub const ROWS: i64 = 1048576;
 
 /// The place of a cell, its column and its row counted from zero.
 #[derive(Clone, Copy, PartialEq, Eq, PartialOrd, Ord, Hash, Debug)]

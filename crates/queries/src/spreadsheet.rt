@@ -104,7 +104,7 @@ impl Spreadsheet {
     }
 
     // The queries of the cells with formulas, and all that those have read.
-    fn needed(&self) -> Result<Vec<KeyRef>, Fault> {
+    fn needed(&self) -> Result<IndexSet<KeyRef>, AllocError> {
         let mut needed = IndexSet::new(self.alloc);
         for place in &self.places()? {
             if let Some(handle) = self.cache.keys.get(&Key::Cell(*place)) {
@@ -117,11 +117,11 @@ impl Spreadsheet {
                 None => break,
             }
         }
-        Ok(Vec::from_slice(self.alloc, needed.as_slice())?)
+        Ok(needed)
     }
 
     // What a query has read is needed too.
-    fn need_reads(&self, handle: KeyRef, needed: &mut IndexSet<KeyRef>) -> Result<(), Fault> {
+    fn need_reads(&self, handle: KeyRef, needed: &mut IndexSet<KeyRef>) -> Result<(), AllocError> {
         if let Some(memo) = self.cache.memos.get(&handle) {
             for read in &memo.reads {
                 needed.insert(*read)?;

@@ -2,13 +2,13 @@
 ghost use Rattle.std.specs.Prelude.{◌<◌};
 
 use crate::fault::Fault;
-use crate::line::{Line, parse_line};
-use crate::parser::ParseError;
+use crate::parser::{Line, parse_line};
 use crate::place::Place;
 use crate::run::answer_all;
 use crate::spreadsheet::Spreadsheet;
 use crate::value::{Answer, CellError, Value};
-use std::alloc::Global;
+use std::alloc::{AllocError, Global};
+use std::fmt;
 use std::process::Abort;
 
 // Lines, and what they are answered.
@@ -42,13 +42,18 @@ const WORKED: [(&str, &str); 12] = [
     ),
 ];
 
+// Lines are answered so.
+fn are_answered(rt: &impl Abort, alloc: Global, lines: &str, answers: &str) {
+    match answer_all(alloc, lines) {
+        Ok(out) => assert!(rt; out.as_str() == answers),
+        Err(fault) => panic!(rt; "{fault:?}"),
+    }
+}
+
 #[test]
 fn lines_are_answered(rt: HostRuntime) {
     for (lines, answers) in &WORKED {
-        match answer_all(rt.alloc(), lines) {
-            Ok(out) => assert!(rt; out.as_str() == *answers),
-            Err(fault) => panic!(rt; "{fault:?}"),
-        }
+        are_answered(&rt, rt.alloc(), lines, answers);
     }
 }
 
@@ -79,36 +84,39 @@ fn number(rt: &impl Abort, sheet: &mut Spreadsheet, row: u32) -> Option<i64> {
     }
 }
 
+// The cell has this number, and so many queries were computed and verified so far.
+fn is_number(rt: &impl Abort, sheet: &mut Spreadsheet, row: u32, found: i64, counts: (u64, u64)) {
+    assert_eq!(rt; number(rt, sheet, row), Some(found));
+    assert_eq!(rt; sheet.counts().computed, counts.0);
+    assert_eq!(rt; sheet.counts().verified, counts.1);
+}
+
+// What is computed again after edits.
+fn follow_edits(rt: &impl Abort, alloc: Global, sheet: &mut Spreadsheet) {
+    edit(rt, alloc, sheet, "A1 = 4");
+    edit(rt, alloc, sheet, "A2 = A1 / 2");
+    edit(rt, alloc, sheet, "A3 = A2 + A2");
+    is_number(rt, sheet, 2, 4, (3, 0));
+    is_number(rt, sheet, 2, 4, (3, 0));
+    // A2 comes out as before, and A3 isn't computed again.
+    edit(rt, alloc, sheet, "A1 = 5");
+    is_number(rt, sheet, 2, 4, (5, 1));
+    edit(rt, alloc, sheet, "A1 = 6");
+    is_number(rt, sheet, 2, 6, (8, 1));
+}
+
 #[test]
 fn what_stays_the_same_is_not_computed_again(rt: HostRuntime) {
     let mut sheet = Spreadsheet::new(rt.alloc());
-    edit(&rt, rt.alloc(), &mut sheet, "A1 = 4");
-    edit(&rt, rt.alloc(), &mut sheet, "A2 = A1 / 2");
-    edit(&rt, rt.alloc(), &mut sheet, "A3 = A2 + A2");
-    assert_eq!(rt; number(&rt, &mut sheet, 2), Some(4));
-    assert_eq!(rt; sheet.counts().computed, 3);
-    assert_eq!(rt; number(&rt, &mut sheet, 2), Some(4));
-    assert_eq!(rt; sheet.counts().computed, 3);
-    // A2 comes out as before, and A3 isn't computed again.
-    edit(&rt, rt.alloc(), &mut sheet, "A1 = 5");
-    assert_eq!(rt; number(&rt, &mut sheet, 2), Some(4));
-    assert_eq!(rt; sheet.counts().computed, 5);
-    assert_eq!(rt; sheet.counts().verified, 1);
-    edit(&rt, rt.alloc(), &mut sheet, "A1 = 6");
-    assert_eq!(rt; number(&rt, &mut sheet, 2), Some(6));
-    assert_eq!(rt; sheet.counts().computed, 8);
+    follow_edits(&rt, rt.alloc(), &mut sheet);
 }
 
 #[test]
 fn collections_remove_what_nothing_needs(rt: HostRuntime) {
     let lines = "A1 = SUM(B1:B3)\nA2 = C1\nshow all\ncollect\nclear A1\ncollect\nshow A2\nstats\n";
-    match answer_all(rt.alloc(), lines) {
-        Ok(out) => assert!(rt;
-            out.as_str()
-                == "A1 = 0\nA2 = 0\nremoved 0 queries\nremoved 5 queries\nA2 = 0\ncomputed 7, verified 2, reused 0, queries 2\n"
-        ),
-        Err(fault) => panic!(rt; "{fault:?}"),
-    }
+    let answers =
+        "A1 = 0\nA2 = 0\nremoved 0 queries\nremoved 5 queries\nA2 = 0\ncomputed 7, verified 2, reused 0, queries 2\n";
+    are_answered(&rt, rt.alloc(), lines, answers);
 }
 
 // A formula of the reference. Cells are A1 to A6.
@@ -232,17 +240,27 @@ fn round(outcomes: &Outcomes, cells: &[Option<Plain>; 7]) -> Outcomes {
     next
 }
 
+// The formula of a cell, or none. It is shown as the line that sets it.
+#[derive(Clone, Copy)]
+struct Change(usize, Option<Plain>);
+
+impl fmt::Display for Change {
+    fn fmt<W: fmt::Write>(&self, f: &mut fmt::Formatter<W>) -> fmt::Result {
+        let cell = self.0;
+        match self.1 {
+            None => write!(f, "clear A{cell}"),
+            Some(Plain::Number(number)) => write!(f, "A{cell} = {number}"),
+            Some(Plain::Sum(one, other)) => write!(f, "A{cell} = A{one} + A{other}"),
+            Some(Plain::Difference(one, other)) => write!(f, "A{cell} = A{one} - A{other}"),
+            Some(Plain::Quotient(one, other)) => write!(f, "A{cell} = A{one} / A{other}"),
+            Some(Plain::Total(one, other)) => write!(f, "A{cell} = SUM(A{one}:A{other})"),
+        }
+    }
+}
+
 // The line that gives a cell a formula.
-fn text(alloc: Global, cell: usize, plain: Option<Plain>) -> Result<String, Fault> {
-    let line = match plain {
-        None => format!(in alloc; "clear A{cell}"),
-        Some(Plain::Number(number)) => format!(in alloc; "A{cell} = {number}"),
-        Some(Plain::Sum(one, other)) => format!(in alloc; "A{cell} = A{one} + A{other}"),
-        Some(Plain::Difference(one, other)) => format!(in alloc; "A{cell} = A{one} - A{other}"),
-        Some(Plain::Quotient(one, other)) => format!(in alloc; "A{cell} = A{one} / A{other}"),
-        Some(Plain::Total(one, other)) => format!(in alloc; "A{cell} = SUM(A{one}:A{other})"),
-    };
-    Ok(line?)
+fn text(alloc: Global, change: Change) -> Result<String, AllocError> {
+    format!(in alloc; "{change}")
 }
 
 // The values from nothing: of the cells whose reads are known in the end.
@@ -279,43 +297,54 @@ fn compare(
     Ok(())
 }
 
-#[test]
-fn random_edits_are_answered_as_from_nothing(rt: HostRuntime) -> Result<(), Fault> {
-    let mut sheet = Spreadsheet::new(rt.alloc());
+// Random edits, and the answers after each.
+fn edit_at_random(rt: &impl Abort, alloc: Global, sheet: &mut Spreadsheet) -> Result<(), Fault> {
     let mut random = Random(1);
     let mut cells = [None; 7];
     let mut seen = (0u32, 0u32);
     for _ in 0..3000u32 {
         let cell = random.below(6) + 1;
         let plain = random.formula();
-        let line = text(rt.alloc(), cell, plain)?;
-        edit(&rt, rt.alloc(), &mut sheet, line.as_str());
+        let line = text(alloc, Change(cell, plain))?;
+        edit(rt, alloc, sheet, line.as_str());
         cells[cell] = plain;
-        compare(&rt, &mut sheet, &from_nothing(&cells), &mut seen)?;
+        compare(rt, sheet, &from_nothing(&cells), &mut seen)?;
     }
     assert!(rt; seen.0 > 100 && seen.1 > 100);
     Ok(())
 }
 
+#[test]
+fn random_edits_are_answered_as_from_nothing(rt: HostRuntime) -> Result<(), Fault> {
+    let mut sheet = Spreadsheet::new(rt.alloc());
+    edit_at_random(&rt, rt.alloc(), &mut sheet)
+}
+
 // Deep input: a chain of cells, and a formula in parentheses.
 const DEEP: u32 = 100000;
 
-#[test]
-fn a_long_chain_is_computed(rt: HostRuntime) -> Result<(), Fault> {
-    let mut sheet = Spreadsheet::new(rt.alloc());
-    edit(&rt, rt.alloc(), &mut sheet, "A1 = 1");
+// Each cell of a chain but the first is one more than the cell above it.
+fn chain(rt: &impl Abort, alloc: Global, sheet: &mut Spreadsheet) -> Result<(), AllocError> {
+    edit(rt, alloc, sheet, "A1 = 1");
     for row in 2..=DEEP {
         let before = row - 1;
-        let line = format!(in rt.alloc(); "A{row} = A{before} + 1")?;
-        edit(&rt, rt.alloc(), &mut sheet, line.as_str());
+        let line = format!(in alloc; "A{row} = A{before} + 1")?;
+        edit(rt, alloc, sheet, line.as_str());
     }
-    assert_eq!(rt; number(&rt, &mut sheet, DEEP - 1), Some(100000));
     Ok(())
 }
 
 #[test]
-fn deep_parentheses_are_read(rt: HostRuntime) -> Result<(), Fault> {
-    let mut line = String::from_str(rt.alloc(), "A1 = ")?;
+fn a_long_chain_is_computed(rt: HostRuntime) -> Result<(), AllocError> {
+    let mut sheet = Spreadsheet::new(rt.alloc());
+    chain(&rt, rt.alloc(), &mut sheet)?;
+    assert_eq!(rt; number(&rt, &mut sheet, DEEP - 1), Some(100000));
+    Ok(())
+}
+
+// A formula in many parentheses.
+fn nested(alloc: Global) -> Result<String, AllocError> {
+    let mut line = String::from_str(alloc, "A1 = ")?;
     for _ in 0..DEEP {
         line.push_str("-(")?;
     }
@@ -323,6 +352,12 @@ fn deep_parentheses_are_read(rt: HostRuntime) -> Result<(), Fault> {
     for _ in 0..DEEP {
         line.push_str(")")?;
     }
+    Ok(line)
+}
+
+#[test]
+fn deep_parentheses_are_read(rt: HostRuntime) -> Result<(), AllocError> {
+    let line = nested(rt.alloc())?;
     let mut sheet = Spreadsheet::new(rt.alloc());
     edit(&rt, rt.alloc(), &mut sheet, line.as_str());
     assert_eq!(rt; number(&rt, &mut sheet, 0), Some(7));

@@ -2,45 +2,44 @@
 use crate::formula::Operator;
 use crate::key::Function;
 use crate::place::{COLUMNS, Place, ROWS};
-use std::fmt;
+use std::num::IntErrorKind;
+use thiserror::Error;
 
 /// What is wrong with a line.
-#[derive(Clone, Copy, PartialEq, Eq, Debug)]
+#[derive(Clone, Copy, Debug, Error)]
 pub enum Problem {
-    /// A character that stands nowhere.
+    /// When a character begins no token.
+    #[error("this character stands nowhere")]
     Character,
-    /// A word that is neither a cell nor a function nor a command.
+    /// When a word is no number, no cell, no function and no command.
+    #[error("this is no cell, no function and no command")]
     Word,
-    /// A number that doesn't fit 64 bits.
+    /// When a number doesn't fit 64 bits.
+    #[error("this number doesn't fit 64 bits")]
     NumberTooLarge,
-    /// A cell beyond the last column or the last row.
+    /// When a cell is beyond the last column or the last row, or the number of its row is zero.
+    #[error("the cells end at XFD1048576")]
     NoSuchCell,
-    /// A block of too many cells.
+    /// When a block has more cells than a block may have.
+    #[error("these are more than 1048576 cells")]
     BlockTooLarge,
-    /// Something else than a command or a cell.
-    WantsCommand,
-    /// Something else than a cell.
-    WantsCell,
-    /// Something else than an equals sign.
-    WantsEquals,
-    /// Something else than a number, a cell, a function or a parenthesis.
-    WantsOperand,
-    /// Something else than an operator or a closing parenthesis.
-    WantsOperator,
-    /// Something else than an opening parenthesis.
-    WantsOpening,
-    /// Something else than a closing parenthesis.
-    WantsClosing,
-    /// A closing parenthesis that closes nothing.
+    /// When something else stands where this should.
+    #[error("{0} should stand here")]
+    Wants(&'static str),
+    /// When a closing parenthesis closes nothing.
+    #[error("there is no '(' to close")]
     NothingToClose,
-    /// An opening parenthesis that isn't closed.
+    /// When an opening parenthesis isn't closed.
+    #[error("this '(' isn't closed")]
     NotClosed,
-    /// Something behind the end of a command.
+    /// When a command goes on behind its end.
+    #[error("the line should end here")]
     WantsEnd,
 }
 
 /// What is wrong with a line, and where: the column counts from one.
-#[derive(Clone, Copy, PartialEq, Eq, Debug)]
+#[derive(Clone, Copy, Debug, Error)]
+#[error("column {column}: {problem}")]
 pub struct SyntaxError {
     /// What is wrong.
     pub problem: Problem,
@@ -57,23 +56,6 @@ pub enum TokenKind {
     Cell(Place),
     /// A function.
     Function(Function),
-    /// A command or another word in small letters.
-    Command(Command),
-    /// An operator.
-    Operator(Operator),
-    /// `(`
-    Opening,
-    /// `)`
-    Closing,
-    /// `:`
-    Colon,
-    /// `=`
-    Equals,
-}
-
-/// A word of a command.
-#[derive(Clone, Copy, PartialEq, Eq, Debug)]
-pub enum Command {
     /// `clear`
     Clear,
     /// `show`
@@ -84,10 +66,22 @@ pub enum Command {
     Stats,
     /// `collect`
     Collect,
+    /// An operator.
+    Operator(Operator),
+    /// `(`
+    Opening,
+    /// `)`
+    Closing,
+    /// `:`
+    Colon,
+    /// `=`
+    Equals,
+    /// The end of the line.
+    End,
 }
 
 /// A token, and where it begins: the column counts from one.
-#[derive(Clone, Copy, PartialEq, Eq, Debug)]
+#[derive(Clone, Copy, Debug)]
 pub struct Token {
     /// What it is.
     pub kind: TokenKind,
@@ -98,196 +92,108 @@ pub struct Token {
 impl Token {
     /// The problem, where this token begins.
     pub fn problem(self, problem: Problem) -> SyntaxError {
-        SyntaxError {
-            problem,
-            column: self.column,
-        }
+        let column = self.column;
+        SyntaxError { problem, column }
     }
 }
 
 /// The tokens of a line, one at a time.
 #[derive(Drop)]
 pub struct Tokens<'a> {
-    rest: &'a [u8],
-    column: usize,
+    line: &'a str,
+    rest: &'a str,
 }
 
 impl<'a> Tokens<'a> {
     /// All of a line.
     pub fn new(line: &'a str) -> Tokens<'a> {
-        Tokens {
-            rest: line.as_bytes(),
-            column: 1,
+        Tokens { line, rest: line }
+    }
+
+    /// The next token. Behind the last it is `End` for ever.
+    pub fn next(&mut self) -> Result<Token, SyntaxError> {
+        let text = self.rest.trim_start_matches([' ', '\t']);
+        let column = self.line.len().saturating_sub(text.len()).saturating_add(1);
+        let (word, rest) = text
+            .split_at_checked(first_length(text))
+            .unwrap_or((text, ""));
+        let kind = token_kind(word).map_err(|problem| SyntaxError { problem, column })?;
+        self.rest = rest;
+        Ok(Token { kind, column })
+    }
+
+    /// Passes a token of this kind, or tells the problem.
+    pub fn expect(&mut self, kind: TokenKind, problem: Problem) -> Result<(), SyntaxError> {
+        let token = self.next()?;
+        if token.kind == kind {
+            Ok(())
+        } else {
+            Err(token.problem(problem))
         }
     }
+}
 
-    /// Where the last token ended.
-    pub fn column(&self) -> usize {
-        self.column
+// The length of the first token of a text.
+fn first_length(text: &str) -> usize {
+    match text.find(|c: char| !c.is_ascii_alphanumeric()) {
+        Some(0) => 1,
+        Some(length) => length,
+        None => text.len(),
     }
+}
 
-    /// The next token. None at the end.
-    pub fn next(&mut self) -> Result<Option<Token>, SyntaxError> {
-        let blanks = count_while(self.rest, |byte| byte == b' ' || byte == b'\t');
-        self.pass(blanks);
-        let Some(first) = self.rest.first().copied() else {
-            return Ok(None);
-        };
-        let column = self.column;
-        let length = word_length(self.rest, first).min(self.rest.len());
-        let kind = token_kind(&self.rest[..length], first).map_err(|problem| SyntaxError {
-            problem,
-            column,
-        })?;
-        self.pass(length);
-        Ok(Some(Token { kind, column }))
-    }
-
-    /// The next token, or the problem at the end.
-    pub fn next_or(&mut self, problem: Problem) -> Result<Token, SyntaxError> {
-        match self.next()? {
-            Some(token) => Ok(token),
-            None => Err(SyntaxError {
-                problem,
-                column: self.column,
-            }),
+// The token that a word is.
+fn token_kind(word: &str) -> Result<TokenKind, Problem> {
+    let kind = match word {
+        "" => TokenKind::End,
+        "+" => TokenKind::Operator(Operator::Add),
+        "-" => TokenKind::Operator(Operator::Subtract),
+        "*" => TokenKind::Operator(Operator::Multiply),
+        "/" => TokenKind::Operator(Operator::Divide),
+        "(" => TokenKind::Opening,
+        ")" => TokenKind::Closing,
+        ":" => TokenKind::Colon,
+        "=" => TokenKind::Equals,
+        "SUM" => TokenKind::Function(Function::Sum),
+        "MIN" => TokenKind::Function(Function::Min),
+        "MAX" => TokenKind::Function(Function::Max),
+        "COUNT" => TokenKind::Function(Function::Count),
+        "clear" => TokenKind::Clear,
+        "show" => TokenKind::Show,
+        "all" => TokenKind::All,
+        "stats" => TokenKind::Stats,
+        "collect" => TokenKind::Collect,
+        _ if word.starts_with(|c: char| c.is_ascii_digit()) => {
+            TokenKind::Number(decimal(word, Problem::NumberTooLarge)?)
         }
-    }
-
-    // Goes on behind so many bytes.
-    fn pass(&mut self, count: usize) {
-        let count = count.min(self.rest.len());
-        self.rest = &self.rest[count..];
-        self.column = self.column.saturating_add(count);
-    }
+        _ if word.starts_with(|c: char| c.is_ascii_alphabetic()) => TokenKind::Cell(cell(word)?),
+        _ => return Err(Problem::Character),
+    };
+    Ok(kind)
 }
 
-// How many bytes pass a test, from the first on.
-fn count_while<F: Fn(u8) -> bool + Drop>(bytes: &[u8], test: F) -> usize
-    requires { F.IsAlwaysCallable test }
-{
-    for (index, byte) in bytes.iter().enumerate() {
-        if !test(*byte) {
-            return index;
-        }
-    }
-    bytes.len()
-}
-
-// The length of the token that begins with this byte.
-fn word_length(bytes: &[u8], first: u8) -> usize {
-    if first.is_ascii_alphanumeric() {
-        return count_while(bytes, |byte| byte.is_ascii_alphanumeric());
-    }
-    1
-}
-
-// The token that these bytes are.
-fn token_kind(word: &[u8], first: u8) -> Result<TokenKind, Problem> {
-    match first {
-        b'+' => Ok(TokenKind::Operator(Operator::Add)),
-        b'-' => Ok(TokenKind::Operator(Operator::Subtract)),
-        b'*' => Ok(TokenKind::Operator(Operator::Multiply)),
-        b'/' => Ok(TokenKind::Operator(Operator::Divide)),
-        b'(' => Ok(TokenKind::Opening),
-        b')' => Ok(TokenKind::Closing),
-        b':' => Ok(TokenKind::Colon),
-        b'=' => Ok(TokenKind::Equals),
-        b'0'..=b'9' => number(word),
-        b'A'..=b'Z' => name(word),
-        b'a'..=b'z' => command_word(word),
-        _ => Err(Problem::Character),
-    }
-}
-
-// A number in decimal digits.
-fn number(word: &[u8]) -> Result<TokenKind, Problem> {
-    let mut value = 0i64;
-    for byte in word {
-        if !byte.is_ascii_digit() {
-            return Err(Problem::Word);
-        }
-        let digit = i64::from(*byte - b'0');
-        value = value
-            .checked_mul(10)
-            .and_then(|tens| tens.checked_add(digit))
-            .ok_or(Problem::NumberTooLarge)?;
-    }
-    Ok(TokenKind::Number(value))
-}
-
-// A function or a cell.
-fn name(word: &[u8]) -> Result<TokenKind, Problem> {
-    match word {
-        b"SUM" => Ok(TokenKind::Function(Function::Sum)),
-        b"MIN" => Ok(TokenKind::Function(Function::Min)),
-        b"MAX" => Ok(TokenKind::Function(Function::Max)),
-        b"COUNT" => Ok(TokenKind::Function(Function::Count)),
-        _ => cell(word),
-    }
+// A number in decimal digits, or the problem where it doesn't fit.
+fn decimal(digits: &str, too_large: Problem) -> Result<i64, Problem> {
+    digits.parse::<i64>().map_err(|error| match error.kind() {
+        IntErrorKind::PosOverflow => too_large,
+        _ => Problem::Word,
+    })
 }
 
 // A cell: the letters of its column, and the number of its row.
-fn cell(word: &[u8]) -> Result<TokenKind, Problem> {
-    let letters = count_while(word, |byte| byte.is_ascii_uppercase());
-    let column = base(&word[..letters.min(word.len())], 26, b'A' - 1)?;
-    let row = base(&word[letters.min(word.len())..], 10, b'0')?;
-    if letters >= word.len() {
-        return Err(Problem::Word);
+fn cell(word: &str) -> Result<Place, Problem> {
+    let digits = word.trim_start_matches(|c: char| c.is_ascii_uppercase());
+    let row = decimal(digits, Problem::NoSuchCell)?;
+    let mut column = 0i64;
+    for letter in word.bytes().take_while(|byte| byte.is_ascii_uppercase()) {
+        let digit = i64::from(letter.wrapping_sub(b'A' - 1));
+        column = column.saturating_mul(26).saturating_add(digit);
     }
-    if column == 0 || column > COLUMNS || row == 0 || row > ROWS {
-        return Err(Problem::NoSuchCell);
-    }
-    Ok(TokenKind::Cell(Place {
-        column: column - 1,
-        row: row - 1,
-    }))
-}
-
-// The number of some digits to a base, where this byte stands for zero.
-fn base(digits: &[u8], base: u32, zero: u8) -> Result<u32, Problem> {
-    let mut value = 0u32;
-    for byte in digits {
-        let digit = u32::from(byte.wrapping_sub(zero));
-        if digit > base {
-            return Err(Problem::Word);
-        }
-        value = value.saturating_mul(base).saturating_add(digit);
-    }
-    Ok(value)
-}
-
-// A command.
-fn command_word(word: &[u8]) -> Result<TokenKind, Problem> {
-    match word {
-        b"clear" => Ok(TokenKind::Command(Command::Clear)),
-        b"show" => Ok(TokenKind::Command(Command::Show)),
-        b"all" => Ok(TokenKind::Command(Command::All)),
-        b"stats" => Ok(TokenKind::Command(Command::Stats)),
-        b"collect" => Ok(TokenKind::Command(Command::Collect)),
-        _ => Err(Problem::Word),
-    }
-}
-
-impl fmt::Display for Problem {
-    fn fmt<W: fmt::Write>(&self, f: &mut fmt::Formatter<W>) -> fmt::Result {
-        let text = match self {
-            Problem::Character => "this character stands nowhere",
-            Problem::Word => "this is no cell, no function and no command",
-            Problem::NumberTooLarge => "this number doesn't fit 64 bits",
-            Problem::NoSuchCell => "the cells end at XFD1048576",
-            Problem::BlockTooLarge => "these are more than 1048576 cells",
-            Problem::WantsCommand => "a command or a cell should stand here",
-            Problem::WantsCell => "a cell should stand here",
-            Problem::WantsEquals => "an equals sign should stand here",
-            Problem::WantsOperand => "a number, a cell, a function or '(' should stand here",
-            Problem::WantsOperator => "an operator should stand here",
-            Problem::WantsOpening => "'(' should stand here",
-            Problem::WantsClosing => "')' should stand here",
-            Problem::NothingToClose => "there is no '(' to close",
-            Problem::NotClosed => "this '(' isn't closed",
-            Problem::WantsEnd => "the line should end here",
-        };
-        write!(f, "{text}")
+    if 1 <= column && column <= COLUMNS && 1 <= row && row <= ROWS {
+        let column = (column - 1) as u32;
+        let row = (row - 1) as u32;
+        Ok(Place { column, row })
+    } else {
+        Err(Problem::NoSuchCell)
     }
 }

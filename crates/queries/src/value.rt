@@ -6,15 +6,19 @@ ghost use Rattle.queries.specs.Value.{exact_number, number_of, value_of, include
 
 use crate::key::{Function, Key};
 use std::fmt;
+use thiserror::Error;
 
 /// Why a cell has no number.
-#[derive(Clone, Copy, PartialEq, Eq, Debug)]
+#[derive(Clone, Copy, PartialEq, Eq, Debug, Error)]
 pub enum CellError {
-    /// A number doesn't fit 64 bits.
+    /// When a number doesn't fit 64 bits.
+    #[error("overflow")]
     Overflow,
-    /// A division by zero.
+    /// When a number is divided by zero.
+    #[error("division by zero")]
     DivisionByZero,
-    /// An operation lacks an operand. The parser makes no such formula.
+    /// When an operation lacks an operand. The parser makes no such formula.
+    #[error("incomplete formula")]
     Incomplete,
 }
 
@@ -102,9 +106,7 @@ impl fmt::Display for Value {
         match self {
             Value::Empty => write!(f, "empty"),
             Value::Number(number) => write!(f, "{number}"),
-            Value::Error(CellError::Overflow) => write!(f, "overflow"),
-            Value::Error(CellError::DivisionByZero) => write!(f, "division by zero"),
-            Value::Error(CellError::Incomplete) => write!(f, "incomplete formula"),
+            Value::Error(error) => write!(f, "{error}"),
         }
     }
 }

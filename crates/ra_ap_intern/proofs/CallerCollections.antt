@@ -1,5 +1,5 @@
 -- What a collector sees of a storage, and what a collection leaves.
-use Rattle.std.proofs.Common.{◌≡◌, ℕ, ◌<◌, Bool, true, false, not, cond, ◌==◌, List, [], ◌∷◌, ◌++◌, Option, Some, None, is_some, refl, ap, ◌∙◌, arith}
+use Rattle.std.proofs.Common.{◌≡◌, ℕ, ◌<◌, Bool, true, false, not, cond, ◌==◌, List, [], ◌∷◌, ◌++◌, Option, Some, None, is_some, refl, sym, ap, ◌∙◌, arith}
 use Rattle.std.specs.Option.{option_map}
 use Rattle.std.proofs.lemmas.Bool.{and_from, or_left, or_right, eq-eqb, ne_eqb}
 use Rattle.ra_ap_intern.specs.Families.{entries_of, kept_named, has_number, are_distinct}
@@ -125,6 +125,28 @@ module _ (listed : List Name) (family : List Entry) (names : List Name)
   counted_kept name counted =
       start_kept (starts_with listed family) family names is name
       (or_left (starts family name) _ counted)
+
+-- a root reads what it read, also where that is nothing
+pub root_reads : {V : Type 0} (children : V → List Name) (s : State V) (family : List Entry)
+    (listed names : List Name) → IsReachedSet (starts_with listed family) family names
+    → (name : Name) → has listed name ≡ true
+    → (is_entry (entries_of children s) name ≡ true → is_entry family name ≡ true)
+    → reads (kept_named s (has names)) name ≡ reads s name
+root_reads {V} children s family listed names is name among part = go (reads s name) refl
+  where
+    nothing : (t : Bool) → cond {A = Option V} t None None ≡ None
+    nothing true = refl
+    nothing false = refl
+
+    go : (o : Option V) → reads s name ≡ o
+        → reads (kept_named s (has names)) name ≡ reads s name
+    go (Some v) at =
+        kept_reads s (has names) name
+        (root_kept listed family names is name among
+        (part (entry_read children s name ∙ ap is_some at)))
+    go None at =
+        reads-kept_named s (has names) name ∙ ap (λ o. cond (has names name) o None) at
+        ∙ nothing (has names name) ∙ sym at
 
 -- ---- a storage within a pair of families: what is known of its part is known of the whole
 

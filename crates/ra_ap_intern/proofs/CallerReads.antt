@@ -198,42 +198,50 @@ module _ {V : Type 0} where
 
   -- ---- after a release
 
-  -- a name of another birth reads what it read
-  pub taken_reads : (s : State V) (b : ℕ) (name : Name) → name.birth ≢ b
-      → reads (taken s b) name ≡ reads s name
-  taken_reads s b name other =
-      ap (λ o. cond (name.storage == s.number) (value o) None)
+  -- what holds where the entry is taken out, and where it is counted once less, holds
+  released_either : (P : State V → Type 0) (stays : Bool) (s : State V) (b : ℕ) → P (taken s b)
+      → P (counted_down s b) → P (released stays s b)
+  released_either P stays s b out less = go (is_last stays s b)
+    where
+      go : (t : Bool) → P (cond t (taken s b) (counted_down s b))
+      go true = out
+      go false = less
+
+  -- what is seen of an entry of another birth is what was seen of it
+  taken_sees : {X : Type 0} (see : Kept V → X) (s : State V) (b : ℕ) (name : Name) → name.birth ≢ b
+      → cond (name.storage == s.number) (option_map see (entry_at (taken s b) name.birth)) None
+      ≡ cond (name.storage == s.number) (option_map see (entry_at s name.birth)) None
+  taken_sees see s b name other =
+      ap (λ o. cond (name.storage == s.number) (option_map see o) None)
       (get-removed s.map b name.birth
       ∙ ap (λ t. cond t None (entry_at s name.birth)) (ne_eqb name.birth b other))
 
+  -- a name of another birth reads what it read
+  pub taken_reads : (s : State V) (b : ℕ) (name : Name) → name.birth ≢ b
+      → reads (taken s b) name ≡ reads s name
+  taken_reads = taken_sees (λ k. k.value)
+
   pub released_reads : (stays : Bool) (s : State V) (b : ℕ) (name : Name) → name.birth ≢ b
       → reads (released stays s b) name ≡ reads s name
-  released_reads stays s b name other = go (is_last stays s b)
-    where
-      go : (t : Bool) → reads (cond t (taken s b) (counted_down s b)) name ≡ reads s name
-      go true = taken_reads s b name other
-      go false = counted_down_reads s b name
+  released_reads stays s b name other =
+      released_either (λ t. reads t name ≡ reads s name) stays s b
+      (taken_reads s b name other) (counted_down_reads s b name)
 
   -- and has the count that it had
   pub taken_counts : (s : State V) (b : ℕ) (name : Name) → name.birth ≢ b
       → counts (taken s b) name ≡ counts s name
-  taken_counts s b name other =
-      ap (λ o. cond (name.storage == s.number) (option_map (λ (k : Kept V). k.count) o) None)
-      (get-removed s.map b name.birth
-      ∙ ap (λ t. cond t None (entry_at s name.birth)) (ne_eqb name.birth b other))
+  taken_counts = taken_sees (λ k. k.count)
 
   pub released_counts : (stays : Bool) (s : State V) (b : ℕ) (name : Name) → name.birth ≢ b
       → counts (released stays s b) name ≡ counts s name
-  released_counts stays s b name other = go (is_last stays s b)
-    where
-      go : (t : Bool) → counts (cond t (taken s b) (counted_down s b)) name ≡ counts s name
-      go true = taken_counts s b name other
-      go false =
-          counts-recounted (λ n. n - 1) s b name
-          ∙ ap (λ t. cond (name.storage == s.number && t) (option_map (λ n. n - 1) (counts s name))
-          (counts s name)) (ne_eqb name.birth b other)
-          ∙ ap (λ t. cond t (option_map (λ n. n - 1) (counts s name)) (counts s name))
-          (and_right (name.storage == s.number) false refl)
+  released_counts stays s b name other =
+      released_either (λ t. counts t name ≡ counts s name) stays s b
+      (taken_counts s b name other)
+      (counts-recounted (λ n. n - 1) s b name
+      ∙ ap (λ t. cond (name.storage == s.number && t) (option_map (λ n. n - 1) (counts s name))
+      (counts s name)) (ne_eqb name.birth b other)
+      ∙ ap (λ t. cond t (option_map (λ n. n - 1) (counts s name)) (counts s name))
+      (and_right (name.storage == s.number) false refl))
 
   -- where the entry isn't taken out, each name reads what it read
   pub released_reads_all : (stays : Bool) (s : State V) (b : ℕ) → is_last stays s b ≡ false

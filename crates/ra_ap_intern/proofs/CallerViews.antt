@@ -1,8 +1,10 @@
 -- What is known of values that are equal exactly if they are seen as the same, and what a collection
 -- leaves of them.
-use Rattle.std.proofs.Common.{◌≡◌, ◌↔◌, Bool, true, false, ◌&&◌, List, [], ◌∷◌, map, Option, Some, None, IsSome, is_some, Result, Ok, Err, IfOk, OnErr, refl, sym, ap, ◌∙◌}
+use Rattle.std.proofs.Common.{◌≡◌, ◌↔◌, Bool, true, false, ◌&&◌, List, [], ◌∷◌, map, Option, Some, None, IsSome, is_some, Result, Ok, Err, IfOk, OnErr, refl, sym, ap, subst, ◌∙◌}
 use Rattle.std.specs.Cmp.{IsEquivalence}
+use Rattle.std.specs.HashMap.{HashMap, get, get_by}
 use Rattle.std.specs.List.{flat_map}
+use Rattle.std.specs.Map.{lookup}
 use Rattle.std.specs.Option.{option_map}
 use Rattle.std.specs.declared.alloc.AllocError.{AllocError}
 use Rattle.std.proofs.lemmas.Bool.{and_parts, and_from}
@@ -10,12 +12,13 @@ use Rattle.ra_ap_intern.specs.Families.{IsCollection, entries_of, kept_named}
 use Rattle.ra_ap_intern.specs.Name.{Name}
 use Rattle.ra_ap_intern.specs.Named.{same_name}
 use Rattle.ra_ap_intern.specs.Names.{has}
-use Rattle.ra_ap_intern.specs.Reach.{Entry, IsReachedSet, Reached}
-use Rattle.ra_ap_intern.specs.State.{State, IsState, reads, counts, interned, interned_name}
+use Rattle.ra_ap_intern.specs.Reach.{Entry, IsReachedSet, Reached, is_entry, starts_with}
+use Rattle.ra_ap_intern.specs.State.{State, IsState, reads, counts, interned, interned_name, name_of_value}
 use Rattle.ra_ap_intern.specs.declared.gc.Collected.{Collected}
 use Rattle.intern_store.proofs.Named.{names_same, same_names}
 use Rattle.intern_store.proofs.Reading.{interned_reads}
-use Rattle.ra_ap_intern.proofs.CallerCollections.{kept_reads, kept_counts, child_kept, children_read, entry_read}
+use Rattle.ra_ap_intern.proofs.CallerCollections.{kept_reads, kept_counts, root_reads, child_kept, children_read, entry_read}
+use Rattle.ra_ap_intern.proofs.CallerInterning.{found_reads, read_found}
 use Rattle.ra_ap_intern.proofs.CallerReads.{read_once}
 
 -- two names are those of two others
@@ -51,13 +54,13 @@ pub view_stays : {V X : Type 0} (view : V → X) (o p : Option V) (x : X)
 view_stays view o p x on is =
     let r = seen view o x is in ap (option_map view) (on r.value r.read) ∙ ap Some r.same
 
+both : (a b : Bool) → (a ≡ true → b ≡ true) → (b ≡ true → a ≡ true) → a ≡ b
+both true b there back = sym (there refl)
+both false true there back = back refl
+both false false there back = refl
+
 module _ {V X : Type 0} (eq : V → V → Bool) (view : V → X)
     (alike : (v w : V) → (eq v w ≡ true) ↔ (view v ≡ view w)) where
-  both : (a b : Bool) → (a ≡ true → b ≡ true) → (b ≡ true → a ≡ true) → a ≡ b
-  both true b there back = sym (there refl)
-  both false true there back = back refl
-  both false false there back = refl
-
   -- such an equality is an equivalence
   pub viewed_equivalence : IsEquivalence eq
   viewed_equivalence = record {
@@ -95,6 +98,52 @@ module _ {V X : Type 0} (eq : V → V → Bool) (view : V → X)
       (λ i. option_map view (reads (now i) (named i)))
       ∙ ap (option_map view) r.1 ∙ ap Some (sym ((alike v r.0).0 r.2))
 
+-- values that are equal exactly if they are the same
+module _ {V : Type 0} (eq : V → V → Bool) (alike : (v w : V) → (eq v w ≡ true) ↔ (v ≡ w)) where
+  identity_equivalence : IsEquivalence eq
+  identity_equivalence = viewed_equivalence eq (λ v. v) alike
+
+  -- what is interned is read as it is
+  pub interned_itself : (s t : State V) (v : V) (name : Name) → name ≡ interned_name eq s v
+      → t ≡ (interned eq s v).state → reads t name ≡ Some v
+  interned_itself s t v name named now =
+      let r = interned_reads eq identity_equivalence s v in
+      (λ i. reads (now i) (named i)) ∙ r.1 ∙ ap Some (sym ((alike v r.0).0 r.2))
+
+  -- the look-up of what is read answers its name
+  pub found_itself : (s : State V) → IsState eq s → (v : V) (name : Name) → reads s name ≡ Some v
+      → name_of_value eq s v ≡ Some name
+  found_itself s ok v name read =
+      read_found eq identity_equivalence s ok v name v read ((alike v v).1 refl)
+
+  -- and what it answers reads as it is
+  pub reads_itself : (s : State V) (v : V) (name : Name) → name_of_value eq s v ≡ Some name
+      → reads s name ≡ Some v
+  reads_itself s v name found =
+      let r = found_reads eq s v name found in r.1 ∙ ap Some (sym ((alike v r.0).0 r.2))
+
+-- an equality that tells what is seen of two, by a test that tells that too, is the test
+pub equality_tested : {H N : Type 0} (eq : H → H → Bool) (test : N → N → Bool) (view : H → N)
+    → ((a b : H) → (eq a b ≡ true) ↔ (view a ≡ view b))
+    → ((n m : N) → test n m ≡ true → n ≡ m) → ((n : N) → test n n ≡ true)
+    → (a b : H) → eq a b ≡ test (view a) (view b)
+equality_tested eq test view alike same itself a b = both (eq a b) (test (view a) (view b))
+    (λ is. subst (λ n. test (view a) n ≡ true) ((alike a b).0 is) (itself (view a)))
+    (λ is. (alike a b).1 (same (view a) (view b) is))
+
+-- handles' equality is that of their names
+pub handles_tested : {H : Type 0} (eq : H → H → Bool) (name : H → Name)
+    → ((a b : H) → (eq a b ≡ true) ↔ (name a ≡ name b))
+    → (a b : H) → eq a b ≡ same_name (name a) (name b)
+handles_tested eq name alike =
+    equality_tested eq same_name name alike names_same (λ n. same_names n n refl)
+
+-- a map under handles is read by what they name
+pub map_named : {H N M S : Type 0} (eq : H → H → Bool) (test : N → N → Bool) (view : H → N)
+    → ((a b : H) → eq a b ≡ test (view a) (view b)) → (m : HashMap H M S) (h : H)
+    → get eq m h ≡ lookup (λ r. test (view h) (view r)) m.entries
+map_named eq test view tested m h = λ i. get_by (λ r. tested h r i) m
+
 -- what a collection keeps of a reached value: those of its parts that are read
 pub part_kept : {V X : Type 0} (view : V → X) (parts : X → List Name) (begins : Name → Bool)
     (s : State V) (names : List Name)
@@ -118,19 +167,41 @@ module _ {F V : Type 0} (part : F → State V) (kept : F → (Name → Bool) →
   Collects r = IfOk r (λ told. (names : List Name) × IsCollection begins all names told
       × (t ≡ kept s (has names))) × OnErr r (t ≡ s)
 
+  -- what holds where the family is cut to what is reached holds after a collection, if it held before
+  pub collected : (P : F → Type 0) → P s
+      → ((names : List Name) → IsReachedSet begins all names → P (kept s (has names)))
+      → (r : Result Collected AllocError) → Collects r → P t
+  collected P whole cut (Ok told) is = subst P (sym is.0.2) (cut is.0.0 is.0.1.reached)
+  collected P whole cut (Err e) is = subst P (sym is.1) whole
+
   pub collected_reads : (r : Result Collected AllocError) → Collects r → (name : Name)
       → Reached begins all name → reads (part t) name ≡ reads (part s) name
-  collected_reads (Ok told) is name path =
-      ap (λ f. reads (part f) name) is.0.2 ∙ ap (λ p. reads p name) (of_part s (has is.0.0))
-      ∙ kept_reads (part s) (has is.0.0) name ((is.0.1.reached.reached name).1 path)
-  collected_reads (Err e) is name path = ap (λ f. reads (part f) name) is.1
+  collected_reads r is name path =
+      collected (λ f. reads (part f) name ≡ reads (part s) name) refl (λ names set.
+      ap (λ p. reads p name) (of_part s (has names))
+      ∙ kept_reads (part s) (has names) name ((set.reached name).1 path)) r is
 
   pub collected_counts : (r : Result Collected AllocError) → Collects r → (name : Name)
       → Reached begins all name → counts (part t) name ≡ counts (part s) name
-  collected_counts (Ok told) is name path =
-      ap (λ f. counts (part f) name) is.0.2 ∙ ap (λ p. counts p name) (of_part s (has is.0.0))
-      ∙ kept_counts (part s) (has is.0.0) name ((is.0.1.reached.reached name).1 path)
-  collected_counts (Err e) is name path = ap (λ f. counts (part f) name) is.1
+  collected_counts r is name path =
+      collected (λ f. counts (part f) name ≡ counts (part s) name) refl (λ names set.
+      ap (λ p. counts p name) (of_part s (has names))
+      ∙ kept_counts (part s) (has names) name ((set.reached name).1 path)) r is
+
+-- and so does a root, also where it reads nothing
+pub collected_root : {F V : Type 0} (part : F → State V) (kept : F → (Name → Bool) → F)
+    (of_part : (f : F) (set : Name → Bool) → part (kept f set) ≡ kept_named (part f) set)
+    (children : V → List Name) (listed : List Name) (all : List Entry) (s t : F)
+    (r : Result Collected AllocError)
+    → Collects part kept of_part (starts_with listed all) all s t r
+    → (name : Name) → has listed name ≡ true
+    → (is_entry (entries_of children (part s)) name ≡ true → is_entry all name ≡ true)
+    → reads (part t) name ≡ reads (part s) name
+collected_root part kept of_part children listed all s t r is name among within =
+    collected part kept of_part (starts_with listed all) all s t
+    (λ f. reads (part f) name ≡ reads (part s) name) refl (λ names set.
+    ap (λ p. reads p name) (of_part s (has names))
+    ∙ root_reads children (part s) all listed names set name among within) r is
 
 -- where each declares one name, their names are listed
 pub listed_singly : {V : Type 0} (name : V → Name) (vs : List V)

@@ -3,16 +3,19 @@ use Rattle.std.proofs.Common.{◌≡◌, ℕ, ◌+◌, ◌-◌, ◌^◌, ◌<◌
 use Rattle.std.proofs.Math.Nat.{min-eq_left}
 use Rattle.std.proofs.lemmas.List.{take_all}
 use Rattle.std.proofs.lemmas.List.Filters.{length-filter_both}
+use Rattle.std.specs.FinMap.{len, empty}
 use Rattle.std.specs.List.{filter}
-use Rattle.intern_marks.specs.Marks.{Marks}
-use Rattle.intern_marks.specs.Names.{has}
-use Rattle.intern_marks.specs.Reach.{Entry, is_entry, starts_with, kept_entries, calls_of}
+use Rattle.intern_marks.specs.Learning.{Learns}
+use Rattle.intern_marks.specs.Marks.{Marks, fresh, root, roots}
+use Rattle.intern_marks.specs.Reach.{Entry, starts_with, kept_entries, calls_of}
 use Rattle.intern_marks.specs.Trace.{IsTrace}
-use Rattle.intern_marks.proofs.Counting.{all_reached}
-use Rattle.intern_marks.proofs.Traces.{reached_at_end}
+use Rattle.intern_marks.proofs.Counting.{reached_entry}
+use Rattle.intern_marks.proofs.Steps.{root_places, each-registered}
+use Rattle.intern_marks.proofs.Traces.{reached_at_end, trace_begins}
 use Rattle.intern_store.specs.declared.names.Name.{Name}
-use Rattle.ra_ap_intern.specs.Families.{IsCollection}
+use Rattle.ra_ap_intern.specs.Families.{IsCollection, IsTraced}
 use Rattle.ra_ap_intern.specs.declared.gc.Collected.{Collected}
+use Rattle.ra_ap_intern.proofs.Registering.{learnt_size}
 
 -- no more are left than there were
 fewer_left : (p : Entry → Bool) (es : List Entry) → length (filter p es) ≤ length es
@@ -29,21 +32,38 @@ removed_are all rest set entries left removed kept small whole is told =
     let same : left ≡ length rest = is ∙ min-eq_left (omega arith) in
     omega arith
 
--- at the end of a trace
-module _ (family : List Entry) (listed : List Name) (m : Marks) (t : IsTrace (starts_with listed family) family m) (done : length m.marked ≤ m.visits) where
-  visits_are : m.visits ≡ length m.marked
-  visits_are = let within = t.within in omega arith
+-- marks of a learnt family, with names that are listed beside, begin a trace, and know its entries
+pub roots_begin : (family : List Entry) (listed : List Name) (learnt m : Marks) → Learns true family (fresh empty) learnt
+    → m ≡ roots learnt listed → IsTrace (starts_with listed family) family m × (len m.registered ≡ length family)
+roots_begin family listed learnt m is rooted = (
+  subst (IsTrace (starts_with listed family) family) (sym rooted) (trace_begins family listed learnt is),
+  ap (λ (n : Marks). len n.registered) rooted
+      ∙ ap len (each-registered true root root_places learnt listed) ∙ learnt_size true family learnt is,
+)
 
-  -- where as many entries were visited as there are, each was
-  pub none_left_out : length family ≤ m.visits → (x : Name) → is_entry family x ≡ true → has m.marked x ≡ true
-  none_left_out many = all_reached listed family m.marked (reached_at_end (starts_with listed family) family m t done) (let all = visits_are in omega arith)
+-- what a trace knows at its end
+pub traced : (family : List Entry) (listed : List Name) (m : Marks) → IsTrace (starts_with listed family) family m
+    → length m.marked ≤ m.visits → len m.registered ≡ length family → IsTraced (starts_with listed family) family m
+traced family listed m t done size =
+    let reached = reached_at_end (starts_with listed family) family m t done in
+    record {
+      reached = reached;
+      mark_calls = t.calls ∙ ap (calls_of family) (take_all m.visits m.marked done);
+      trace = record {
+        once = t.once;
+        there = λ name among. let r = (reached.reached name).0 among in reached_entry listed family r.0 name r.1;
+        visits = let within = t.within in omega arith;
+        size = size;
+      };
+    }
 
-  -- what a collection tells
-  pub is_collection : (told : Collected) → told.visits ≡ m.visits → told.mark_calls ≡ m.calls → told.removed + length (kept_entries family m.marked) ≡ length family
-      → IsCollection (starts_with listed family) family m.marked told
-  is_collection told visits calls removed = record {
-    reached = reached_at_end (starts_with listed family) family m t done;
-    visits = visits ∙ visits_are;
-    mark_calls = calls ∙ t.calls ∙ ap (calls_of family) (take_all m.visits m.marked done);
-    removed = removed;
-  }
+-- and what a collection tells that sweeps after it
+pub collection : (begins : Name → Bool) (family : List Entry) (m : Marks) (told : Collected) → IsTraced begins family m
+    → told.visits ≡ m.visits → told.mark_calls ≡ m.calls → told.removed + length (kept_entries family m.marked) ≡ length family
+    → IsCollection begins family m.marked told
+collection begins family m told t visits calls removed = record {
+  reached = t.reached;
+  visits = visits ∙ t.trace.visits;
+  mark_calls = calls ∙ t.mark_calls;
+  removed = removed;
+}

@@ -6,6 +6,7 @@ pub mod CallerLemmas
 mod CallerReads
 mod CallerSlices
 mod CallerStates
+mod CallerSymbols
 mod CallerViews
 mod Collections
 mod Entries

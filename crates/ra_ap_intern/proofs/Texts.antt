@@ -11,7 +11,7 @@ use Rattle.intern_store.specs.State.{State, IsState, name_in, reads, birth_of, o
 use Rattle.intern_store.specs.declared.names.Name.{Name}
 use Rattle.intern_store.proofs.Later.{Later, later_itself, interned_counted_later}
 use Rattle.intern_store.proofs.Reading.{recounted_reads, interned_reads}
-use Rattle.ra_ap_intern.proofs.CallerLemmas.{read_at, read_once}
+use Rattle.ra_ap_intern.proofs.CallerReads.{read_at, read_once}
 use Rattle.ra_ap_intern.specs.Symbols.{IsTable, Named, text_of, symbol_at, symbol_in, at_entry}
 use Rattle.ra_ap_intern.specs.Symbols.Named.{preset, entry}
 

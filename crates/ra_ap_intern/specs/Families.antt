@@ -1,8 +1,11 @@
 -- Families of storages, as a collection sees them.
 use Rattle.std.specs.Prelude.{◌≡◌, ℕ, ◌+◌, Bool, true, not, ◌&&◌, nat_eq, List, [], ◌∷◌, ◌++◌, length, map as list_map}
-use Rattle.std.specs.List.{list_any}
+use Rattle.std.specs.List.{list_any, IsDistinct}
 use Rattle.std.specs.FinMap as map
-use Rattle.intern_marks.specs.Reach.{Entry, IsReachedSet, kept_entries, calls_of}
+use Rattle.intern_marks.specs.Marks.{Marks}
+use Rattle.intern_marks.specs.Names.{has}
+use Rattle.intern_marks.specs.Reach.{Entry, IsReachedSet, is_entry, kept_entries, calls_of}
+use Rattle.intern_store.specs.Named.{same_name}
 use Rattle.intern_store.specs.State.{State, name_in, kept}
 use Rattle.intern_store.specs.declared.names.Name.{Name}
 use Rattle.intern_table.specs.Sliced.{Sliced}
@@ -56,3 +59,16 @@ pub record IsCollection (begins : Name → Bool) (family : List Entry) (names : 
     pub visits : told.visits ≡ length names
     pub mark_calls : told.mark_calls ≡ calls_of family names
     pub removed : told.removed + length (kept_entries family names) ≡ length family
+
+-- marks at the end of a trace over these entries: each marked one was visited
+pub record IsTraceOf (family : List Entry) (m : Marks) : Type 0 where
+  pub once : IsDistinct same_name m.marked
+  pub there : (name : Name) → has m.marked name ≡ true → is_entry family name ≡ true
+  pub visits : m.visits ≡ length m.marked
+  pub size : map.len m.registered ≡ length family
+
+-- where they are what paths reach
+pub record IsTraced (begins : Name → Bool) (family : List Entry) (m : Marks) : Type 0 where
+  pub reached : IsReachedSet begins family m.marked
+  pub mark_calls : m.calls ≡ calls_of family m.marked
+  pub trace : IsTraceOf family m

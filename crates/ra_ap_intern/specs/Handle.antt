@@ -1,5 +1,7 @@
 -- The names of handles. Handles are equal exactly if their names are.
 use Rattle.std.specs.Prelude.{ℕ}
+use Rattle.std.specs.Ordering.{nat_cmp, ordering_then}
+use Rattle.std.specs.declared.cmp.Ordering.{Ordering}
 use Rattle.intern_store.specs.Named.{key_name}
 use Rattle.intern_store.specs.declared.names.Name.{Name}
 use Rattle.ra_ap_intern.specs.declared.owed.Owed.{Owed}
@@ -18,6 +20,10 @@ module _ {K : Type 0} where
   -- the owned handle in one that must be released
   abbrev pub handle_of : Owed K → Owned K
   handle_of h = h.handle
+
+-- the order of names: by the storages' numbers, and then by the births
+abbrev pub name_cmp : Name → Name → Ordering
+name_cmp a b = ordering_then (nat_cmp a.storage b.storage) (nat_cmp a.birth b.birth)
 
 -- a value that a table lists under its birth, with its name in the storage of this number
 abbrev pub with_name : {V : Type 0} → ℕ → ℕ × (V × ℕ) → Name × V

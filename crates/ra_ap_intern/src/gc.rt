@@ -13,12 +13,13 @@ ghost use Rattle.intern_marks.specs.Reach.{starts, starts_with};
 ghost use Rattle.intern_marks.specs.Trace.{IsTrace};
 ghost use Rattle.intern_store.specs.Named.{key_name};
 ghost use Rattle.intern_store.specs.declared.names.Name.{Name as EntryName};
-ghost use Rattle.ra_ap_intern.specs.Families.{IsCollection, are_distinct};
+ghost use Rattle.ra_ap_intern.specs.Families.{IsCollection, IsTraced, are_distinct};
 ghost use Rattle.ra_ap_intern.specs.Handle.{ref_name};
 
 mod family;
 mod learn;
 mod storages;
+mod trace;
 mod visit;
 mod visitors;
 
@@ -31,6 +32,7 @@ use std::alloc::{AllocError, Global};
 use std::marker::Model;
 use std::ops::ControlFlow;
 pub use storages::Visits;
+pub use trace::Trace;
 pub use visit::{GcInternedSliceVisit, GcInternedVisit};
 
 /// What a collection did.
@@ -222,7 +224,7 @@ impl GarbageCollector {
     {
         self.learn(family, true)?;
         self.root(roots);
-        Ok(self.finish(family))
+        Ok(self.followed(family).sweep(family))
     }
 
     /// Does the same, and begins paths also at what a visitor declares: a reference, or an option, a
@@ -241,32 +243,41 @@ impl GarbageCollector {
             × (family.new ≡ F.kept family.old (has names))) }
         ensures err { OnErr result (family.new ≡ family.old) }
     {
+        Ok(self.trace(family, roots)?.sweep(family))
+    }
+
+    /// Finds what [`GarbageCollector::collect_from`] would leave, and removes nothing: what is to go
+    /// can be read, and what it owns be given up, before [`Trace::sweep`] removes it. Where there is
+    /// no memory, `AllocError`; the sweep asks for none.
+    ///
+    /// No two storages of the family may have one number ([`GarbageCollector::distinct`]).
+    pub fn trace<F: Family, R: GcInternedVisit>(
+        mut self,
+        family: &F,
+        roots: &R,
+    ) -> Result<Trace, AllocError>
+        requires distinct { are_distinct (F.numbers family.now) ≡ true }
+        requires collected { F.collected ≡ true }
+        ensures { IfOk result (λ trace.
+            IsTraced (starts_with (R.children roots.now) (F.entries family.now))
+            (F.entries family.now) trace) }
+    {
         self.learn(family, true)?;
         roots.visit_with(&mut self);
         // No entry declares the roots.
         self.marks.forget_calls();
-        Ok(self.finish(family))
+        Ok(self.followed(family))
     }
 
-    // Visits what is pending, and removes what isn't marked then.
-    fn finish<F: Family>(&mut self, family: &mut F) -> Collected
-        ensures { let all = F.entries family.old in (listed : List EntryName) →
-            IsTrace (starts_with listed all) all self.old →
-            map.len self.old.registered ≡ length all → (names : List EntryName)
-            × IsCollection (starts_with listed all) all names result
-            × (family.new ≡ F.kept family.old (has names)) }
+    // What is reached, once all that is pending is visited.
+    fn followed<F: Family>(mut self, family: &F) -> Trace
+        ensures { let all = F.entries family.now in (listed : List EntryName) →
+            IsTrace (starts_with listed all) all self →
+            map.len self.registered ≡ length all →
+            IsTraced (starts_with listed all) all result }
     {
         self.follow(family);
-        let entries = self.marks.len();
-        // Where every entry was visited, all of them stay.
-        if self.visits() < entries {
-            family.sweep(self);
-        }
-        Collected {
-            visits: self.visits(),
-            mark_calls: self.mark_calls(),
-            removed: entries.saturating_sub(family.len()),
-        }
+        Trace { collector: self }
     }
 
     // Learns a family. With `roots`, the counted entries are marked at once. The table of names isn't

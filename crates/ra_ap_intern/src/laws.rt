@@ -11,7 +11,7 @@ ghost use Rattle.intern_store.specs.declared.names.Name.{Name};
 ghost use Rattle.intern_table.specs.Sliced.{Sliced, sliced_eq};
 ghost use Rattle.ra_ap_intern.specs.Constants.{constants};
 ghost use Rattle.ra_ap_intern.specs.Families.{IsCollection, kept_named};
-ghost use Rattle.ra_ap_intern.specs.Handle.{handle_of, name_of, ref_name};
+ghost use Rattle.ra_ap_intern.specs.Handle.{handle_of, name_cmp, name_of, ref_name};
 ghost use Rattle.ra_ap_intern.specs.Symbols.{IsTable, Named, Counted, symbol_name, symbol_ref_name, has_its_text, text_of, symbol_in, due_symbol, at_entry, is_new_text};
 ghost use Rattle.ra_ap_intern.specs.Symbols.Named.{preset, entry};
 ghost use Rattle.ra_ap_intern.specs.declared.gc.Collected.{Collected as Told};
@@ -97,20 +97,27 @@ pub fn what_is_stored_is_found<T: Eq>()
         due_interning T.eq s v any_count ≡ None }
 {}
 
-/// Handles of any kind are equal exactly if their names are, and equal ones hash alike.
+/// Handles of any kind are equal exactly if their names are, equal ones hash alike, and they are
+/// ordered as their names: by the storages' numbers, and then by the births.
 pub fn handles_are_names<K>()
     ensures owned { (a b : Handle K) →
         (⟦<Owned<K> as PartialEq>⟧.eq a b ≡ true) ↔ (name_of a ≡ name_of b) }
     ensures owned_hashed { (a b : Handle K) → name_of a ≡ name_of b →
         ⟦<Owned<K> as Hash>⟧.hash_input a ≡ ⟦<Owned<K> as Hash>⟧.hash_input b }
+    ensures owned_ordered { (a b : Handle K) →
+        ⟦<Owned<K> as Ord>⟧.cmp a b ≡ name_cmp (name_of a) (name_of b) }
     ensures reference { (a b : Reference K) →
         (⟦<Ref<K> as PartialEq>⟧.eq a b ≡ true) ↔ (ref_name a ≡ ref_name b) }
     ensures reference_hashed { (a b : Reference K) → ref_name a ≡ ref_name b →
         ⟦<Ref<K> as Hash>⟧.hash_input a ≡ ⟦<Ref<K> as Hash>⟧.hash_input b }
+    ensures reference_ordered { (a b : Reference K) →
+        ⟦<Ref<K> as Ord>⟧.cmp a b ≡ name_cmp (ref_name a) (ref_name b) }
     ensures owed { (a b : ToRelease K) →
         (⟦<Owed<K> as PartialEq>⟧.eq a b ≡ true) ↔ (name_of (handle_of a) ≡ name_of (handle_of b)) }
     ensures owed_hashed { (a b : ToRelease K) → name_of (handle_of a) ≡ name_of (handle_of b) →
         ⟦<Owed<K> as Hash>⟧.hash_input a ≡ ⟦<Owed<K> as Hash>⟧.hash_input b }
+    ensures owed_ordered { (a b : ToRelease K) → ⟦<Owed<K> as Ord>⟧.cmp a b
+        ≡ name_cmp (name_of (handle_of a)) (name_of (handle_of b)) }
 {}
 
 /// Owned handles are equal exactly if their names are, and equal ones hash alike.

@@ -13,7 +13,7 @@ mod text;
 
 pub use gc::{
     Collected, Family, GarbageCollector, GcInternedSliceVisit, GcInternedVisit, NoStorages,
-    Numbered, Pair, Visits,
+    Numbered, Pair, Trace, Visits,
 };
 pub use intern::{InternStorage, Internable, Interned, InternedRef, Iter};
 pub use intern_slice::{

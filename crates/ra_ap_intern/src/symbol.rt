@@ -223,8 +223,8 @@ impl Symbol {
         ensures state { Becomes result table.old table.new
             (at_entry (released false) table.old (symbol_name self)) }
     {
-        table
-            .lower(&self)
+        self.as_ref()
+            .decrease_refcount(table)
             .map_err(|why| Refused { why, back: self })
     }
 
@@ -237,7 +237,7 @@ impl Symbol {
         ensures state { Becomes result table.old table.new
             (at_entry (released false) table.old (symbol_name self.old)) }
     {
-        table.lower(self)
+        self.as_ref().decrease_refcount(table)
     }
 }
 
@@ -299,6 +299,23 @@ impl SymbolRef {
             }
         }
     }
+
+    /// Gives a count of the text up, which a symbol had that was dropped without `release`, also as
+    /// a part of a value that a collection removed. With the last count the text goes. A preset stays.
+    /// Refused, never for a preset: `Foreign`, `Gone`.
+    pub fn decrease_refcount(self, table: &mut SymbolTable) -> Result<(), Refusal>
+        ensures refused { Owes result (due_of table.old (symbol_ref_name self) any_count) }
+        ensures state { Becomes result table.old table.new
+            (at_entry (released false) table.old (symbol_ref_name self)) }
+    {
+        match self.0 {
+            Source::Preset(_) => Ok(()),
+            Source::Runtime(key) => {
+                table.store.release(key, false)?;
+                Ok(())
+            }
+        }
+    }
 }
 
 impl SymbolRef {
@@ -309,23 +326,6 @@ impl SymbolRef {
         match self.0 {
             Source::Preset(place) => intern_presets::text(place),
             Source::Runtime(_) => None,
-        }
-    }
-}
-
-impl SymbolTable {
-    // Counts a symbol's text once less. With the last count it goes.
-    fn lower(&mut self, symbol: &Symbol) -> Result<(), Refusal>
-        ensures refused { Owes result (due_of self.old (symbol_name symbol.now) any_count) }
-        ensures state { Becomes result self.old self.new
-            (at_entry (released false) self.old (symbol_name symbol.now)) }
-    {
-        match symbol.0 {
-            Source::Preset(_) => Ok(()),
-            Source::Runtime(key) => {
-                self.store.release(key, false)?;
-                Ok(())
-            }
         }
     }
 }

@@ -1,26 +1,11 @@
 -- Heads, compared.
 use Rattle.std.proofs.Common.{◌≡◌, Bool, true, false, cond, List, [], ◌∷◌, Option, Some, ap, refl, sym, ◌∙◌}
 use Rattle.std.specs.Prelude.{find}
-use Rattle.std.proofs.lemmas.Bool.{eqb-true, eq-eqb}
 use Rattle.std.proofs.lemmas.Option.{same_Some}
-use Rattle.ra_ap_intern.proofs.CallerLemmas.{names_same, same_names}
+use Rattle.ra_ap_intern.proofs.CallerLemmas.{named_same}
 use Rattle.ra_ap_intern.specs.Symbols.{Named, same_named}
-use Rattle.ra_ap_intern.specs.Symbols.Named.{preset, entry}
 use Rattle.syntax.specs.Lexeme.{operator_head, operators, operator_of}
 use Rattle.syntax.specs.declared.token.Operator.{Operator}
-
--- what names symbols is the same exactly if it is equal
-pub named_same : (a b : Named) → same_named a b ≡ true → a ≡ b
-named_same (preset p) (preset q) is = ap preset (eqb-true p q is)
-named_same (preset p) (entry m) is = absurd (cc)
-named_same (entry n) (preset q) is = absurd (cc)
-named_same (entry n) (entry m) is = ap entry (names_same n m is)
-
-pub same_names_of : (a b : Named) → a ≡ b → same_named a b ≡ true
-same_names_of (preset p) (preset q) is = let same : p ≡ q = cc in eq-eqb p q same
-same_names_of (preset p) (entry m) is = absurd (cc)
-same_names_of (entry n) (preset q) is = absurd (cc)
-same_names_of (entry n) (entry m) is = let same : n ≡ m = cc in same_names n m same
 
 -- what is found passes
 chosen : {X : Type 0} (p : X → Bool) (y x : X) (rest : Option X) (b : Bool) → p y ≡ b

@@ -13,13 +13,6 @@ use Rattle.syntax.specs.Parsing.{Store, Keeps, Stand, IsUnclosed, AreUnclosed, O
 use Rattle.syntax.specs.declared.machine.Frame.{Frame}
 use Rattle.syntax.specs.declared.token.Operator.{Operator}
 
-pub all_count : (s : Store) (names : List Name) (ts : Trees) → AllUnfold s names ts
-    → count ts ≡ length names
-all_count s [] no_more all = refl
-all_count s [] (one_more t ts) all = absurd all
-all_count s (n ∷ names) no_more all = absurd all
-all_count s (n ∷ names) (one_more t ts) all = ap suc (all_count s names ts all.1)
-
 pub stand_count : (s : Store) (terms : List TermRef) (ts : Trees) → Stand s terms ts
     → count ts ≡ length terms
 stand_count s [] no_more all = refl

@@ -12,7 +12,8 @@ use Rattle.syntax.specs.Parsing.{Store, Keeps}
 use Rattle.syntax.specs.Printing.{IsItem, AreItems, item_tokens, program_tokens, two_parts, three_parts, conditional, local, called_with, written, tokens_of, tokens_of_each}
 use Rattle.syntax.specs.declared.token.Operator.{Operator}
 use Rattle.syntax.specs.declared.token.Mark.TheVariants.{Equals, Semicolon}
-use Rattle.syntax.proofs.Heads.{named_same, head_of_operator}
+use Rattle.ra_ap_intern.proofs.CallerLemmas.{named_same}
+use Rattle.syntax.proofs.Heads.{head_of_operator}
 use Rattle.syntax.proofs.Reading.{keeps_all}
 use Rattle.syntax.proofs.Runs.{AreRead, EachRead, called_read, sides_read, conditional_read, local_read, then_rest, frame, joined, joined_last, joined_none}
 
@@ -82,25 +83,24 @@ mutual
 abbrev pub between_items : Trees → Reading
 between_items items = record { items = items; opens = []; value = None }
 
+-- an item with this head is read
+abbrev IsItemRead : Trees → Tree → Tree → List Lexeme → Named → Type 0
+IsItemRead items l r rest head =
+    let item = tree head (one_more l (one_more r no_more)) in
+    run (between_items items) (item_tokens item ++ rest)
+    ≡ run (between_items (with_last items item)) rest
+
 item_read_as : (items : Trees) (head : Named) (l r : Tree) (rest : List Lexeme)
     → (head ≡ symbol_name constant.fn_) ⊎ (head ≡ symbol_name constant.let_)
-    → run (between_items items)
-    (item_tokens (tree head (one_more l (one_more r no_more))) ++ rest)
-    ≡ run (between_items (with_last items (tree head (one_more l (one_more r no_more))))) rest
+    → IsItemRead items l r rest head
 item_read_as items head l r rest (inl is) =
-    let P : Named → Type 0 = λ h. run (between_items items)
-    (item_tokens (tree h (one_more l (one_more r no_more))) ++ rest)
-    ≡ run (between_items (with_last items (tree h (one_more l (one_more r no_more))))) rest
-    in subst P (sym is)
+    subst (IsItemRead items l r rest) (sym is)
     (then_rest (tokens_of l) l (tree_read l) items (frame definition no_more) []
     (mark Equals ∷ (tokens_of r ++ (mark Semicolon ∷ []))) rest
     ∙ then_rest (tokens_of r) r (tree_read r) items (frame definition (one_more l no_more)) []
     (mark Semicolon ∷ []) rest)
 item_read_as items head l r rest (inr is) =
-    let P : Named → Type 0 = λ h. run (between_items items)
-    (item_tokens (tree h (one_more l (one_more r no_more))) ++ rest)
-    ≡ run (between_items (with_last items (tree h (one_more l (one_more r no_more))))) rest
-    in subst P (sym is)
+    subst (IsItemRead items l r rest) (sym is)
     (then_rest (tokens_of l) l (tree_read l) items (frame binding no_more) []
     (mark Equals ∷ (tokens_of r ++ (mark Semicolon ∷ []))) rest
     ∙ then_rest (tokens_of r) r (tree_read r) items (frame binding (one_more l no_more)) []

@@ -44,20 +44,15 @@ impl Header {
     }
 }
 
-/// Checks that names are defined, and nothing else.
+/// Checks that names are defined, and nothing else. `Unexpected` at the first other token.
 pub fn check_headers(tokens: &[PlacedToken], names: &SymbolTable) -> Result<(), Stop> {
     let mut header = Header::Free;
-    for placed in tokens {
-        match header.behind(placed.token, names) {
-            Some(next) => header = next,
-            None => {
-                return Err(Stop::Unexpected {
-                    place: placed.place,
-                    expected: header.expected(),
-                    found: Some(placed.token),
-                });
-            }
-        }
+    for PlacedToken { token, place } in tokens.iter().copied() {
+        header = header.behind(token, names).ok_or(Stop::Unexpected {
+            place,
+            expected: header.expected(),
+            found: Some(token),
+        })?;
     }
     Ok(())
 }

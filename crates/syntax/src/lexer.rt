@@ -1,9 +1,11 @@
 //! Tokens from text.
+use crate::fault::Fault;
 use crate::message::{Expected, Stop};
-use crate::token::{Mark, Operator, Place, PlacedToken, Token};
-use ra_ap_intern::{Refusal, Symbol, SymbolTable};
+use crate::token::{Place, PlacedToken, Token};
+use ra_ap_intern::{Symbol, SymbolTable};
 
-/// Adds the tokens of a line of this number. `#` begins a comment.
+/// Adds the tokens of a line of this number. `#` begins a comment. `Unexpected` when a word is no
+/// token, with those before it added.
 pub fn read_line(
     line: &str,
     number: usize,
@@ -23,7 +25,9 @@ pub fn read_line(
         let (gap, behind) = parenthesis(word, behind);
         if !word.starts_with(char::is_whitespace) {
             let token = token_of(word, gap.is_some(), place, names)?;
-            tokens.push(PlacedToken { token, place })?;
+            tokens
+                .push(PlacedToken { token, place })
+                .map_err(Fault::from)?;
         }
         let length = word.chars().count().saturating_add(gap.unwrap_or(0));
         place.column = place.column.saturating_add(length);
@@ -54,17 +58,19 @@ fn parenthesis<'a>(word: &str, behind: &'a str) -> (Option<usize>, &'a str) {
     if !is_name(word) {
         return (None, behind);
     }
-    match behind.split_once('(') {
-        Some((gap, after)) if gap.trim().is_empty() => {
-            (Some(gap.chars().count().saturating_add(1)), after)
+    match behind.trim_start().strip_prefix('(') {
+        Some(after) => {
+            let gap = behind.chars().take_while(|c| c.is_whitespace()).count();
+            (Some(gap.saturating_add(1)), after)
         }
-        _ => (None, behind),
+        None => (None, behind),
     }
 }
 
 // Whether a word is a name.
 fn is_name(word: &str) -> bool {
-    word.starts_with(|c: char| c.is_ascii_alphabetic() || c == '_') && keyword(word).is_none()
+    word.starts_with(|c: char| c.is_ascii_alphabetic() || c == '_')
+        && Token::spelled(word).is_none()
 }
 
 // The token of a word. An open parenthesis may belong to it.
@@ -74,58 +80,26 @@ fn token_of(
     place: Place,
     names: &mut SymbolTable,
 ) -> Result<Token, Stop> {
-    if let Some(mark) = keyword(word) {
-        return Ok(Token::Mark(mark));
-    }
-    if let Some(token) = punctuation(word) {
-        return Ok(token);
-    }
-    if !is_name(word) && !word.chars().all(|c| c.is_ascii_digit()) {
-        return Err(Stop::Unexpected {
+    match Token::spelled(word) {
+        Some(token) => Ok(token),
+        None if is_name(word) || word.chars().all(|c| c.is_ascii_digit()) => {
+            Ok(word_token(word, is_call, names)?)
+        }
+        None => Err(Stop::Unexpected {
             place,
             expected: Expected::Token,
             found: None,
-        });
+        }),
     }
-    Ok(word_token(word, is_call, names)?)
 }
 
 // A name, with its parenthesis or without, or a number. Its symbol stays counted, and so in the
 // table.
-fn word_token(word: &str, is_call: bool, names: &mut SymbolTable) -> Result<Token, Refusal> {
+fn word_token(word: &str, is_call: bool, names: &mut SymbolTable) -> Result<Token, Fault> {
     let symbol = Symbol::intern(names, word)?.as_ref();
     Ok(if is_call {
         Token::Call(symbol)
     } else {
         Token::Atom(symbol)
     })
-}
-
-fn keyword(word: &str) -> Option<Mark> {
-    match word {
-        "if" => Some(Mark::If),
-        "then" => Some(Mark::Then),
-        "else" => Some(Mark::Else),
-        "let" => Some(Mark::Let),
-        "in" => Some(Mark::In),
-        "fn" => Some(Mark::Fn),
-        _ => None,
-    }
-}
-
-fn punctuation(word: &str) -> Option<Token> {
-    match word {
-        "(" => Some(Token::Mark(Mark::Open)),
-        ")" => Some(Token::Mark(Mark::Close)),
-        "," => Some(Token::Mark(Mark::Comma)),
-        "=" => Some(Token::Mark(Mark::Equals)),
-        ";" => Some(Token::Mark(Mark::Semicolon)),
-        "+" => Some(Token::Infix(Operator::Add)),
-        "-" => Some(Token::Infix(Operator::Subtract)),
-        "*" => Some(Token::Infix(Operator::Multiply)),
-        "/" => Some(Token::Infix(Operator::Divide)),
-        "<" => Some(Token::Infix(Operator::Less)),
-        "==" => Some(Token::Infix(Operator::Equal)),
-        _ => None,
-    }
 }

@@ -76,20 +76,12 @@ impl Form {
     pub fn separates(self, parts: usize, mark: Mark) -> bool
         ensures { result ≡ shape_separates (shape_of self) parts mark }
     {
-        match self {
-            Form::Call(_) => mark == Mark::Comma,
-            Form::Choice => match mark {
-                Mark::Then => parts == 0,
-                Mark::Else => parts == 1,
-                _ => false,
-            },
-            Form::Binding => match mark {
-                Mark::Equals => parts == 0,
-                Mark::In => parts == 1,
-                _ => false,
-            },
-            Form::Definition => mark == Mark::Equals && parts == 0,
-            Form::Group | Form::Infix(_) => false,
+        match (self, mark) {
+            (Form::Call(_), Mark::Comma) => true,
+            (Form::Choice, Mark::Then) => parts == 0,
+            (Form::Choice, Mark::Else) | (Form::Binding, Mark::In) => parts == 1,
+            (Form::Binding | Form::Definition, Mark::Equals) => parts == 0,
+            _ => false,
         }
     }
 
@@ -97,34 +89,25 @@ impl Form {
     pub fn closes(self, mark: Mark) -> bool
         ensures { result ≡ shape_closes (shape_of self) mark }
     {
-        match self {
-            Form::Group | Form::Call(_) => mark == Mark::Close,
-            _ => false,
-        }
+        matches!((self, mark), (Form::Group | Form::Call(_), Mark::Close))
     }
 
     /// Whether a mark behind so many parts and one more ends the form as an item: the outermost one.
     pub fn closes_item(self, parts: usize, mark: Mark, is_outermost: bool) -> bool
         ensures { result ≡ (shape_closes_item (shape_of self) parts mark && is_outermost) }
     {
-        match self {
-            Form::Binding | Form::Definition => {
-                mark == Mark::Semicolon && parts == 1 && is_outermost
-            }
-            _ => false,
-        }
+        let is_definition = matches!(self, Form::Binding | Form::Definition);
+        is_definition && mark == Mark::Semicolon && parts == 1 && is_outermost
     }
 
     /// Whether the form ends with its next part, if what follows is this operator, or a mark.
     pub fn yields(self, parts: usize, before: Option<Operator>) -> bool
         ensures { result ≡ shape_yields (shape_of self) parts before }
     {
-        match self {
-            Form::Infix(operator) => match before {
-                Some(next) => next.precedence() <= operator.precedence(),
-                None => true,
-            },
-            Form::Choice | Form::Binding => before.is_none() && parts == 2,
+        match (self, before) {
+            (Form::Infix(operator), Some(next)) => next.precedence() <= operator.precedence(),
+            (Form::Infix(_), None) => true,
+            (Form::Choice | Form::Binding, None) => parts == 2,
             _ => false,
         }
     }
@@ -208,19 +191,9 @@ impl Machine {
         ensures frames { OnOk result (Opened self.old.frames.items self.new.frames.items
             frame.form (frame.parts.items ++ part ∷ [])) }
     {
-        let Frame {
-            form,
-            mut parts,
-            place,
-            first,
-        } = frame;
-        parts.push(part)?;
-        self.frames.push(Frame {
-            form,
-            parts,
-            place,
-            first,
-        })?;
+        let mut frame = frame;
+        frame.parts.push(part)?;
+        self.frames.push(frame)?;
         self.value = None;
         Ok(())
     }

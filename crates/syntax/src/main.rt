@@ -24,22 +24,30 @@ mod syntax;
 mod tests;
 mod token;
 
-use crate::fault::{Fault, read_text, write_text};
+use crate::fault::Fault;
 use crate::session::told;
+use std::alloc::{AllocError, Global};
+use std::io;
+use std::io::{ErrorKind, Read, Write};
 use std::process::ExitCode;
 
 fn main(rt: HostRuntime) -> ExitCode {
-    match run(&rt) {
-        Ok(()) => ExitCode::from(0),
+    match serve(rt.alloc(), rt.stdin(), &mut rt.stdout()) {
+        Ok(()) => ExitCode::SUCCESS,
         Err(fault) => {
-            let _ = rt.eprintln(fault.line());
+            let _ = rt.eprintln(fault);
             ExitCode::from(2)
         }
     }
 }
 
-fn run(rt: &(impl Input + Print + AllocGlobal)) -> Result<(), Fault> {
-    let text = read_text(rt)?;
-    let told = told(rt.alloc(), text.as_str())?;
-    write_text(rt, told.as_str())
+// Reads all input, tells of its versions in memory, and then writes what is told.
+fn serve<R: Read + Drop, W: Write>(alloc: Global, input: R, output: &mut W) -> Result<(), Fault> {
+    let text = io::read_to_string(alloc, input).map_err(|error| match error.kind() {
+        ErrorKind::InvalidData => Fault::NotText,
+        ErrorKind::OutOfMemory => Fault::OutOfMemory(AllocError),
+        _ => Fault::Input,
+    })?;
+    let told = told(alloc, text.as_str())?;
+    output.write_all(told.as_bytes()).map_err(|_| Fault::Output)
 }

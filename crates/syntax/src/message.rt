@@ -3,9 +3,9 @@ ghost use Rattle.std.specs.Prelude.{◌≡◌};
 
 use crate::fault::Fault;
 use crate::machine::Form;
-use crate::token::{Mark, Place, Token};
-use ra_ap_intern::{Refusal, SymbolTable};
-use std::alloc::{AllocError, AllocFailed};
+use crate::token::{Place, Token};
+use ra_ap_intern::SymbolTable;
+use std::alloc::AllocError;
 
 /// What could have stood in a token's place.
 #[derive(Clone, Copy, PartialEq, Eq)]
@@ -30,13 +30,14 @@ pub enum Expected {
 /// Why a version wasn't parsed.
 #[derive(Clone, Copy)]
 pub enum Stop {
-    /// A token that can't stand where it does.
+    /// When a token can't stand where it does, or the tokens end within an item, or a word is no
+    /// token: the last two without what was found.
     Unexpected {
         place: Place,
         expected: Expected,
         found: Option<Token>,
     },
-    /// What ends the program.
+    /// When the program has to give up.
     Fault(Fault),
 }
 
@@ -47,18 +48,6 @@ impl From<Fault> for Stop {
 
     fn from(fault: Fault) -> Stop {
         Stop::Fault(fault)
-    }
-}
-
-impl From<Refusal> for Stop {
-    fn from(why: Refusal) -> Stop {
-        Stop::Fault(Fault::Refused(why))
-    }
-}
-
-impl<T: Drop> From<AllocFailed<T>> for Stop {
-    fn from(_error: AllocFailed<T>) -> Stop {
-        Stop::Fault(Fault::Refused(Refusal::OutOfMemory))
     }
 }
 
@@ -98,9 +87,8 @@ pub fn write_token(token: Token, names: &SymbolTable, out: &mut String) -> Resul
         Token::Atom(name) => out.push_str(name.as_str(names).unwrap_or("?")),
         Token::Call(name) => {
             out.push_str(name.as_str(names).unwrap_or("?"))?;
-            out.push_str(Mark::Open.text())
+            out.push('(')
         }
-        Token::Infix(operator) => out.push_str(operator.text()),
-        Token::Mark(mark) => out.push_str(mark.text()),
+        Token::Infix(_) | Token::Mark(_) => out.push_str(token.spelling().unwrap_or("?")),
     }
 }

@@ -34,12 +34,12 @@ pub fn tell_changes(
     let new_names = under_names(syntax, news.as_slice())?;
     for item in olds.as_slice() {
         if new_names.get(&item.name).is_none() {
-            tell_item(syntax, "removed", item.part, spots.old, out)?;
+            tell_item(syntax, "  removed at ", item.part, spots.old, out)?;
         }
     }
     for item in news.as_slice() {
         match old_names.get(&item.name) {
-            None => tell_item(syntax, "added", item.part, spots.new, out)?,
+            None => tell_item(syntax, "  added at ", item.part, spots.new, out)?,
             Some(old) => {
                 let whole = Change {
                     old: *old,
@@ -90,12 +90,9 @@ fn tell_item(
     spots: &[Spot],
     out: &mut String,
 ) -> Result<(), Fault> {
-    write!(out, "  {what} at ")?;
-    tell_place(item, spots, out)?;
-    out.push_str(": ")?;
+    tell_place(what, item, spots, out)?;
     syntax.write_item(item.tree, MOST, out)?;
-    out.push('\n')?;
-    Ok(())
+    Ok(out.push('\n')?)
 }
 
 // Tells what changed in an item.
@@ -107,25 +104,19 @@ fn tell_changed(
 ) -> Result<(), Fault> {
     let changes = syntax.changes(whole, spots, MOST)?;
     for change in changes.as_slice() {
-        out.push_str("  changed at ")?;
-        tell_place(change.old, spots.old, out)?;
-        out.push_str(": ")?;
+        tell_place("  changed at ", change.old, spots.old, out)?;
         syntax.write(change.old.tree, MOST, out)?;
-        out.push_str(", now at ")?;
-        tell_place(change.new, spots.new, out)?;
-        out.push_str(": ")?;
+        tell_place(", now at ", change.new, spots.new, out)?;
         syntax.write(change.new.tree, MOST, out)?;
         out.push('\n')?;
     }
     Ok(())
 }
 
-// Tells where a part begins, as a line and a column.
-fn tell_place(part: Part, spots: &[Spot], out: &mut String) -> Result<(), Fault> {
-    if let Some(spot) = spots.get(part.spot) {
-        let line = spot.place.line;
-        let column = spot.place.column;
-        write!(out, "{line}:{column}")?;
+// Tells what became of a part, and where it begins.
+fn tell_place(what: &str, part: Part, spots: &[Spot], out: &mut String) -> Result<(), Fault> {
+    match spots.get(part.spot) {
+        Some(Spot { place, .. }) => Ok(write!(out, "{what}{place}: ")?),
+        None => Ok(write!(out, "{what}: ")?),
     }
-    Ok(())
 }

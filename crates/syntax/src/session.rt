@@ -6,7 +6,7 @@ use crate::message::{Expected, Stop, write_token};
 use crate::parser::Program;
 use crate::report::tell_changes;
 use crate::syntax::Syntax;
-use crate::token::{Place, PlacedToken, Token};
+use crate::token::{Place, Token};
 use std::alloc::{AllocError, Global};
 
 /// What stands between two versions.
@@ -21,80 +21,34 @@ struct Session {
     out: String,
 }
 
-// What was read of a version: its tokens, and the first thing that is wrong with them.
-#[derive(Drop)]
-struct Version {
-    tokens: Vec<PlacedToken>,
-    stop: Option<Stop>,
-    line: usize,
-}
-
 /// What is told of the versions in a text.
 pub fn told(alloc: Global, text: &str) -> Result<String, Fault> {
-    let mut session = Session::new(alloc);
-    let mut version = Version::new(alloc, 1);
-    for line in text.lines() {
-        if line.trim_end() == RULE {
-            let next = version.line.saturating_add(1);
-            session.tell(version)?;
-            version = Version::new(alloc, next);
-        } else {
-            version.read(line, &mut session.syntax);
-        }
+    let mut session = Session {
+        syntax: Syntax::new(alloc),
+        before: Program {
+            items: Vec::new(alloc),
+            spots: Vec::new(alloc),
+        },
+        number: 0,
+        out: String::new(alloc),
+    };
+    let mut first: usize = 1;
+    let lines: Vec<&str> = text.lines().collect(alloc)?;
+    for version in lines.split(|line| line.trim_end() == RULE) {
+        session.tell(version, first)?;
+        first = first.saturating_add(version.len()).saturating_add(1);
     }
-    session.tell(version)?;
     let Session { out, .. } = session;
     Ok(out)
 }
 
-impl Version {
-    fn new(alloc: Global, line: usize) -> Version {
-        Version {
-            tokens: Vec::new(alloc),
-            stop: None,
-            line,
-        }
-    }
-
-    // Reads a line, unless something was wrong before.
-    fn read(&mut self, line: &str, syntax: &mut Syntax) {
-        if self.stop.is_none() {
-            let read = read_line(line, self.line, &mut syntax.names, &mut self.tokens);
-            self.stop = read.err();
-        }
-        self.line = self.line.saturating_add(1);
-    }
-
-    // The program that was read.
-    fn program(self, syntax: &mut Syntax) -> Result<Program, Stop> {
-        let Version { tokens, stop, line } = self;
-        if let Some(stop) = stop {
-            return Err(stop);
-        }
-        check_headers(tokens.as_slice(), &syntax.names)?;
-        syntax.parse(tokens.as_slice(), Place { line, column: 1 })
-    }
-}
-
 impl Session {
-    fn new(alloc: Global) -> Session {
-        Session {
-            syntax: Syntax::new(alloc),
-            before: Program {
-                items: Vec::new(alloc),
-                spots: Vec::new(alloc),
-            },
-            number: 0,
-            out: String::new(alloc),
-        }
-    }
-
-    // Tells a version. One with an error is passed over, and the next is compared with the one
-    // before it.
-    fn tell(&mut self, version: Version) -> Result<(), Fault> {
+    // Tells the version of these lines, of which the first has this number. One with an error is
+    // passed over, and the next is compared with the one before it.
+    fn tell(&mut self, lines: &[&str], first: usize) -> Result<(), Fault> {
         self.number = self.number.saturating_add(1);
         let stored = self.syntax.terms.len();
-        match version.program(&mut self.syntax) {
+        match self.program(lines, first) {
             Ok(program) => self.tell_program(program, stored),
             Err(Stop::Fault(fault)) => Err(fault),
             Err(
@@ -105,6 +59,19 @@ impl Session {
                 },
             ) => Ok(self.tell_error(place, expected, found)?),
         }
+    }
+
+    // The program of these lines.
+    fn program(&mut self, lines: &[&str], first: usize) -> Result<Program, Stop> {
+        let mut tokens = Vec::new(self.syntax.alloc);
+        let mut line = first;
+        for text in lines {
+            read_line(text, line, &mut self.syntax.names, &mut tokens)?;
+            line = line.saturating_add(1);
+        }
+        check_headers(tokens.as_slice(), &self.syntax.names)?;
+        self.syntax
+            .parse(tokens.as_slice(), Place { line, column: 1 })
     }
 
     // Tells how large a program is and what changed, and keeps no other trees than its own.

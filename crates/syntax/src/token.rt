@@ -4,12 +4,20 @@ ghost use Rattle.ra_ap_intern.specs.Symbols.{symbol_name};
 ghost use Rattle.syntax.specs.Lexeme.{atom_of, operator_head, operator_of, precedence as precedence_of};
 
 use ra_ap_intern::{Symbol, SymbolRef, laws, sym};
+use std::fmt;
 
 /// Where something stands in the input: a line, and a character in it, both from 1 on.
 #[derive(Clone, Copy, PartialEq, Eq, Debug)]
 pub struct Place {
     pub line: usize,
     pub column: usize,
+}
+
+impl fmt::Display for Place {
+    fn fmt<W: fmt::Write>(&self, f: &mut fmt::Formatter<W>) -> fmt::Result {
+        let Place { line, column } = self;
+        write!(f, "{line}:{column}")
+    }
 }
 
 /// An infix operator. `a + b` is another way to write the call `add(a, b)`, and so on.
@@ -47,7 +55,6 @@ pub enum Mark {
     In,
     Fn,
     Semicolon,
-    End,
 }
 
 /// A token.
@@ -104,18 +111,6 @@ impl Operator {
             .copied()
             .find(|operator| operator.head() == *head)
     }
-
-    /// How it is written.
-    pub fn text(self) -> &'static str {
-        match self {
-            Operator::Add => "+",
-            Operator::Subtract => "-",
-            Operator::Multiply => "*",
-            Operator::Divide => "/",
-            Operator::Less => "<",
-            Operator::Equal => "==",
-        }
-    }
 }
 
 impl Token {
@@ -128,24 +123,37 @@ impl Token {
             Token::Call(_) | Token::Infix(_) | Token::Mark(_) => None,
         }
     }
-}
 
-impl Mark {
-    /// How it is written.
-    pub fn text(self) -> &'static str {
-        match self {
-            Mark::Open => "(",
-            Mark::Close => ")",
-            Mark::Comma => ",",
-            Mark::If => "if",
-            Mark::Then => "then",
-            Mark::Else => "else",
-            Mark::Let => "let",
-            Mark::Equals => "=",
-            Mark::In => "in",
-            Mark::Fn => "fn",
-            Mark::Semicolon => ";",
-            Mark::End => "the end of the version",
-        }
+    /// The operator, mark or keyword that is written so. None of another word.
+    pub fn spelled(word: &str) -> Option<Token> {
+        let spelling = SPELLINGS.iter().find(|spelling| spelling.0 == word)?;
+        Some(spelling.1)
+    }
+
+    /// How an operator, a mark or a keyword is written. None of a name or a number.
+    pub fn spelling(self) -> Option<&'static str> {
+        let spelling = SPELLINGS.iter().find(|spelling| spelling.1 == self)?;
+        Some(spelling.0)
     }
 }
+
+/// The operators, marks and keywords, as they are written.
+const SPELLINGS: [(&str, Token); 17] = [
+    ("(", Token::Mark(Mark::Open)),
+    (")", Token::Mark(Mark::Close)),
+    (",", Token::Mark(Mark::Comma)),
+    ("if", Token::Mark(Mark::If)),
+    ("then", Token::Mark(Mark::Then)),
+    ("else", Token::Mark(Mark::Else)),
+    ("let", Token::Mark(Mark::Let)),
+    ("=", Token::Mark(Mark::Equals)),
+    ("in", Token::Mark(Mark::In)),
+    ("fn", Token::Mark(Mark::Fn)),
+    (";", Token::Mark(Mark::Semicolon)),
+    ("+", Token::Infix(Operator::Add)),
+    ("-", Token::Infix(Operator::Subtract)),
+    ("*", Token::Infix(Operator::Multiply)),
+    ("/", Token::Infix(Operator::Divide)),
+    ("<", Token::Infix(Operator::Less)),
+    ("==", Token::Infix(Operator::Equal)),
+];

@@ -4,7 +4,7 @@ use Rattle.std.specs.HashMap.{HashMap, get, get_by}
 use Rattle.std.specs.Map.{lookup, values_of}
 use Rattle.std.specs.Option.{option_map}
 use Rattle.std.specs.declared.alloc.AllocError.{AllocError}
-use Rattle.std.proofs.lemmas.Bool.{or_left, or_right, eq-eqb, eqb-true}
+use Rattle.std.proofs.lemmas.Bool.{or_left, or_right}
 use Rattle.std.proofs.lemmas.Option.{same_Some}
 use Rattle.ra_ap_intern.specs.Families.{IsCollection, kept_named}
 use Rattle.ra_ap_intern.specs.Handle.{ref_name}
@@ -13,13 +13,11 @@ use Rattle.ra_ap_intern.specs.Names.{has}
 use Rattle.ra_ap_intern.specs.Reach.{IsReachedSet, starts_with}
 use Rattle.ra_ap_intern.specs.State.{State, reads}
 use Rattle.ra_ap_intern.specs.Symbols.{Named, same_named, symbol_ref_name}
-use Rattle.ra_ap_intern.specs.Symbols.Named.{preset, entry}
 use Rattle.ra_ap_intern.specs.declared.gc.Collected.{Collected}
 use Rattle.ra_ap_intern.specs.declared.kind.Values.{Values}
 use Rattle.ra_ap_intern.specs.declared.storage.Ref.{Ref}
-use Rattle.ra_ap_intern.specs.declared.symbol.Source.TheVariants.{Preset, Runtime}
 use Rattle.ra_ap_intern.specs.declared.symbol.SymbolRef.{SymbolRef}
-use Rattle.ra_ap_intern.proofs.CallerLemmas.{entry_read, names_same, reads-kept_named, root_kept, same_names}
+use Rattle.ra_ap_intern.proofs.CallerLemmas.{entry_read, named_by, references_tested, reads-kept_named, root_kept, same_names}
 use Rattle.types.specs.Environment.{declared_as, declared_types, Declares}
 use Rattle.types.specs.Growing.{Grows}
 use Rattle.types.specs.Making.{ReadsOn}
@@ -87,47 +85,16 @@ module _ (e : Environment) where
         subst (λ s. Declares e name tree ↔ Declares (over s) name tree) (sym err)
         (λ d. d, λ d. d)
 
-named_same : (a b : Named) → same_named a b ≡ true → a ≡ b
-named_same (preset p) (preset q) is = ap preset (eqb-true p q is)
-named_same (preset p) (entry m) is = absurd (cc)
-named_same (entry n) (preset q) is = absurd (cc)
-named_same (entry n) (entry m) is = ap entry (names_same n m is)
-
-same_nameds : (a : Named) → same_named a a ≡ true
-same_nameds (preset p) = eq-eqb p p refl
-same_nameds (entry n) = same_names n n refl
-
 left : {A : Type 0} (t : Bool) (x y : A) → t ≡ false → cond t x y ≡ y
 left true x y is = absurd (cc)
 left false x y is = refl
 
--- a reference that names this
-key_of : (a : Named) → (r : SymbolRef) × (symbol_ref_name r ≡ a)
-key_of (preset p) = let r : SymbolRef = record { 0 = Preset p } in (r, refl)
-key_of (entry n) =
-    let r : SymbolRef = record {
-      0 = Runtime (record { storage = n.storage; spot = record { birth = n.birth; place = 0 } });
-    } in (r, refl)
-
 module _ (eq : SymbolRef → SymbolRef → Bool)
     (alike : (a b : SymbolRef) → (eq a b ≡ true) ↔ (symbol_ref_name a ≡ symbol_ref_name b)) where
-  -- references are compared by what they name
-  same_test : (a b : SymbolRef) → eq a b ≡ same_named (symbol_ref_name a) (symbol_ref_name b)
-  same_test a b = go (eq a b) (same_named (symbol_ref_name a) (symbol_ref_name b)) refl refl
-    where
-      go : (t u : Bool) → eq a b ≡ t → same_named (symbol_ref_name a) (symbol_ref_name b) ≡ u → t ≡ u
-      go true true h k = refl
-      go false false h k = refl
-      go true false h k =
-          let one = subst (λ n. same_named (symbol_ref_name a) n ≡ true) ((alike a b).0 h)
-          (same_nameds (symbol_ref_name a)) in absurd (cc)
-      go false true h k =
-          let one = (alike a b).1 (named_same (symbol_ref_name a) (symbol_ref_name b) k) in absurd (cc)
-
   module _ {S : Type 0} where
     pub type_of : (m : HashMap SymbolRef (Ref (Values TypeNode)) S) (a : SymbolRef)
         → option_map ref_name (get eq m a) ≡ declared_as m (symbol_ref_name a)
-    type_of m a = λ i. option_map ref_name (get_by (λ b. same_test a b i) m)
+    type_of m a = λ i. option_map ref_name (get_by (λ b. references_tested eq alike a b i) m)
 
     -- a type under the symbol of a name, and each other as it was
     pub declared_on : (m n : HashMap SymbolRef (Ref (Values TypeNode)) S) (key : SymbolRef)
@@ -135,11 +102,11 @@ module _ (eq : SymbolRef → SymbolRef → Bool)
         → ((q : SymbolRef) → get eq n q ≡ cond (eq key q) (Some v) (get eq m q)) → (a : Named)
         → declared_as n a ≡ cond (same_named (symbol_ref_name key) a) (Some (ref_name v)) (declared_as m a)
     declared_on m n key v put a =
-        let r = key_of a in
+        let r = named_by a in
         subst (λ a. declared_as n a ≡ cond (same_named (symbol_ref_name key) a) (Some (ref_name v)) (declared_as m a))
         r.1 (sym (type_of n r.0) ∙ ap (option_map ref_name) (put r.0)
         ∙ through (eq key r.0) (get eq m r.0)
-        ∙ (λ i. cond (same_test key r.0 i) (Some (ref_name v)) (type_of m r.0 i)))
+        ∙ (λ i. cond (references_tested eq alike key r.0 i) (Some (ref_name v)) (type_of m r.0 i)))
       where
         through : (t : Bool) (o : Option (Ref (Values TypeNode)))
             → option_map ref_name (cond t (Some v) o) ≡ cond t (Some (ref_name v)) (option_map ref_name o)

@@ -82,14 +82,7 @@ impl Environment {
             Declares self.old name tree ↔
             Declares self.new name tree }
     {
-        let roots = self.roots(alloc)?;
+        let roots: Vec<TypeRef> = self.declared.values().copied().collect(alloc)?;
         self.types.collect(roots.as_slice())
-    }
-
-    // The types of all names.
-    fn roots(&self, alloc: Global) -> Result<Vec<TypeRef>, AllocError>
-        ensures { IfOk result (λ roots. roots.items ≡ values self.now.declared) }
-    {
-        self.declared.values().copied().collect(alloc)
     }
 }

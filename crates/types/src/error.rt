@@ -1,24 +1,34 @@
 //! Why a declaration has no type.
-use crate::place::Place;
+use crate::token::Place;
 use crate::value::TypeRef;
 use ra_ap_intern::{Refusal, SymbolRef};
-use std::alloc::{AllocError, AllocFailed};
+use std::alloc::AllocError;
+use thiserror::Error;
 
 /// Why a declaration has no type.
-#[derive(Clone, Copy)]
+#[derive(Clone, Copy, Debug, Error)]
 pub enum TypeError {
-    /// The name isn't bound.
+    /// When a name is bound neither in the declaration nor by an earlier one.
+    #[error("unbound name")]
     Unbound(SymbolRef),
-    /// The two types have no common instance.
+    /// When two types have to be equal that have no common instance.
+    #[error("can't unify")]
     Clash(TypeRef, TypeRef),
-    /// The first type, which isn't known, would be a part of the second, which it is equal to.
+    /// When the first type, which isn't known, would be a part of the second, which it is equal to.
+    #[error("infinite type")]
     Infinite(TypeRef, TypeRef),
-    /// The type takes more steps than are allowed.
+    /// When two types, or the copy of one, take more than `MOST_STEPS` steps.
+    #[error("too large a type")]
     TooLarge,
-    /// The steps are those of no expression.
+    /// When the steps are those of no expression, as the parser makes none.
+    #[error("no expression")]
     NoOperand,
-    /// There was no memory.
-    OutOfMemory,
+    /// When there was no memory beside the store of types.
+    #[error("out of memory")]
+    OutOfMemory(#[from(alloc)] AllocError),
+    /// When the store of types refused one.
+    #[error("out of memory")]
+    Refused(#[from] Refusal),
 }
 
 /// Why a declaration has no type, and where.
@@ -26,22 +36,4 @@ pub enum TypeError {
 pub struct Failure {
     pub place: Place,
     pub error: TypeError,
-}
-
-impl From<Refusal> for TypeError {
-    fn from(_why: Refusal) -> TypeError {
-        TypeError::OutOfMemory
-    }
-}
-
-impl From<AllocError> for TypeError {
-    fn from(_error: AllocError) -> TypeError {
-        TypeError::OutOfMemory
-    }
-}
-
-impl<T: Drop> From<AllocFailed<T>> for TypeError {
-    fn from(_error: AllocFailed<T>) -> TypeError {
-        TypeError::OutOfMemory
-    }
 }

@@ -1,48 +1,25 @@
 //! Why a run gave up.
+use crate::parser::ParseError;
 use ra_ap_intern::Refusal;
 use std::alloc::AllocError;
+use thiserror::Error;
 
-/// Why a run gave up.
-#[derive(Clone, Copy, PartialEq, Eq, Debug)]
+/// Why a run gave up. But for `Output`, nothing was written.
+#[derive(Debug, Drop, Error)]
 pub enum Fault {
-    /// A read failed. Nothing was written.
+    /// When a read failed.
+    #[error("types: input failed")]
     Input,
-    /// The input isn't UTF-8. Nothing was written.
+    /// When the input isn't UTF-8.
+    #[error("types: input is not UTF-8")]
     NotText,
-    /// There was no memory for the input, its types or the answers. Nothing was written.
-    OutOfMemory,
-    /// A write failed. A beginning of the answers was written.
+    /// When there was no memory for the input, its steps or the answers.
+    #[error("types: out of memory")]
+    OutOfMemory(#[from(alloc)] AllocError),
+    /// When a store had no memory for a name or a type.
+    #[error("types: out of memory")]
+    Refused(#[from] Refusal),
+    /// When a write failed: a beginning of the answers was written.
+    #[error("types: output failed")]
     Output,
-}
-
-impl From<AllocError> for Fault {
-    fn from(_error: AllocError) -> Fault {
-        Fault::OutOfMemory
-    }
-}
-
-impl From<Refusal> for Fault {
-    fn from(_why: Refusal) -> Fault {
-        Fault::OutOfMemory
-    }
-}
-
-impl Fault {
-    /// The line on standard error, without its line feed.
-    pub fn line(self) -> &'static str {
-        match self {
-            Fault::Input => "types: input failed",
-            Fault::NotText => "types: input is not UTF-8",
-            Fault::OutOfMemory => "types: out of memory",
-            Fault::Output => "types: output failed",
-        }
-    }
-}
-
-/// The exit status of a run: 0 without a fault, and 2 with one.
-pub fn status(outcome: &Result<(), Fault>) -> u8 {
-    match outcome {
-        Ok(()) => 0,
-        Err(_) => 2,
-    }
 }

@@ -7,10 +7,9 @@ ghost use Rattle.types.specs.Tree.{Tree};
 use crate::copy::{Leaves, copy};
 use crate::environment::Environment;
 use crate::error::{Failure, TypeError};
-use crate::parser::Declaration;
 use crate::scope::{Scheme, Scope};
-use crate::step::{Action, Binding};
-use crate::token::Operator;
+use crate::step::{Action, Binding, Step};
+use crate::token::{Operator, Place};
 use crate::unify::unify;
 use crate::unknowns::Unknowns;
 use crate::value::{TypeNode, TypeRef};
@@ -28,6 +27,8 @@ pub struct Inference {
     operands: Vec<TypeRef>,
     // How many bindings are begun and not ended.
     level: u64,
+    // Where the step is.
+    place: Place,
 }
 
 impl Inference {
@@ -40,12 +41,13 @@ impl Inference {
             scope: Scope::new(alloc),
             operands: Vec::new(alloc),
             level: 0,
+            place: Place::START,
         }
     }
 
-    /// The principal type of a declaration, or why it has none. In the types that an error tells,
-    /// what is unknown is any type. It declares nothing.
-    pub fn infer(&mut self, declaration: &Declaration) -> Result<TypeRef, Failure>
+    /// The principal type of what the steps of a declaration bind, or why there is none. In the
+    /// types that an error tells, what is unknown is any type. It declares nothing.
+    pub fn infer(&mut self, steps: &[Step]) -> Result<TypeRef, Failure>
         ensures grows { Grows self.old.environment self.new.environment }
         ensures trees { (name : Named) (tree : Tree) →
             Declares self.old.environment name tree →
@@ -55,29 +57,24 @@ impl Inference {
         self.scope = Scope::new(self.alloc);
         self.operands.clear();
         self.level = 0;
-        match self.run(declaration) {
+        match self.run(steps) {
             Ok(handle) => Ok(handle),
-            Err(Failure { place, error }) => Err(Failure {
-                place,
-                error: self.told(error),
+            Err(error) => Err(Failure {
+                place: self.place,
+                error: self.told(error).unwrap_or_else(|error| error),
             }),
         }
     }
 
-    // Each step of a declaration.
-    fn run(&mut self, declaration: &Declaration) -> Result<TypeRef, Failure>
+    // The operand that the steps leave.
+    fn run(&mut self, steps: &[Step]) -> Result<TypeRef, TypeError>
         ensures { Grows self.old.environment self.new.environment }
     {
-        let place = declaration.place;
-        self.begin_binding(declaration.binding)
-            .map_err(|error| Failure { place, error })?;
-        for step in &declaration.steps {
-            let place = step.place;
-            self.step(step.action)
-                .map_err(|error| Failure { place, error })?;
+        for step in steps {
+            self.place = step.place;
+            self.step(step.action)?;
         }
-        self.end_binding(declaration.binding)
-            .map_err(|error| Failure { place, error })
+        self.pop()
     }
 
     fn step(&mut self, action: Action) -> Result<(), TypeError>
@@ -91,12 +88,12 @@ impl Inference {
             Action::EndFunction => self.end_function(),
             Action::Apply => self.apply(),
             Action::Operate(operator) => self.operate(operator),
-            Action::Parenthesis => Ok(()),
             Action::Pair => self.pair(),
             Action::Condition => self.condition(),
             Action::Branches => self.branches(),
             Action::BeginBinding(binding) => self.begin_binding(binding),
-            Action::EndBinding(binding) => self.begin_scope(binding),
+            Action::EndBinding(binding) => self.end_binding(binding),
+            Action::BeginScope(name) => self.begin_scope(name),
             Action::EndScope => self.end_scope(),
         }
     }
@@ -104,8 +101,7 @@ impl Inference {
     fn push(&mut self, handle: TypeRef) -> Result<(), TypeError>
         ensures { Grows self.old.environment self.new.environment }
     {
-        self.operands.push(handle)?;
-        Ok(())
+        Ok(self.operands.push(handle)?)
     }
 
     fn pop(&mut self) -> Result<TypeRef, TypeError>
@@ -119,8 +115,15 @@ impl Inference {
         ensures { Grows self.old.environment self.new.environment }
     {
         let second = self.pop()?;
-        let first = self.pop()?;
-        Ok((first, second))
+        Ok((self.pop()?, second))
+    }
+
+    // A type has to be this one without parts.
+    fn expect(&mut self, handle: TypeRef, node: TypeNode) -> Result<(), TypeError>
+        ensures { Grows self.old.environment self.new.environment }
+    {
+        let wanted = self.environment.types.make(node)?;
+        self.unify(handle, wanted)
     }
 
     fn leaf(&mut self, node: TypeNode) -> Result<(), TypeError>
@@ -141,55 +144,36 @@ impl Inference {
     fn unify(&mut self, left: TypeRef, right: TypeRef) -> Result<(), TypeError>
         ensures { Grows self.old.environment self.new.environment }
     {
-        unify(
-            self.alloc,
-            &self.environment.types,
-            &mut self.unknowns,
-            left,
-            right,
-        )
+        let types = &self.environment.types;
+        unify(self.alloc, types, &mut self.unknowns, left, right)
     }
 
     fn copy(&mut self, handle: TypeRef, leaves: Leaves) -> Result<TypeRef, TypeError>
         ensures { Grows self.old.environment self.new.environment }
     {
-        copy(
-            self.alloc,
-            &mut self.environment.types,
-            &mut self.unknowns,
-            handle,
-            leaves,
-        )
+        let types = &mut self.environment.types;
+        copy(self.alloc, types, &mut self.unknowns, handle, leaves)
     }
 
+    // What a name is bound to here, or else an instance of what it is declared with.
     fn variable(&mut self, name: SymbolRef) -> Result<(), TypeError>
         ensures { Grows self.old.environment self.new.environment }
     {
-        let handle = match self.scheme(name) {
+        let level = self.level;
+        let declared = self.environment.look_up(name).map(Scheme::General);
+        let handle = match self.scope.look_up(name).or(declared) {
             Some(Scheme::Plain(handle)) => handle,
-            Some(Scheme::General(handle)) => {
-                let level = self.level;
-                self.copy(handle, Leaves::Instantiated { level })?
-            }
+            Some(Scheme::General(handle)) => self.copy(handle, Leaves::Instantiated { level })?,
             None => return Err(TypeError::Unbound(name)),
         };
         self.push(handle)
-    }
-
-    // What a name stands for: what it is bound to here, or else what it is declared with.
-    fn scheme(&self, name: SymbolRef) -> Option<Scheme> {
-        match self.scope.look_up(name) {
-            Some(scheme) => Some(scheme),
-            None => Some(Scheme::General(self.environment.look_up(name)?)),
-        }
     }
 
     fn begin_function(&mut self, name: SymbolRef) -> Result<(), TypeError>
         ensures { Grows self.old.environment self.new.environment }
     {
         let parameter = self.fresh()?;
-        self.scope.enter(name, Scheme::Plain(parameter))?;
-        Ok(())
+        Ok(self.scope.enter(name, Scheme::Plain(parameter))?)
     }
 
     fn end_function(&mut self) -> Result<(), TypeError>
@@ -235,28 +219,14 @@ impl Inference {
     fn operate(&mut self, operator: Operator) -> Result<(), TypeError>
         ensures { Grows self.old.environment self.new.environment }
     {
-        self.pop_integers()?;
+        let (left, right) = self.pop_two()?;
+        self.expect(left, TypeNode::Integer)?;
+        self.expect(right, TypeNode::Integer)?;
         if operator.compares() {
             self.leaf(TypeNode::Boolean)
         } else {
             self.leaf(TypeNode::Integer)
         }
-    }
-
-    fn pop_integers(&mut self) -> Result<(), TypeError>
-        ensures { Grows self.old.environment self.new.environment }
-    {
-        let (left, right) = self.pop_two()?;
-        self.expect(left, TypeNode::Integer)?;
-        self.expect(right, TypeNode::Integer)
-    }
-
-    // A type has to be one without parts.
-    fn expect(&mut self, handle: TypeRef, node: TypeNode) -> Result<(), TypeError>
-        ensures { Grows self.old.environment self.new.environment }
-    {
-        let wanted = self.environment.types.make(node)?;
-        self.unify(handle, wanted)
     }
 
     fn pair(&mut self) -> Result<(), TypeError>
@@ -292,17 +262,24 @@ impl Inference {
         Ok(())
     }
 
-    // What is bound to a name ends. Its type, in which what is unknown here and outside is any type.
-    fn end_binding(&mut self, binding: Binding) -> Result<TypeRef, TypeError>
+    // What is bound to a name ends. In its type, what is unknown here and outside is any type.
+    fn end_binding(&mut self, binding: Binding) -> Result<(), TypeError>
         ensures { Grows self.old.environment self.new.environment }
     {
         let handle = self.pop()?;
         if binding.is_recursive {
             self.end_own(handle)?;
         }
+        self.generalise(handle)
+    }
+
+    fn generalise(&mut self, handle: TypeRef) -> Result<(), TypeError>
+        ensures { Grows self.old.environment self.new.environment }
+    {
         self.level = self.level.saturating_sub(1);
         let above = self.level;
-        self.copy(handle, Leaves::Generalised { above })
+        let general = self.copy(handle, Leaves::Generalised { above })?;
+        self.push(general)
     }
 
     // The name of a recursive binding stood for what was bound to it.
@@ -313,12 +290,11 @@ impl Inference {
         self.unify(own, handle)
     }
 
-    fn begin_scope(&mut self, binding: Binding) -> Result<(), TypeError>
+    fn begin_scope(&mut self, name: SymbolRef) -> Result<(), TypeError>
         ensures { Grows self.old.environment self.new.environment }
     {
-        let general = self.end_binding(binding)?;
-        self.scope.enter(binding.name, Scheme::General(general))?;
-        Ok(())
+        let general = self.pop()?;
+        Ok(self.scope.enter(name, Scheme::General(general))?)
     }
 
     fn end_scope(&mut self) -> Result<(), TypeError>
@@ -329,19 +305,19 @@ impl Inference {
     }
 
     // An error as it is told: what is unknown in its types is any type, the same in both.
-    fn told(&mut self, error: TypeError) -> TypeError
+    fn told(&mut self, error: TypeError) -> Result<TypeError, TypeError>
         ensures { Grows self.old.environment self.new.environment }
     {
         match error {
-            TypeError::Clash(first, second) => match self.told_types(first, second) {
-                Ok((first, second)) => TypeError::Clash(first, second),
-                Err(error) => error,
-            },
-            TypeError::Infinite(first, second) => match self.told_types(first, second) {
-                Ok((first, second)) => TypeError::Infinite(first, second),
-                Err(error) => error,
-            },
-            _ => error,
+            TypeError::Clash(first, second) => {
+                let (first, second) = self.told_types(first, second)?;
+                Ok(TypeError::Clash(first, second))
+            }
+            TypeError::Infinite(first, second) => {
+                let (first, second) = self.told_types(first, second)?;
+                Ok(TypeError::Infinite(first, second))
+            }
+            _ => Ok(error),
         }
     }
 
@@ -354,14 +330,9 @@ impl Inference {
     {
         let pair = self.environment.types.pair(first, second)?;
         let told = self.copy(pair, Leaves::Generalised { above: 0 })?;
-        self.parts(told).ok_or(TypeError::NoOperand)
-    }
-
-    // The parts of a pair.
-    fn parts(&self, handle: TypeRef) -> Option<(TypeRef, TypeRef)> {
-        match self.environment.types.get(handle)? {
-            TypeNode::Pair(first, second) => Some((first, second)),
-            _ => None,
+        match self.environment.types.get(told) {
+            Some(TypeNode::Pair(first, second)) => Ok((first, second)),
+            _ => Err(TypeError::NoOperand),
         }
     }
 }

@@ -1,55 +1,41 @@
-//! Parses declarations, a token at a time, into steps.
+//! Parses a declaration into steps.
 ghost use Rattle.std.specs.Prelude.{◌≡◌};
 
-use crate::place::Place;
 use crate::step::{Action, Binding, Step};
-use crate::token::{Lexeme, Operator, Token};
+use crate::token::{Lexeme, Operator, Place, Token};
 use ra_ap_intern::SymbolRef;
 use std::alloc::{AllocError, Global};
-use std::mem;
+use thiserror::Error;
 
 /// A declaration: a name, and the steps of what is bound to it.
 #[derive(Drop)]
 pub struct Declaration {
-    pub binding: Binding,
-    pub place: Place,
+    pub name: SymbolRef,
     pub steps: Vec<Step>,
 }
 
-/// What was expected at a place.
-#[derive(Clone, Copy)]
-pub struct SyntaxError {
-    pub place: Place,
-    pub expected: Expected,
-}
-
-/// What is expected next.
-#[derive(Clone, Copy)]
-pub enum Expected {
-    Declaration,
-    Name,
-    ParameterOr(&'static str),
-    Expression,
-    OperatorOr(&'static str),
-}
-
-/// What a token came to.
-#[derive(Drop)]
-pub enum Parsed {
-    /// There is more to come.
-    More,
-    /// A declaration is whole.
-    Declaration(Declaration),
-    /// The token doesn't fit. Tokens up to the next semicolon are passed over.
-    Error(SyntaxError),
+/// Why a declaration wasn't parsed.
+#[derive(Debug, Drop, Error)]
+pub enum ParseError {
+    /// When a token can't stand where it does: its place, and what can.
+    #[error("{place}: expected {expected}")]
+    Unexpected {
+        place: Place,
+        expected: &'static str,
+    },
+    /// When there was no memory.
+    #[error("out of memory")]
+    OutOfMemory(#[from(alloc)] AllocError),
 }
 
 // What comes next.
 #[derive(Clone, Copy)]
 enum State {
     Declaration,
-    // The name of a binding, which may be recursive.
-    Name { is_recursive: bool },
+    // The name of a binding, maybe behind `rec`.
+    Name,
+    // The name of a recursive binding.
+    RecursiveName,
     // The parameters of a binding, up to `=`.
     Parameters,
     // The first parameter of a function.
@@ -58,8 +44,22 @@ enum State {
     OtherParameters,
     Operand,
     Operator,
-    // What is passed over after an error, up to a semicolon.
-    Rest,
+    // Nothing: the name is declared.
+    End(SymbolRef),
+}
+
+impl State {
+    // In words.
+    fn text(self) -> &'static str {
+        match self {
+            State::Declaration | State::End(_) => "a declaration",
+            State::Name | State::RecursiveName | State::FirstParameter => "a name",
+            State::Parameters => "a parameter or =",
+            State::OtherParameters => "a parameter or ->",
+            State::Operand => "an expression",
+            State::Operator => "an operator",
+        }
+    }
 }
 
 // What was begun and isn't ended.
@@ -89,181 +89,152 @@ enum Frame {
     Operator(Operator),
 }
 
+impl Frame {
+    // The action at the end of what has no end of its own: operators that bind at least so tightly
+    // and, where the strength is 0, functions, scopes and alternatives.
+    fn action_at_end(self, strength: u8) -> Option<Action> {
+        match self {
+            Frame::Operator(operator) if strength <= operator.strength() => {
+                Some(Action::Operate(operator))
+            }
+            Frame::Function if strength == 0 => Some(Action::EndFunction),
+            Frame::Scope if strength == 0 => Some(Action::EndScope),
+            Frame::Alternative if strength == 0 => Some(Action::Branches),
+            _ => None,
+        }
+    }
+
+    // What may come after an operand.
+    fn expected(self) -> &'static str {
+        match self {
+            Frame::Parenthesis | Frame::Pair => "an operator or )",
+            Frame::Binding(_) => "an operator or in",
+            Frame::Condition => "an operator or then",
+            Frame::Branch => "an operator or else",
+            _ => "an operator or ;",
+        }
+    }
+}
+
 #[derive(Clone, Copy)]
 struct Begun {
     frame: Frame,
     place: Place,
 }
 
-/// A parser, which keeps what was begun on a stack of its own.
+// What was begun, on a stack of its own, and the steps so far.
 #[derive(Drop)]
-pub struct Parser {
-    alloc: Global,
-    state: State,
+struct Parser {
     begun: Vec<Begun>,
     steps: Vec<Step>,
 }
 
+/// The declaration of the tokens up to a semicolon. None where there is but the semicolon, or the
+/// end.
+pub fn parse(alloc: Global, lexemes: &[Lexeme]) -> Result<Option<Declaration>, ParseError> {
+    let mut state = State::Declaration;
+    let mut parser = Parser {
+        begun: Vec::new(alloc),
+        steps: Vec::new(alloc),
+    };
+    for Lexeme { token, place } in lexemes.iter().copied() {
+        state = parser.take(state, token, place)?;
+    }
+    let Parser { steps, .. } = parser;
+    match state {
+        State::End(name) => Ok(Some(Declaration { name, steps })),
+        _ => Ok(None),
+    }
+}
+
 impl Parser {
-    /// A parser before a declaration.
-    pub fn new(alloc: Global) -> Parser {
-        Parser {
-            alloc,
-            state: State::Declaration,
-            begun: Vec::new(alloc),
-            steps: Vec::new(alloc),
+    // Takes the next token, and answers what comes after it.
+    fn take(&mut self, state: State, token: Token, place: Place) -> Result<State, ParseError> {
+        match (state, token) {
+            (State::Declaration, Token::End | Token::Semicolon) => Ok(State::Declaration),
+            (State::Declaration | State::Operand, Token::Let) => Ok(State::Name),
+            (State::Declaration | State::Name, Token::Rec) => Ok(State::RecursiveName),
+            (State::Declaration, Token::Name(name)) => self.begin_binding(name, place, false),
+            (State::Name, Token::Name(name)) => self.begin_binding(name, place, false),
+            (State::RecursiveName, Token::Name(name)) => self.begin_binding(name, place, true),
+            (State::Parameters, Token::Name(name)) => {
+                self.begin_function(name, place, State::Parameters)
+            }
+            (State::FirstParameter, Token::Name(name)) => {
+                self.begin_function(name, place, State::OtherParameters)
+            }
+            (State::OtherParameters, Token::Name(name)) => {
+                self.begin_function(name, place, State::OtherParameters)
+            }
+            (State::Parameters, Token::Equals) | (State::OtherParameters, Token::Arrow) => {
+                Ok(State::Operand)
+            }
+            (State::Operand, _) => self.operand(token, place),
+            (State::Operator, _) => self.operator(token, place),
+            _ => unexpected(place, state.text()),
         }
     }
 
-    /// Takes the next token.
-    pub fn take(&mut self, Lexeme { token, place }: Lexeme) -> Result<Parsed, AllocError> {
-        match self.state {
-            State::Declaration => self.declaration(token, place),
-            State::Name { is_recursive } => self.name(token, place, is_recursive),
-            State::Parameters => self.parameters(token, place),
-            State::FirstParameter => self.first_parameter(token, place),
-            State::OtherParameters => self.other_parameters(token, place),
-            State::Operand => self.operand(token, place),
-            State::Operator => self.operator(token, place),
-            State::Rest => self.rest(token),
-        }
-    }
-
-    fn go_on(&mut self, state: State) -> Result<Parsed, AllocError> {
-        self.state = state;
-        Ok(Parsed::More)
-    }
-
-    // The token isn't what was expected: what was begun is let fall.
-    fn fail(&mut self, token: Token, place: Place, expected: Expected) -> Parsed {
-        self.begun.clear();
-        self.steps.clear();
-        self.state = match token {
-            Token::Semicolon => State::Declaration,
-            _ => State::Rest,
-        };
-        Parsed::Error(SyntaxError { place, expected })
-    }
-
-    fn rest(&mut self, token: Token) -> Result<Parsed, AllocError> {
-        match token {
-            Token::Semicolon => self.go_on(State::Declaration),
-            _ => Ok(Parsed::More),
-        }
-    }
-
-    fn emit(&mut self, action: Action, place: Place) -> Result<(), AllocError>
+    fn emit(&mut self, action: Action, place: Place) -> Result<(), ParseError>
         ensures { self.new.begun ≡ self.old.begun }
     {
-        self.steps.push(Step { action, place })?;
-        Ok(())
-    }
-
-    fn begin(&mut self, frame: Frame, place: Place) -> Result<(), AllocError> {
-        self.begun.push(Begun { frame, place })?;
-        Ok(())
+        Ok(self.steps.push(Step { action, place })?)
     }
 
     // Begins what an operand comes next in.
-    fn begin_operand(&mut self, frame: Frame, place: Place) -> Result<Parsed, AllocError> {
-        self.begin(frame, place)?;
-        self.go_on(State::Operand)
+    fn begin(&mut self, frame: Frame, place: Place) -> Result<State, ParseError> {
+        self.begun.push(Begun { frame, place })?;
+        Ok(State::Operand)
     }
 
-    fn declaration(&mut self, token: Token, place: Place) -> Result<Parsed, AllocError> {
-        match token {
-            Token::End | Token::Semicolon => Ok(Parsed::More),
-            Token::Let => self.go_on(State::Name {
-                is_recursive: false,
-            }),
-            Token::Rec => self.go_on(State::Name { is_recursive: true }),
-            Token::Name(name) => self.begin_binding(name, place, false),
-            _ => Ok(self.fail(token, place, Expected::Declaration)),
-        }
-    }
-
-    fn name(
-        &mut self,
-        token: Token,
-        place: Place,
-        is_recursive: bool,
-    ) -> Result<Parsed, AllocError> {
-        match token {
-            Token::Name(name) => self.begin_binding(name, place, is_recursive),
-            Token::Rec if !is_recursive => self.go_on(State::Name { is_recursive: true }),
-            _ => Ok(self.fail(token, place, Expected::Name)),
-        }
-    }
-
-    // The outermost binding is the declaration, which has no step of its own.
+    // The outermost binding is the declaration.
     fn begin_binding(
         &mut self,
         name: SymbolRef,
         place: Place,
         is_recursive: bool,
-    ) -> Result<Parsed, AllocError> {
+    ) -> Result<State, ParseError> {
         let binding = Binding { name, is_recursive };
-        if self.begun.is_empty() {
-            self.begin(Frame::Declaration(binding), place)?;
+        let frame = if self.begun.is_empty() {
+            Frame::Declaration(binding)
         } else {
-            self.begin(Frame::Binding(binding), place)?;
-            self.emit(Action::BeginBinding(binding), place)?;
-        }
-        self.go_on(State::Parameters)
-    }
-
-    fn parameters(&mut self, token: Token, place: Place) -> Result<Parsed, AllocError> {
-        match token {
-            Token::Name(name) => self.begin_function(name, place, State::Parameters),
-            Token::Equals => self.go_on(State::Operand),
-            _ => Ok(self.fail(token, place, Expected::ParameterOr("="))),
-        }
-    }
-
-    fn first_parameter(&mut self, token: Token, place: Place) -> Result<Parsed, AllocError> {
-        match token {
-            Token::Name(name) => self.begin_function(name, place, State::OtherParameters),
-            _ => Ok(self.fail(token, place, Expected::Name)),
-        }
-    }
-
-    fn other_parameters(&mut self, token: Token, place: Place) -> Result<Parsed, AllocError> {
-        match token {
-            Token::Name(name) => self.begin_function(name, place, State::OtherParameters),
-            Token::Arrow => self.go_on(State::Operand),
-            _ => Ok(self.fail(token, place, Expected::ParameterOr("->"))),
-        }
+            Frame::Binding(binding)
+        };
+        self.begin(frame, place)?;
+        self.emit(Action::BeginBinding(binding), place)?;
+        Ok(State::Parameters)
     }
 
     fn begin_function(
         &mut self,
         name: SymbolRef,
         place: Place,
-        state: State,
-    ) -> Result<Parsed, AllocError> {
+        next: State,
+    ) -> Result<State, ParseError> {
         self.begin(Frame::Function, place)?;
         self.emit(Action::BeginFunction(name), place)?;
-        self.go_on(state)
+        Ok(next)
     }
 
-    fn operand(&mut self, token: Token, place: Place) -> Result<Parsed, AllocError> {
+    fn operand(&mut self, token: Token, place: Place) -> Result<State, ParseError> {
         match token {
             Token::Name(name) => self.atom(Action::Variable(name), place),
             Token::Integer => self.atom(Action::Integer, place),
             Token::Boolean => self.atom(Action::Boolean, place),
-            Token::Open => self.begin_operand(Frame::Parenthesis, place),
-            Token::If => self.begin_operand(Frame::Condition, place),
-            Token::Function => self.go_on(State::FirstParameter),
-            Token::Let => self.go_on(State::Name {
-                is_recursive: false,
-            }),
-            _ => Ok(self.fail(token, place, Expected::Expression)),
+            Token::Open => self.begin(Frame::Parenthesis, place),
+            Token::If => self.begin(Frame::Condition, place),
+            Token::Function => Ok(State::FirstParameter),
+            _ => unexpected(place, State::Operand.text()),
         }
     }
 
-    // An operand that nothing takes apart: a function before it is applied to it.
-    fn atom(&mut self, action: Action, place: Place) -> Result<Parsed, AllocError> {
+    fn atom(&mut self, action: Action, place: Place) -> Result<State, ParseError> {
         self.emit(action, place)?;
+        self.end_atom()
+    }
+
+    // An operand has ended that nothing takes apart: a function before it is applied to it.
+    fn end_atom(&mut self) -> Result<State, ParseError> {
         if let Some(
             Begun {
                 frame: Frame::Application,
@@ -274,14 +245,14 @@ impl Parser {
             self.begun.pop();
             self.emit(Action::Apply, place)?;
         }
-        self.go_on(State::Operator)
+        Ok(State::Operator)
     }
 
-    fn operator(&mut self, token: Token, place: Place) -> Result<Parsed, AllocError> {
+    fn operator(&mut self, token: Token, place: Place) -> Result<State, ParseError> {
         match token {
             Token::Operator(operator) => {
                 self.end_open(operator.strength())?;
-                self.begin_operand(Frame::Operator(operator), place)
+                self.begin(Frame::Operator(operator), place)
             }
             Token::Name(_) | Token::Integer | Token::Boolean | Token::Open => {
                 self.begin(Frame::Application, place)?;
@@ -294,74 +265,46 @@ impl Parser {
         }
     }
 
-    // Ends what has no end of its own: operators that bind at least as tightly and, where the
-    // strength is 0, functions, scopes and alternatives.
-    fn end_open(&mut self, strength: u8) -> Result<(), AllocError> {
-        while let Some(begun) = self.begun.pop() {
-            let Some(action) = action_at_end(begun.frame, strength) else {
-                return self.begin(begun.frame, begun.place);
+    // Ends what has no end of its own.
+    fn end_open(&mut self, strength: u8) -> Result<(), ParseError> {
+        while let Some(Begun { frame, place }) = self.begun.pop() {
+            let Some(action) = frame.action_at_end(strength) else {
+                self.begin(frame, place)?;
+                break;
             };
-            self.emit(action, begun.place)?;
+            self.emit(action, place)?;
         }
         Ok(())
     }
 
     // Ends, or goes on with, what was begun last.
-    fn end(&mut self, token: Token, place: Place) -> Result<Parsed, AllocError> {
+    fn end(&mut self, token: Token, place: Place) -> Result<State, ParseError> {
         let Some(begun) = self.begun.pop() else {
-            return Ok(self.fail(token, place, Expected::Declaration));
+            return unexpected(place, State::Declaration.text());
         };
         match (begun.frame, token) {
             (Frame::Declaration(binding), Token::Semicolon) => {
-                Ok(self.end_declaration(binding, begun.place))
+                self.emit(Action::EndBinding(binding), begun.place)?;
+                Ok(State::End(binding.name))
             }
             (Frame::Binding(binding), Token::In) => {
                 self.emit(Action::EndBinding(binding), begun.place)?;
-                self.begin_operand(Frame::Scope, place)
+                self.emit(Action::BeginScope(binding.name), begun.place)?;
+                self.begin(Frame::Scope, place)
             }
-            (Frame::Parenthesis, Token::Comma) => self.begin_operand(Frame::Pair, begun.place),
-            (Frame::Parenthesis, Token::Close) => self.atom(Action::Parenthesis, begun.place),
+            (Frame::Parenthesis, Token::Comma) => self.begin(Frame::Pair, begun.place),
+            (Frame::Parenthesis, Token::Close) => self.end_atom(),
             (Frame::Pair, Token::Close) => self.atom(Action::Pair, begun.place),
             (Frame::Condition, Token::Then) => {
                 self.emit(Action::Condition, begun.place)?;
-                self.begin_operand(Frame::Branch, begun.place)
+                self.begin(Frame::Branch, begun.place)
             }
-            (Frame::Branch, Token::Else) => self.begin_operand(Frame::Alternative, place),
-            (frame, _) => Ok(self.fail(token, place, expected_in(frame))),
+            (Frame::Branch, Token::Else) => self.begin(Frame::Alternative, place),
+            (frame, _) => unexpected(place, frame.expected()),
         }
-    }
-
-    fn end_declaration(&mut self, binding: Binding, place: Place) -> Parsed {
-        self.state = State::Declaration;
-        let steps = mem::replace(&mut self.steps, Vec::new(self.alloc));
-        Parsed::Declaration(Declaration {
-            binding,
-            place,
-            steps,
-        })
     }
 }
 
-// The action at the end of what has no end of its own.
-fn action_at_end(frame: Frame, strength: u8) -> Option<Action> {
-    match frame {
-        Frame::Operator(operator) if strength <= operator.strength() => {
-            Some(Action::Operate(operator))
-        }
-        Frame::Function if strength == 0 => Some(Action::EndFunction),
-        Frame::Scope if strength == 0 => Some(Action::EndScope),
-        Frame::Alternative if strength == 0 => Some(Action::Branches),
-        _ => None,
-    }
-}
-
-// What may come after an operand.
-fn expected_in(frame: Frame) -> Expected {
-    match frame {
-        Frame::Parenthesis | Frame::Pair => Expected::OperatorOr(")"),
-        Frame::Binding(_) => Expected::OperatorOr("in"),
-        Frame::Condition => Expected::OperatorOr("then"),
-        Frame::Branch => Expected::OperatorOr("else"),
-        _ => Expected::OperatorOr(";"),
-    }
+fn unexpected(place: Place, expected: &'static str) -> Result<State, ParseError> {
+    Err(ParseError::Unexpected { place, expected })
 }

@@ -13,18 +13,12 @@ pub enum Scheme {
     General(TypeRef),
 }
 
-/// The names that are bound, the innermost last.
+/// The names that are bound.
 #[derive(Drop)]
 pub struct Scope {
     values: HashMap<SymbolRef, Scheme>,
-    bound: Vec<Bound>,
-}
-
-// A name that is bound, and what it stood for outside.
-#[derive(Clone, Copy)]
-struct Bound {
-    name: SymbolRef,
-    shadowed: Option<Scheme>,
+    // Each name that is bound, the innermost last, with what it stood for outside.
+    bound: Vec<(SymbolRef, Option<Scheme>)>,
 }
 
 impl Scope {
@@ -36,26 +30,23 @@ impl Scope {
         }
     }
 
-    /// Binds a name.
+    /// Binds a name. `AllocError` when there is no memory.
     pub fn enter(&mut self, name: SymbolRef, scheme: Scheme) -> Result<(), AllocError> {
-        let shadowed = self.values.insert(name, scheme)?;
-        self.bound.push(Bound { name, shadowed })?;
-        Ok(())
+        let outside = self.values.insert(name, scheme)?;
+        Ok(self.bound.push((name, outside))?)
     }
 
-    /// Ends the scope of the name that was bound last, and answers what it stood for. None where
+    /// Ends the scope of the name that was bound last, and answers what it stood for. None when
     /// nothing is bound.
     pub fn leave(&mut self) -> Result<Option<Scheme>, AllocError> {
-        let Some(bound) = self.bound.pop() else {
-            return Ok(None);
-        };
-        match bound.shadowed {
-            Some(scheme) => Ok(self.values.insert(bound.name, scheme)?),
-            None => Ok(self.values.remove(&bound.name)),
+        match self.bound.pop() {
+            Some((name, Some(outside))) => Ok(self.values.insert(name, outside)?),
+            Some((name, None)) => Ok(self.values.remove(&name)),
+            None => Ok(None),
         }
     }
 
-    /// What a name stands for. None where it isn't bound.
+    /// What a name stands for. None when it isn't bound.
     pub fn look_up(&self, name: SymbolRef) -> Option<Scheme> {
         self.values.get(&name).copied()
     }

@@ -8,9 +8,9 @@ use crate::error::{Failure, TypeError};
 use crate::fault::Fault;
 use crate::infer::Inference;
 use crate::lexer::{symbol_of, tokens};
-use crate::parser::{Declaration, Expected, Parsed, Parser, SyntaxError};
+use crate::parser::{Declaration, ParseError, parse};
+use crate::token::{Lexeme, Token};
 use crate::value::{TypeNode, TypeRef};
-use crate::written::write_type;
 use ra_ap_intern::{SymbolRef, SymbolTable};
 use std::alloc::Global;
 
@@ -27,13 +27,8 @@ const FEW_TYPES: usize = 1000;
 pub fn answers(alloc: Global, text: &str) -> Result<String, Fault> {
     let mut session = Session::new(alloc)?;
     let lexemes = tokens(alloc, &mut session.names, text)?;
-    let mut parser = Parser::new(alloc);
-    for lexeme in &lexemes {
-        match parser.take(*lexeme)? {
-            Parsed::More => {}
-            Parsed::Declaration(declaration) => session.declare(&declaration)?,
-            Parsed::Error(error) => session.tell_syntax(error)?,
-        }
+    for part in lexemes.split_inclusive(|lexeme| matches!(lexeme.token, Token::Semicolon)) {
+        session.answer(part)?;
     }
     session.finish()
 }
@@ -77,14 +72,24 @@ impl Session {
         Ok(())
     }
 
+    // Answers the tokens up to a semicolon.
+    fn answer(&mut self, lexemes: &[Lexeme]) -> Result<(), Fault> {
+        match parse(self.alloc, lexemes) {
+            Ok(Some(declaration)) => self.declare(&declaration),
+            Ok(None) => Ok(()),
+            Err(ParseError::OutOfMemory(error)) => Err(Fault::OutOfMemory(error)),
+            Err(error) => Ok(write!(self.out, "{error}\n")?),
+        }
+    }
+
     /// Infers the type of a declaration, declares its name with it, and tells it, or tells why it
     /// has none. What the other names stand for stays.
     fn declare(&mut self, declaration: &Declaration) -> Result<(), Fault>
-        ensures { KeepsOthers (symbol_ref_name declaration.now.binding.name)
+        ensures { KeepsOthers (symbol_ref_name declaration.now.name)
             self.old.inference.environment self.new.inference.environment }
     {
-        let inferred = self.inference.infer(declaration);
-        self.tell(declaration.binding.name, inferred)?;
+        let inferred = self.inference.infer(declaration.steps.as_slice());
+        self.tell(declaration.name, inferred)?;
         self.collect_if_many()
     }
 
@@ -104,10 +109,36 @@ impl Session {
             self.old.inference.environment self.new.inference.environment }
     {
         self.inference.environment.declare(name, handle)?;
-        self.write_name(name)?;
-        self.out.push_str(" : ")?;
-        self.write(handle)?;
-        self.end_line()
+        let name = name.display(&self.names);
+        let written = self.inference.environment.types.written(handle);
+        Ok(write!(self.out, "{name} : {written}\n")?)
+    }
+
+    fn tell_failure(&mut self, failure: Failure) -> Result<(), Fault>
+        ensures { self.new.inference ≡ self.old.inference }
+    {
+        let Failure { place, error } = failure;
+        let types = &self.inference.environment.types;
+        match error {
+            TypeError::OutOfMemory(error) => return Err(Fault::OutOfMemory(error)),
+            TypeError::Refused(why) => return Err(Fault::Refused(why)),
+            TypeError::Unbound(name) => {
+                let name = name.display(&self.names);
+                write!(self.out, "{place}: {error} {name}\n")?;
+            }
+            TypeError::Clash(first, second) => {
+                let first = types.written(first);
+                let second = types.written(second);
+                write!(self.out, "{place}: {error} {first} with {second}\n")?;
+            }
+            TypeError::Infinite(first, second) => {
+                let first = types.written(first);
+                let second = types.written(second);
+                write!(self.out, "{place}: {error}: {first} = {second}\n")?;
+            }
+            _ => write!(self.out, "{place}: {error}\n")?,
+        }
+        Ok(())
     }
 
     fn collect_if_many(&mut self) -> Result<(), Fault>
@@ -132,108 +163,20 @@ impl Session {
         Ok(())
     }
 
-    fn tell_syntax(&mut self, error: SyntaxError) -> Result<(), Fault> {
-        let place = error.place;
-        write!(self.out, "{place}: expected ")?;
-        match error.expected {
-            Expected::Declaration => self.out.push_str("a declaration")?,
-            Expected::Name => self.out.push_str("a name")?,
-            Expected::ParameterOr(other) => write!(self.out, "a parameter or {other}")?,
-            Expected::Expression => self.out.push_str("an expression")?,
-            Expected::OperatorOr(other) => write!(self.out, "an operator or {other}")?,
-        }
-        self.end_line()
-    }
-
-    fn tell_failure(&mut self, failure: Failure) -> Result<(), Fault>
-        ensures { self.new.inference ≡ self.old.inference }
-    {
-        let place = failure.place;
-        write!(self.out, "{place}: ")?;
-        self.write_error(failure.error)?;
-        self.end_line()
-    }
-
-    fn write_error(&mut self, error: TypeError) -> Result<(), Fault>
-        ensures { self.new.inference ≡ self.old.inference }
-    {
-        match error {
-            TypeError::Unbound(name) => {
-                self.out.push_str("unbound name ")?;
-                self.write_name(name)
-            }
-            TypeError::Clash(first, second) => {
-                self.write_two("can't unify ", first, " with ", second)
-            }
-            TypeError::Infinite(first, second) => {
-                self.write_two("infinite type: ", first, " = ", second)
-            }
-            TypeError::TooLarge => self.write_text("too large a type"),
-            TypeError::NoOperand => self.write_text("no expression"),
-            TypeError::OutOfMemory => Err(Fault::OutOfMemory),
-        }
-    }
-
-    fn write_text(&mut self, text: &str) -> Result<(), Fault>
-        ensures { self.new.inference ≡ self.old.inference }
-    {
-        self.out.push_str(text)?;
-        Ok(())
-    }
-
-    fn write_two(
-        &mut self,
-        before: &str,
-        first: TypeRef,
-        between: &str,
-        second: TypeRef,
-    ) -> Result<(), Fault>
-        ensures { self.new.inference ≡ self.old.inference }
-    {
-        self.out.push_str(before)?;
-        self.write(first)?;
-        self.out.push_str(between)?;
-        self.write(second)
-    }
-
-    fn write(&mut self, handle: TypeRef) -> Result<(), Fault>
-        ensures { self.new.inference ≡ self.old.inference }
-    {
-        write_type(
-            self.alloc,
-            &mut self.out,
-            &self.inference.environment.types,
-            handle,
-        )?;
-        Ok(())
-    }
-
-    fn write_name(&mut self, name: SymbolRef) -> Result<(), Fault>
-        ensures { self.new.inference ≡ self.old.inference }
-    {
-        let name = name.display(&self.names);
-        write!(self.out, "{name}")?;
-        Ok(())
-    }
-
-    fn end_line(&mut self) -> Result<(), Fault>
-        ensures { self.new.inference ≡ self.old.inference }
-    {
-        self.out.push('\n')?;
-        Ok(())
-    }
-
     // The answers, with a last line on what was kept.
     fn finish(mut self) -> Result<String, Fault> {
         self.collect()?;
         let names = self.inference.environment.declared.len();
-        let kept = self.kept;
-        let removed = self.removed;
+        let Session {
+            mut out,
+            kept,
+            removed,
+            ..
+        } = self;
         write!(
-            self.out,
+            out,
             "{names} names, {kept} types, {removed} types removed\n"
         )?;
-        let Session { out, .. } = self;
         Ok(out)
     }
 }

@@ -1,6 +1,5 @@
 //! Expressions as steps: operands before what takes them.
-use crate::place::Place;
-use crate::token::Operator;
+use crate::token::{Operator, Place};
 use ra_ap_intern::SymbolRef;
 
 /// What a step does to the operands before it.
@@ -20,8 +19,6 @@ pub enum Action {
     Apply,
     /// Two operands become what an operator makes of them.
     Operate(Operator),
-    /// An operand was in parentheses.
-    Parenthesis,
     /// Two operands become a pair.
     Pair,
     /// An operand was a condition.
@@ -30,8 +27,10 @@ pub enum Action {
     Branches,
     /// What is bound to a name begins.
     BeginBinding(Binding),
-    /// What is bound to a name ends, and its scope begins.
+    /// What is bound to a name ends: it is the operand.
     EndBinding(Binding),
+    /// The scope of a name begins, which stands for the operand.
+    BeginScope(SymbolRef),
     /// The scope of the innermost binding ends.
     EndScope,
 }

@@ -13,6 +13,7 @@ ghost use Rattle.types.specs.declared.value.TypeNode.TheVariants.{Function as fu
 
 use crate::laws;
 use crate::value::{TypeNode, TypeRef};
+use crate::written::Written;
 use ra_ap_intern::{Collected, GarbageCollector, InternStorage, Interned, Refusal};
 use std::alloc::{AllocError, Global};
 use std::cmp::PartialEq;
@@ -80,6 +81,15 @@ impl Types {
         ensures { result ≡ reads self.now (ref_name handle) }
     {
         handle.get(&self.types).copied()
+    }
+
+    /// A type as it is written.
+    pub fn written(&self, handle: TypeRef) -> Written<'_> {
+        Written {
+            alloc: self.alloc,
+            types: self,
+            handle,
+        }
     }
 
     /// How many types there are.

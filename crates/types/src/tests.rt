@@ -3,12 +3,13 @@ mod random;
 mod reference;
 
 use crate::environment::Environment;
+use crate::fault::Fault;
 use crate::session::answers;
 use crate::store::Types;
 use crate::tests::random::{Generator, write_expression};
 use crate::tests::reference::{FUEL, Kind, Reference};
 use crate::value::{TypeNode, TypeRef};
-use ra_ap_intern::SymbolTable;
+use ra_ap_intern::{SymbolRef, SymbolTable};
 use std::alloc::{AllocError, Global};
 use std::process::Abort;
 use std::test::Fail;
@@ -96,6 +97,20 @@ fn nested(
     Ok(text)
 }
 
+// Of a type of more than a hundred pieces the beginning is written, with dots behind it.
+#[test]
+fn long_types_are_cut(rt: HostRuntime) -> Result<(), Fail> {
+    for (count, end) in [(33, " -> int"), (34, " -> ..")] {
+        let text = nested(rt.alloc(), ("fun a -> ", "1", ""), count)?;
+        assert!(rt;
+            first_answer(rt.alloc(), text.as_str())?
+                .as_str()
+                .ends_with(end)
+        );
+    }
+    Ok(())
+}
+
 #[test]
 fn deep_parentheses_are_answered(rt: HostRuntime) -> Result<(), Fail> {
     let text = nested(rt.alloc(), ("(", "1", ")"), 100_000)?;
@@ -131,26 +146,37 @@ fn has_parts(types: &Types, handle: TypeRef, first: TypeRef, second: TypeRef) ->
     }
 }
 
+// An environment in which the first name is declared anew, so that nothing needs the last type.
+fn declared(
+    alloc: Global,
+    first: SymbolRef,
+    second: SymbolRef,
+) -> Result<(Environment, [TypeRef; 4]), Fault> {
+    let mut environment = Environment::new(alloc, 2);
+    let types = &mut environment.types;
+    let integer = types.make(TypeNode::Integer)?;
+    let pair = types.pair(integer, integer)?;
+    let kept = types.function(pair, integer)?;
+    let gone = types.function(pair, kept)?;
+    environment.declare(first, gone)?;
+    environment.declare(second, integer)?;
+    environment.declare(first, kept)?;
+    Ok((environment, [integer, pair, kept, gone]))
+}
+
 #[test]
-fn a_collection_keeps_what_is_declared(rt: HostRuntime) {
+fn a_collection_keeps_what_is_declared(rt: HostRuntime) -> Result<(), Fail> {
     let names = SymbolTable::new(rt.alloc(), 1);
     let first = names.get("i32").expect(&rt, "a preset");
     let second = names.get("str").expect(&rt, "a preset");
-    let mut environment = Environment::new(rt.alloc(), 2);
-    let types = &mut environment.types;
-    let integer = types.make(TypeNode::Integer).expect(&rt, "memory");
-    let pair = types.pair(integer, integer).expect(&rt, "memory");
-    let kept = types.function(pair, integer).expect(&rt, "memory");
-    let gone = types.function(pair, kept).expect(&rt, "memory");
-    environment.declare(first, gone).expect(&rt, "memory");
-    environment.declare(second, integer).expect(&rt, "memory");
-    environment.declare(first, kept).expect(&rt, "memory");
-    let told = environment.collect(rt.alloc()).expect(&rt, "memory");
+    let (mut environment, [integer, pair, kept, gone]) = declared(rt.alloc(), first, second)?;
+    let told = environment.collect(rt.alloc())?;
     assert_eq!(rt; (told.visits, told.removed), (3, 1));
     assert!(rt; environment.look_up(first) == Some(kept));
     assert!(rt; has_parts(&environment.types, kept, pair, integer));
     assert!(rt; has_parts(&environment.types, pair, integer, integer));
     assert!(rt; environment.types.get(gone).is_none());
+    Ok(())
 }
 
 #[test]

@@ -1,9 +1,42 @@
-//! The tokens of the language.
-use crate::place::Place;
+//! Tokens, and where they stand.
 use ra_ap_intern::SymbolRef;
+use std::fmt;
+
+/// A line and a column, both counted from 1, the column in characters.
+#[derive(Clone, Copy, PartialEq, Eq, Debug)]
+pub struct Place {
+    pub line: u64,
+    pub column: u64,
+}
+
+impl Place {
+    /// The place of the first character.
+    pub const START: Place = Place { line: 1, column: 1 };
+
+    /// The place behind a text that begins here.
+    pub fn behind(self, text: &str) -> Place {
+        let mut place = self;
+        for character in text.chars() {
+            if character == '\n' {
+                place.line = place.line.saturating_add(1);
+                place.column = 1;
+            } else {
+                place.column = place.column.saturating_add(1);
+            }
+        }
+        place
+    }
+}
+
+impl fmt::Display for Place {
+    fn fmt<W: fmt::Write>(&self, f: &mut fmt::Formatter<W>) -> fmt::Result {
+        let Place { line, column } = self;
+        write!(f, "{line}:{column}")
+    }
+}
 
 /// An operator between two operands.
-#[derive(Clone, Copy, PartialEq, Eq, Debug)]
+#[derive(Clone, Copy)]
 pub enum Operator {
     Add,
     Subtract,
@@ -28,7 +61,7 @@ impl Operator {
     }
 }
 
-/// A token. A name is a symbol.
+/// A token.
 #[derive(Clone, Copy)]
 pub enum Token {
     Name(SymbolRef),
@@ -48,10 +81,8 @@ pub enum Token {
     Close,
     Comma,
     Semicolon,
-    /// A word that is neither a name nor a number.
-    BadWord,
-    /// A character that begins no token.
-    BadCharacter(char),
+    /// A word that is neither a name nor a number, or a character that begins no token.
+    Bad,
     End,
 }
 

@@ -9,31 +9,8 @@ use std::collections::HashSet;
 /// How many steps one type may take.
 pub const MOST_STEPS: u64 = 10_000_000;
 
-// Pairs of types that have to be equal, and those that were met.
-#[derive(Drop)]
-struct Equations {
-    open: Vec<(TypeRef, TypeRef)>,
-    met: HashSet<(TypeRef, TypeRef)>,
-}
-
-impl Equations {
-    fn new(alloc: Global) -> Equations {
-        Equations {
-            open: Vec::new(alloc),
-            met: HashSet::new(alloc),
-        }
-    }
-
-    // Two types have to be equal. Equal handles are.
-    fn add(&mut self, left: TypeRef, right: TypeRef) -> Result<(), TypeError> {
-        if left != right && self.met.insert((left, right))? {
-            self.open.push((left, right))?;
-        }
-        Ok(())
-    }
-}
-
-/// Makes two types equal, by what it makes of the unknown types in them.
+/// Makes two types equal, by what it makes of the unknown types in them. Pairs that were met are
+/// not looked into again.
 pub fn unify(
     alloc: Global,
     types: &Types,
@@ -41,74 +18,43 @@ pub fn unify(
     left: TypeRef,
     right: TypeRef,
 ) -> Result<(), TypeError> {
-    let mut equations = Equations::new(alloc);
-    equations.add(left, right)?;
+    let mut open = Vec::new(alloc);
+    let mut met = HashSet::new(alloc);
+    open.push((left, right))?;
     for _ in 0..MOST_STEPS {
-        let Some((first, second)) = equations.open.pop() else {
+        let Some((first, second)) = open.pop() else {
             return Ok(());
         };
         let first = unknowns.resolve(types, first);
         let second = unknowns.resolve(types, second);
-        if first != second && !equate(alloc, types, unknowns, &mut equations, (first, second))? {
-            return Err(TypeError::Clash(left, right));
+        if first == second || !met.insert((first, second))? {
+            continue;
+        }
+        match (types.get(first), types.get(second)) {
+            (Some(TypeNode::Unknown(number)), _) => {
+                bind(alloc, types, unknowns, (number, first), second)?;
+            }
+            (_, Some(TypeNode::Unknown(number))) => {
+                bind(alloc, types, unknowns, (number, second), first)?;
+            }
+            (Some(TypeNode::Function(a, b)), Some(TypeNode::Function(c, d)))
+            | (Some(TypeNode::Pair(a, b)), Some(TypeNode::Pair(c, d))) => {
+                open.push((b, d))?;
+                open.push((a, c))?;
+            }
+            _ => return Err(TypeError::Clash(left, right)),
         }
     }
     Err(TypeError::TooLarge)
 }
 
-// Two types that are no known unknowns have to be equal. Whether they can be.
-fn equate(
-    alloc: Global,
-    types: &Types,
-    unknowns: &mut Unknowns,
-    equations: &mut Equations,
-    (left, right): (TypeRef, TypeRef),
-) -> Result<bool, TypeError> {
-    if let Some(TypeNode::Unknown(number)) = types.get(left) {
-        bind(alloc, types, unknowns, number, left, right)?;
-        return Ok(true);
-    }
-    if let Some(TypeNode::Unknown(number)) = types.get(right) {
-        bind(alloc, types, unknowns, number, right, left)?;
-        return Ok(true);
-    }
-    match parts(types, left, right) {
-        Some(((a, b), (c, d))) => {
-            equations.add(b, d)?;
-            equations.add(a, c)?;
-            Ok(true)
-        }
-        None => Ok(false),
-    }
-}
-
-// The parts of two types that are made alike.
-fn parts(
-    types: &Types,
-    left: TypeRef,
-    right: TypeRef,
-) -> Option<((TypeRef, TypeRef), (TypeRef, TypeRef))> {
-    match types.get(left)? {
-        TypeNode::Function(a, b) => match types.get(right)? {
-            TypeNode::Function(c, d) => Some(((a, b), (c, d))),
-            _ => None,
-        },
-        TypeNode::Pair(a, b) => match types.get(right)? {
-            TypeNode::Pair(c, d) => Some(((a, b), (c, d))),
-            _ => None,
-        },
-        _ => None,
-    }
-}
-
-// An unknown type becomes a type that it is no part of, whose unknown types then belong to its
-// level.
+// An unknown type, which has a number, becomes a type that it is no part of, whose unknown types
+// then belong to its level.
 fn bind(
     alloc: Global,
     types: &Types,
     unknowns: &mut Unknowns,
-    number: u64,
-    unknown: TypeRef,
+    (number, unknown): (u64, TypeRef),
     handle: TypeRef,
 ) -> Result<(), TypeError> {
     let level = unknowns.level(number).unwrap_or(0);

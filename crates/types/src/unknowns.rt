@@ -7,7 +7,7 @@ use std::alloc::{AllocError, Global};
 #[derive(Clone, Copy)]
 enum Known {
     // Nothing. It belongs to this level of bindings within bindings.
-    Nothing { level: u64 },
+    Nothing(u64),
     // It is this type.
     Is(TypeRef),
 }
@@ -26,17 +26,17 @@ impl Unknowns {
         }
     }
 
-    /// The number of a new unknown type.
+    /// The number of a new unknown type. `AllocError` when there is no memory.
     pub fn add(&mut self, level: u64) -> Result<u64, AllocError> {
         let number = self.known.len() as u64;
-        self.known.push(Known::Nothing { level })?;
+        self.known.push(Known::Nothing(level))?;
         Ok(number)
     }
 
-    /// The level of an unknown type. None where it is known.
+    /// The level of an unknown type. None when it is known.
     pub fn level(&self, number: u64) -> Option<u64> {
         match self.known.get(number as usize)? {
-            Known::Nothing { level } => Some(*level),
+            Known::Nothing(level) => Some(*level),
             Known::Is(_) => None,
         }
     }
@@ -50,7 +50,7 @@ impl Unknowns {
 
     /// An unknown type belongs to this level, unless it belongs to a lower one.
     pub fn lower(&mut self, number: u64, to: u64) {
-        if let Some(Known::Nothing { level }) = self.known.get_mut(number as usize) {
+        if let Some(Known::Nothing(level)) = self.known.get_mut(number as usize) {
             *level = (*level).min(to);
         }
     }
@@ -60,22 +60,14 @@ impl Unknowns {
     pub fn resolve(&self, types: &Types, handle: TypeRef) -> TypeRef {
         let mut handle = handle;
         for _ in 0..self.known.len() {
-            match self.next(types, handle) {
-                Some(next) => handle = next,
-                None => return handle,
-            }
+            let Some(TypeNode::Unknown(number)) = types.get(handle) else {
+                break;
+            };
+            let Some(Known::Is(next)) = self.known.get(number as usize) else {
+                break;
+            };
+            handle = *next;
         }
         handle
-    }
-
-    // What an unknown type is.
-    fn next(&self, types: &Types, handle: TypeRef) -> Option<TypeRef> {
-        let TypeNode::Unknown(number) = types.get(handle)? else {
-            return None;
-        };
-        match self.known.get(number as usize)? {
-            Known::Nothing { .. } => None,
-            Known::Is(next) => Some(*next),
-        }
     }
 }

@@ -2,10 +2,11 @@
 use crate::store::Types;
 use crate::value::{TypeNode, TypeRef};
 use std::alloc::{AllocError, Global};
+use std::fmt;
 
 /// How many pieces of a type are written. A type may be small by its handles and yet large to
 /// write.
-pub const MOST_PIECES: usize = 100;
+const MOST_PIECES: usize = 100;
 
 // How tightly what is around a type binds it.
 #[derive(Clone, Copy, PartialEq, Eq)]
@@ -25,80 +26,74 @@ enum Piece {
     Text(&'static str),
 }
 
-/// Appends a type. Of one that is too long the beginning, and two dots.
-pub fn write_type(
-    alloc: Global,
-    out: &mut String,
-    types: &Types,
-    handle: TypeRef,
-) -> Result<(), AllocError> {
-    let mut open = Vec::new(alloc);
-    open.push(Piece::Type(handle, Around::Nothing))?;
-    for _ in 0..MOST_PIECES {
+/// A type of a store as it is written: of one that is too long the beginning, and two dots.
+#[derive(Clone, Copy)]
+pub struct Written<'a> {
+    pub alloc: Global,
+    pub types: &'a Types,
+    pub handle: TypeRef,
+}
+
+impl fmt::Display for Written<'_> {
+    fn fmt<W: fmt::Write>(&self, f: &mut fmt::Formatter<W>) -> fmt::Result {
+        let mut open = Vec::new(self.alloc);
+        open.push(Piece::Type(self.handle, Around::Nothing))
+            .map_err(AllocError::from)?;
+        for _ in 0..MOST_PIECES {
+            match open.pop() {
+                None => return Ok(()),
+                Some(Piece::Text(text)) => f.write_str(text)?,
+                Some(Piece::Type(handle, around)) => match self.types.get(handle) {
+                    None => f.write_str("?")?,
+                    Some(TypeNode::Integer) => f.write_str("int")?,
+                    Some(TypeNode::Boolean) => f.write_str("bool")?,
+                    Some(TypeNode::Unknown(number)) => write!(f, "_{number}")?,
+                    Some(TypeNode::Any(number)) => write_variable(f, number)?,
+                    Some(node) => open_parts(&mut open, node, around)?,
+                },
+            }
+        }
         match open.pop() {
-            Some(Piece::Text(text)) => out.push_str(text)?,
-            Some(Piece::Type(handle, around)) => match types.get(handle) {
-                Some(node) => write_node(out, &mut open, node, around)?,
-                None => out.push_str("?")?,
-            },
-            None => return Ok(()),
-        }
-    }
-    out.push_str("..")
-}
-
-fn write_node(
-    out: &mut String,
-    open: &mut Vec<Piece>,
-    node: TypeNode,
-    around: Around,
-) -> Result<(), AllocError> {
-    match node {
-        TypeNode::Integer => out.push_str("int"),
-        TypeNode::Boolean => out.push_str("bool"),
-        TypeNode::Any(number) => write_variable(out, number),
-        TypeNode::Unknown(number) => write!(out, "_{number}"),
-        TypeNode::Function(from, to) => {
-            let parts = [
-                Piece::Type(from, Around::Parameter),
-                Piece::Text(" -> "),
-                Piece::Type(to, Around::Nothing),
-            ];
-            open_parts(open, parts, around != Around::Nothing)
-        }
-        TypeNode::Pair(first, second) => {
-            let parts = [
-                Piece::Type(first, Around::Part),
-                Piece::Text(" * "),
-                Piece::Type(second, Around::Part),
-            ];
-            open_parts(open, parts, around == Around::Part)
+            None => Ok(()),
+            Some(_) => f.write_str(".."),
         }
     }
 }
 
-// The three parts come next, in parentheses where they have to be held together.
-fn open_parts(open: &mut Vec<Piece>, parts: [Piece; 3], is_held: bool) -> Result<(), AllocError> {
-    let [first, between, second] = parts;
+// 'a to 'z, then 'a1 to 'z1, and so on.
+fn write_variable<W: fmt::Write>(f: &mut fmt::Formatter<W>, number: u64) -> fmt::Result {
+    let letter = char::from(b'a' + (number % 26) as u8);
+    match number / 26 {
+        0 => write!(f, "'{letter}"),
+        round => write!(f, "'{letter}{round}"),
+    }
+}
+
+// The parts of a type come next, in parentheses where they have to be held together.
+fn open_parts(open: &mut Vec<Piece>, node: TypeNode, around: Around) -> Result<(), AllocError> {
+    let (first, between, second, is_held) = match node {
+        TypeNode::Function(from, to) => (
+            Piece::Type(from, Around::Parameter),
+            " -> ",
+            Piece::Type(to, Around::Nothing),
+            around != Around::Nothing,
+        ),
+        TypeNode::Pair(first, second) => (
+            Piece::Type(first, Around::Part),
+            " * ",
+            Piece::Type(second, Around::Part),
+            around == Around::Part,
+        ),
+        _ => return Ok(()),
+    };
     if is_held {
         open.push(Piece::Text(")"))?;
     }
     open.push(second)?;
-    open.push(between)?;
+    open.push(Piece::Text(between))?;
     open.push(first)?;
     if is_held {
         open.push(Piece::Text("("))?;
     }
     Ok(())
-}
-
-// 'a to 'z, then 'a1 to 'z1, and so on.
-fn write_variable(out: &mut String, number: u64) -> Result<(), AllocError> {
-    let letter = char::from(b'a' + (number % 26) as u8);
-    let round = number / 26;
-    if round == 0 {
-        write!(out, "'{letter}")
-    } else {
-        write!(out, "'{letter}{round}")
-    }
 }

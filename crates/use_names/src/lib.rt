@@ -50,7 +50,6 @@ impl<V: Drop> Scope<V> {
             ≡ declared self.old.names self.old.values text) }
     {
         laws::symbol_references_are_what_they_name();
-        laws::a_symbol_reads_its_text();
         let _number = self.names.number();
         self.values.reserve(1).map_err(|_| Refusal::OutOfMemory)?;
         let symbol = Symbol::intern(&mut self.names, name)?;

@@ -34,6 +34,8 @@ pub(crate) struct Grove {
     pub(crate) branches: Vec<InternedSliceRef<Branch>>,
     /// The names of some entries that aren't owned.
     pub(crate) listed: Vec<Name>,
+    /// References to the same entries.
+    pub(crate) roots: (Vec<InternedRef<Node>>, Vec<InternedSliceRef<Branch>>),
 }
 
 /// Whether the node of a number is owned.
@@ -100,6 +102,7 @@ impl Grove {
             nodes: room(alloc, nodes)?,
             branches: room(alloc, branches)?,
             listed: room(alloc, nodes)?,
+            roots: (room(alloc, nodes)?, room(alloc, branches)?),
             storages: make_storages(alloc),
         };
         grove.fill(nodes, branches)?;
@@ -128,6 +131,7 @@ impl Grove {
         }
         if lists_node(number) {
             self.listed.push(reference.name())?;
+            self.roots.0.push(reference)?;
         }
         self.nodes.push(reference)?;
         Ok(())
@@ -140,6 +144,7 @@ impl Grove {
         }
         if lists_branch(number) {
             self.listed.push(reference.name())?;
+            self.roots.1.push(reference)?;
         }
         self.branches.push(reference)?;
         Ok(())

@@ -211,83 +211,105 @@ impl Reference {
         Ok(())
     }
 
+    // The types of two expressions, in order.
+    #[cycle(infer)]
+    fn two(
+        &mut self,
+        fuel: u32,
+        all: &[Expression],
+        first: usize,
+        second: usize,
+    ) -> Result<(usize, usize), Kind> {
+        let first = self.infer(fuel, all, first)?;
+        let second = self.infer(fuel, all, second)?;
+        Ok((first, second))
+    }
+
+    // The type of an expression in which a name is bound to a type.
+    #[cycle(infer)]
+    fn within(
+        &mut self,
+        fuel: u32,
+        all: &[Expression],
+        (name, place): (u8, usize),
+        at: usize,
+    ) -> Result<usize, Kind> {
+        self.bind_name(name, place)?;
+        let inferred = self.infer(fuel, all, at)?;
+        self.scope.pop();
+        Ok(inferred)
+    }
+
     // The type of an expression.
+    #[cycle(infer)]
     fn infer(&mut self, fuel: u32, all: &[Expression], at: usize) -> Result<usize, Kind> {
         if fuel == 0 {
             return Err(Kind::Limit);
         }
+        let fuel = fuel - 1;
         match *all.get(at).ok_or(Kind::Limit)? {
             Expression::Integer => self.add(Plain::Integer),
             Expression::Boolean => self.add(Plain::Boolean),
             Expression::Name(name) => self.name(name),
             Expression::Lambda(name, body) => {
                 let parameter = self.add(Plain::Unknown)?;
-                self.bind_name(name, parameter)?;
-                let body = self.infer(fuel - 1, all, body)?;
-                self.scope.pop();
+                let body = self.within(fuel, all, (name, parameter), body)?;
                 self.add(Plain::Function(parameter, body))
             }
             Expression::Apply(function, argument) => {
-                let function = self.infer(fuel - 1, all, function)?;
-                let argument = self.infer(fuel - 1, all, argument)?;
-                let answer = self.add(Plain::Unknown)?;
-                let wanted = self.add(Plain::Function(argument, answer))?;
-                self.unify(FUEL, function, wanted)?;
-                Ok(answer)
+                let (function, argument) = self.two(fuel, all, function, argument)?;
+                self.apply(function, argument)
             }
             Expression::Let(name, bound, body) => {
-                let bound = self.infer(fuel - 1, all, bound)?;
-                self.body(name, bound)?;
-                let body = self.infer(fuel - 1, all, body)?;
-                self.scope.pop();
-                Ok(body)
+                let bound = self.infer(fuel, all, bound)?;
+                let general = self.general(FUEL, bound)?;
+                self.within(fuel, all, (name, general), body)
             }
             Expression::LetRec(name, bound, body) => {
                 let own = self.add(Plain::Unknown)?;
-                self.bind_name(name, own)?;
-                let bound = self.infer(fuel - 1, all, bound)?;
-                self.scope.pop();
+                let bound = self.within(fuel, all, (name, own), bound)?;
                 self.unify(FUEL, own, bound)?;
-                self.body(name, bound)?;
-                let body = self.infer(fuel - 1, all, body)?;
-                self.scope.pop();
-                Ok(body)
+                let general = self.general(FUEL, bound)?;
+                self.within(fuel, all, (name, general), body)
             }
             Expression::If(condition, first, second) => {
-                let condition = self.infer(fuel - 1, all, condition)?;
+                let condition = self.infer(fuel, all, condition)?;
                 self.expect(condition, Plain::Boolean)?;
-                let first = self.infer(fuel - 1, all, first)?;
-                let second = self.infer(fuel - 1, all, second)?;
+                let (first, second) = self.two(fuel, all, first, second)?;
                 self.unify(FUEL, first, second)?;
                 Ok(first)
             }
             Expression::Pair(first, second) => {
-                let first = self.infer(fuel - 1, all, first)?;
-                let second = self.infer(fuel - 1, all, second)?;
+                let (first, second) = self.two(fuel, all, first, second)?;
                 self.add(Plain::Pair(first, second))
             }
             Expression::Operate(compares, left, right) => {
-                let left = self.infer(fuel - 1, all, left)?;
-                let right = self.infer(fuel - 1, all, right)?;
-                self.expect(left, Plain::Integer)?;
-                self.expect(right, Plain::Integer)?;
-                self.add(if compares {
-                    Plain::Boolean
-                } else {
-                    Plain::Integer
-                })
+                let (left, right) = self.two(fuel, all, left, right)?;
+                self.operate(compares, left, right)
             }
         }
+    }
+
+    fn apply(&mut self, function: usize, argument: usize) -> Result<usize, Kind> {
+        let answer = self.add(Plain::Unknown)?;
+        let wanted = self.add(Plain::Function(argument, answer))?;
+        self.unify(FUEL, function, wanted)?;
+        Ok(answer)
+    }
+
+    fn operate(&mut self, compares: bool, left: usize, right: usize) -> Result<usize, Kind> {
+        self.expect(left, Plain::Integer)?;
+        self.expect(right, Plain::Integer)?;
+        self.add(if compares {
+            Plain::Boolean
+        } else {
+            Plain::Integer
+        })
     }
 
     fn expect(&mut self, place: usize, plain: Plain) -> Result<(), Kind> {
         let wanted = self.add(plain)?;
         self.unify(FUEL, place, wanted)
-    }
-
-    fn body(&mut self, name: u8, bound: usize) -> Result<(), Kind> {
-        let general = self.general(FUEL, bound)?;
-        self.bind_name(name, general)
     }
 
     /// Declares an expression under a name, and answers its type.

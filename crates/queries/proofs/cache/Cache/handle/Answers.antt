@@ -1,9 +1,10 @@
-use Rattle.queries.proofs.Memos.{stored_reads, stored_on, memos_on}
+use Rattle.ra_ap_intern.proofs.CallerLemmas.{interned_itself}
+use Rattle.queries.proofs.Memos.{stored_on, memos_on}
 use Rattle.queries.proofs.cache.Cache.handle.Goals as goal
 
 pub returns-clause-stored : goal.returns-clause-stored
 returns-clause-stored c =
-    stored_reads _ c.keys_are_equal_exactly_if_they_are_the_same.ensures c.args.self.now.keys _
+    interned_itself _ c.keys_are_equal_exactly_if_they_are_the_same.ensures c.args.self.now.keys _
     c.args.key _ c.in_ok-handle.ensures.name c.in_ok-handle.ensures.state
 
 pub returns-clause-on : goal.returns-clause-on

@@ -4,6 +4,10 @@ use Rattle.ra_ap_intern.proofs.CallerLemmas.{names_same}
 use Rattle.queries.proofs.Paths.{cycle_top, cycle_path}
 use Rattle.queries.proofs.cache.Cache.known.Goals as goal
 
+pub returns-in-Some : goal.returns-in-Some
+returns-in-Some c sheet root is at path =
+    c.in-Some.ensures.right sheet c.args.key is c.requires.stored
+
 pub returns-then-eq : goal.returns-then-eq
 returns-then-eq c sheet root is at path =
     cycle_top sheet _ c.args.top.now c.args.key at c.requires.waits (ref_name c.args.handle)

@@ -1,8 +1,8 @@
 use Rattle.std.proofs.Common.{vec_len}
 use Rattle.queries.proofs.parser.Parser.unwind.Given as goal
 
-abbrev pub invariant-loop-last : goal.invariant-loop-last
-invariant-loop-last l = Unit {0}
+abbrev pub invariant-loop-step : goal.invariant-loop-step
+invariant-loop-step l = Unit {0}
 
-abbrev pub decreases-loop-last : goal.decreases-loop-last
-decreases-loop-last l = vec_len l.self.waiting
+abbrev pub decreases-loop-step : goal.decreases-loop-step
+decreases-loop-step l = vec_len l.self.waiting

@@ -1,20 +1,9 @@
-use Rattle.std.proofs.Common.{true, false, sym, ◌∙◌, ap, subst}
-use Rattle.std.specs.FinMap.{len}
-use Rattle.intern_marks.specs.Marks.{Marks, mark, untold}
-use Rattle.intern_marks.specs.Reach.{starts_with}
-use Rattle.intern_marks.specs.Trace.{IsTrace}
-use Rattle.intern_marks.proofs.Steps.{mark_places, each-registered}
-use Rattle.intern_marks.proofs.Traces.{calls_begin}
-use Rattle.ra_ap_intern.proofs.Registering.{learnt_size}
+use Rattle.ra_ap_intern.proofs.Following.{collection}
 use Rattle.ra_ap_intern.proofs.gc.GarbageCollector.collect_from.Goals as goal
 
 pub returns-clause-ok : goal.returns-clause-ok
-returns-clause-ok g c =
-    let all = g.F.Family.entries c.args.family.now in
-    let listed = g.R.GcInternedVisit.children c.args.roots.now in
-    let learnt = c.in_ok-learn.ensures.ok in
-    let marked = c.forget_calls.ensures ∙ ap untold (c.self-2.view_is ∙ c.visit_with.ensures) in
-    c.finish.ensures listed
-    (subst (IsTrace (starts_with listed all) all) (sym marked) (calls_begin all listed c.learn.new.self learnt))
-    (ap (λ (m : Marks). len m.registered) marked ∙ ap len (each-registered false mark mark_places c.learn.new.self listed)
-    ∙ learnt_size true all c.learn.new.self learnt)
+returns-clause-ok g c = (
+  c.in_ok-trace.field-0.marked,
+  collection _ _ _ _ c.in_ok-trace.ensures c.sweep.ensures.visits c.sweep.ensures.mark_calls c.sweep.ensures.removed,
+  c.sweep.ensures.family,
+)

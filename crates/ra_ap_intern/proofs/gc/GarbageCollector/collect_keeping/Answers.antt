@@ -1,19 +1,20 @@
-use Rattle.std.proofs.Common.{true, sym, ◌∙◌, ap, subst}
-use Rattle.std.specs.FinMap.{len}
-use Rattle.intern_marks.specs.Marks.{Marks, root}
-use Rattle.intern_marks.specs.Reach.{starts_with}
-use Rattle.intern_marks.specs.Trace.{IsTrace}
-use Rattle.intern_marks.proofs.Steps.{root_places, each-registered}
-use Rattle.intern_marks.proofs.Traces.{trace_begins}
-use Rattle.ra_ap_intern.proofs.Registering.{learnt_size}
+use Rattle.ra_ap_intern.proofs.Following.{collection, roots_begin}
 use Rattle.ra_ap_intern.proofs.gc.GarbageCollector.collect_keeping.Goals as goal
+
+pub sweep-requires : goal.sweep-requires
+sweep-requires g c =
+    let listed = c.args.roots.now in
+    let begun = roots_begin (g.F.Family.entries c.args.family.now) listed c.learn.new.self c.root.new.self
+    c.in_ok-learn.ensures.ok c.root.ensures in
+    (c.followed.ensures listed begun.0 begun.1).trace
 
 pub returns-clause-ok : goal.returns-clause-ok
 returns-clause-ok g c =
-    let all = g.F.Family.entries c.args.family.now in
     let listed = c.args.roots.now in
-    let learnt = c.in_ok-learn.ensures.ok in
-    c.finish.ensures listed
-    (subst (IsTrace (starts_with listed all) all) (sym c.root.ensures) (trace_begins all listed c.learn.new.self learnt))
-    (ap (λ (m : Marks). len m.registered) c.root.ensures ∙ ap len (each-registered true root root_places c.learn.new.self listed)
-    ∙ learnt_size true all c.learn.new.self learnt)
+    let begun = roots_begin (g.F.Family.entries c.args.family.now) listed c.learn.new.self c.root.new.self
+    c.in_ok-learn.ensures.ok c.root.ensures in (
+      c.followed.result.marked,
+      collection _ _ _ _ (c.followed.ensures listed begun.0 begun.1)
+          c.sweep.ensures.visits c.sweep.ensures.mark_calls c.sweep.ensures.removed,
+      c.sweep.ensures.family,
+    )

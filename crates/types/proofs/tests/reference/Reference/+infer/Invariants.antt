@@ -1,4 +1,11 @@
+use Rattle.std.proofs.Common.{◌+◌, ◌*◌}
 use Rattle.types.proofs.tests.reference.Reference.+infer.Given as goal
 
+abbrev pub decreases-two : goal.decreases-two
+decreases-two l = 2 * l.fuel + 1
+
+abbrev pub decreases-within : goal.decreases-within
+decreases-within l = 2 * l.fuel + 1
+
 abbrev pub decreases-infer : goal.decreases-infer
-decreases-infer l = l.fuel
+decreases-infer l = 2 * l.fuel

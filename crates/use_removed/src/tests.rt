@@ -1,0 +1,44 @@
+//! Names go with the nodes that had them.
+use crate::{Node, Nodes};
+use ra_ap_intern::{InternStorage, Interned, InternedRef, Refusal, Symbol, SymbolTable};
+use std::alloc::Global;
+
+// A node of a new name, which counts it.
+fn node(
+    alloc: Global,
+    nodes: &mut Nodes,
+    name: &str,
+    next: &[InternedRef<Node>],
+) -> Result<InternedRef<Node>, Refusal> {
+    let name = Symbol::intern(&mut nodes.names, name)?.as_ref();
+    let mut behind = Vec::new(alloc);
+    if behind.extend_from_slice(next).is_err() {
+        return Err(Refusal::OutOfMemory);
+    }
+    let (reference, _) = Interned::new_gc(&mut nodes.nodes, Node { name, behind })?;
+    Ok(reference)
+}
+
+#[test]
+fn names_go_with_their_nodes(rt: HostRuntime) -> Result<(), Refusal> {
+    let mut nodes = Nodes {
+        names: SymbolTable::new(rt.alloc(), 1),
+        nodes: InternStorage::new(rt.alloc(), 2),
+    };
+    let first = node(rt.alloc(), &mut nodes, "my_first", &[])?;
+    let second = node(rt.alloc(), &mut nodes, "my_second", &[first])?;
+    node(rt.alloc(), &mut nodes, "my_third", &[second])?;
+    node(rt.alloc(), &mut nodes, "self", &[second])?;
+    node(rt.alloc(), &mut nodes, "my_first", &[second])?;
+
+    let told = nodes.collect(rt.alloc(), &[second]);
+    assert!(rt; told.is_ok_and(|told| (told.visits, told.removed) == (2, 3)));
+    assert_eq!(rt; nodes.names.len(), 2);
+    let (name, other) = (nodes.names.get("my_first"), nodes.names.get("my_third"));
+    assert!(rt; name.is_some() && other.is_none());
+
+    let told = nodes.collect(rt.alloc(), &[]);
+    assert!(rt; told.is_ok_and(|told| told.removed == 2));
+    assert!(rt; nodes.names.is_empty());
+    Ok(())
+}
