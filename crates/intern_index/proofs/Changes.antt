@@ -8,19 +8,16 @@ use Rattle.std.proofs.lemmas.Bool.{cases_eq, eqb-true}
 use Rattle.std.proofs.lemmas.Option.{same_Some}
 use Rattle.slab.specs.Slab.{Slab, get, Updates}
 use Rattle.intern_store.proofs.Compared.{get-inserted, get-removed}
-use Rattle.intern_buckets.specs.Leading.{leads}
-use Rattle.intern_buckets.specs.declared.buckets.Buckets.{Buckets}
 use Rattle.intern_index.specs.IndexEntry.{IndexEntry, with_payload}
 use Rattle.intern_index.specs.Entries.{seen, held, birth_at, IsTied}
 use Rattle.intern_index.specs.declared.entry.Entry.{Entry}
 use Rattle.intern_index.proofs.Held.{entry_there, birth_there, updated, seen_at}
 
-module _ {T N : Type 0} (s new : Slab (Entry T N)) (t : Buckets) (IsFor : (ℕ → Option ℕ) → Type 0) (tied : IsTied s t IsFor) where
+module _ {T N : Type 0} (s new : Slab (Entry T N)) (IsFor : (ℕ → Option ℕ) → Type 0) (tied : IsTied s IsFor) where
   -- fewer entries are tied, where each was there
-  pub less_tied : (IsNewFor : (ℕ → Option ℕ) → Type 0) → ((p : ℕ) (e : Entry T N) → get new p ≡ Some e → get s p ≡ Some e) → IsNewFor (birth_at new) → IsTied new t IsNewFor
+  pub less_tied : (IsNewFor : (ℕ → Option ℕ) → Type 0) → ((p : ℕ) (e : Entry T N) → get new p ≡ Some e → get s p ≡ Some e) → IsNewFor (birth_at new) → IsTied new IsNewFor
   less_tied IsNewFor was found = record {
     apart = λ p q b one two. tied.apart p q b (still p b one) (still q b two);
-    led = λ p e there. tied.led p e (was p e there);
     found = found;
     told = λ p b is. tied.told p b (still p b is);
   }
@@ -37,16 +34,9 @@ module _ {T N : Type 0} (s new : Slab (Entry T N)) (t : Buckets) (IsFor : (ℕ �
       ]
 
   -- an entry that gets another payload is as tied as before
-  pub repaid_tied : (key : ℕ) (d e : Entry T N) → get s key ≡ Some d → d.birth ≡ e.birth → d.hash ≡ e.hash → Updates s new key (Some e) → IsTied new t IsFor
-  repaid_tied key d e there birth hash updates = record {
+  pub repaid_tied : (key : ℕ) (d e : Entry T N) → get s key ≡ Some d → d.birth ≡ e.birth → Updates s new key (Some e) → IsTied new IsFor
+  repaid_tied key d e there birth updates = record {
     apart = λ p q b one two. tied.apart p q b (sym (same p) ∙ one) (sym (same q) ∙ two);
-    led = λ p x at.
-        elim (cases_eq p key) [
-          | inl is ↦
-              let entry = same_Some _ _ (sym updates.changed ∙ ap (get new) (sym is) ∙ at) in
-              ap (leads t x.hash) is ∙ ap (λ h. leads t h key) (ap (λ (e : Entry T N). e.hash) (sym entry) ∙ sym hash) ∙ tied.led key d there
-          | inr differs ↦ tied.led p x (sym (updates.others p differs) ∙ at)
-        ];
     found = subst IsFor (λ i p. sym (same p) i) tied.found;
     told = λ p b is. tied.told p b (sym (same p) ∙ is);
   }
@@ -62,18 +52,10 @@ module _ {T N : Type 0} (s new : Slab (Entry T N)) (t : Buckets) (IsFor : (ℕ �
           ]
 
   -- one more entry is tied, of a birth above all others, once it is entered
-  pub inserted_tied : (u : Buckets) (IsNewFor : (ℕ → Option ℕ) → Type 0) (key : ℕ) (e : Entry T N) → get s key ≡ None → ((p b : ℕ) → birth_at s p ≡ Some b → b < e.birth) → Updates s new key (Some e) → key + 1 < 2 ^ 48
-      → leads u e.hash key ≡ true → ((h p : ℕ) → leads t h p ≡ true → leads u h p ≡ true)
-      → ((old now : ℕ → Option ℕ) → IsFor old → old key ≡ None → ((p b : ℕ) → old p ≡ Some b → b < e.birth) → now key ≡ Some e.birth → ((p : ℕ) → p ≢ key → now p ≡ old p) → IsNewFor now) → IsTied new u IsNewFor
-  inserted_tied u IsNewFor key e vacant below updates small entered still found = record {
+  pub inserted_tied : (IsNewFor : (ℕ → Option ℕ) → Type 0) (key : ℕ) (e : Entry T N) → get s key ≡ None → ((p b : ℕ) → birth_at s p ≡ Some b → b < e.birth) → Updates s new key (Some e) → key + 1 < 2 ^ 48
+      → ((old now : ℕ → Option ℕ) → IsFor old → old key ≡ None → ((p b : ℕ) → old p ≡ Some b → b < e.birth) → now key ≡ Some e.birth → ((p : ℕ) → p ≢ key → now p ≡ old p) → IsNewFor now) → IsTied new IsNewFor
+  inserted_tied IsNewFor key e vacant below updates small found = record {
     apart = λ p q b one two. apart p q b one two (cases_eq p key) (cases_eq q key);
-    led = λ p x at.
-        elim (cases_eq p key) [
-          | inl is ↦
-              let entry = same_Some _ _ (sym updates.changed ∙ ap (get new) (sym is) ∙ at) in
-              ap (leads u x.hash) is ∙ ap (λ h. leads u h key) (ap (λ (e : Entry T N). e.hash) (sym entry)) ∙ entered
-          | inr differs ↦ still x.hash p (tied.led p x (sym (updates.others p differs) ∙ at))
-        ];
     found = found (birth_at s) (birth_at new) tied.found (ap birth_of vacant) below (ap birth_of updates.changed) (λ p differs. ap birth_of (updates.others p differs));
     told = λ p b is.
         elim (cases_eq p key) [

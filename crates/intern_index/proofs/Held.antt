@@ -10,7 +10,7 @@ use Rattle.std.proofs.lemmas.List.Sums.{sum_by-cons}
 use Rattle.slab.specs.Slab.{Slab, get, slab_len, Updates}
 use Rattle.intern_store.proofs.Compared.{get-inserted}
 use Rattle.intern_buckets.specs.declared.buckets.Buckets.{Buckets}
-use Rattle.intern_index.specs.IndexEntry.{IndexEntry}
+use Rattle.intern_index.specs.IndexEntry.{IndexEntry, Indexed}
 use Rattle.intern_index.specs.Entries.{seen, held_from, held, birth_at, AreTold, IsTied}
 use Rattle.intern_index.specs.declared.entry.Entry.{Entry}
 
@@ -183,10 +183,9 @@ module _ {T N : Type 0} where
   nothing_at : (s : Slab (Entry T N)) → s.slots ≡ [] → (p : ℕ) → birth_at s p ≡ None
   nothing_at s none p = ap (λ slots. option_map (λ (e : Entry T N). e.birth) (get_or slots p None)) none
 
-  pub empty_tied : (s : Slab (Entry T N)) (t : Buckets) (IsFor : (ℕ → Option ℕ) → Type 0) → s.slots ≡ [] → ((at : ℕ → Option ℕ) → ((p : ℕ) → at p ≡ None) → IsFor at) → IsTied s t IsFor
-  empty_tied s t IsFor none all = record {
+  pub empty_tied : (s : Slab (Entry T N)) (IsFor : (ℕ → Option ℕ) → Type 0) → s.slots ≡ [] → ((at : ℕ → Option ℕ) → ((p : ℕ) → at p ≡ None) → IsFor at) → IsTied s IsFor
+  empty_tied s IsFor none all = record {
     apart = λ p q b one two. let no = nothing_at s none p in absurd (cc);
-    led = λ p e there. let no = nothing_at s none p in let some = birth_there s p e.birth e there refl in absurd (cc);
     found = all (birth_at s) (nothing_at s none);
     told = λ p b at. let no = nothing_at s none p in absurd (cc);
   }
@@ -221,3 +220,11 @@ module _ {T N : Type 0} where
   place_where s m view apart b (Some p) found absent =
       let w = entry_there s p b found in
       ap (λ o. option_map (λ (e : IndexEntry T N). e.place) (option_map (seen p) o)) (sym w.1) ∙ ap (option_map (λ (e : IndexEntry T N). e.place)) (seen_at s m view apart p b found)
+
+  -- the map that is seen beside a table of buckets
+  pub entries_seen : (m : FinMap nat_cmp (IndexEntry T N)) (t : Buckets) (i : Indexed T N) → record { entries = m; buckets = t } ≡ i → m ≡ i.entries
+  entries_seen m t i view = ap (λ (i : Indexed T N). i.entries) view
+
+  -- what is seen once the map has changed, and the table hasn't
+  pub changed_seen : (m : FinMap nat_cmp (IndexEntry T N)) (t : Buckets) (i : Indexed T N) → record { entries = m; buckets = t } ≡ i → (new other : FinMap nat_cmp (IndexEntry T N)) → new ≡ other → record { entries = new; buckets = t } ≡ record i { entries = other }
+  changed_seen m t i view new other same = ap (λ n. record { entries = n; buckets = t }) same ∙ ap (λ (i : Indexed T N). record i { entries = other }) view

@@ -4,5 +4,6 @@ mod Held
 mod Listings
 mod Orders
 mod Ranks
+mod Rows
 pub mod Seen
 mod Sweeps

@@ -11,6 +11,11 @@ use Rattle.std.proofs.lemmas.List.Folds.{list_any-append}
 use Rattle.std.proofs.lemmas.List.Sorted.{IsNonDecreasingBy-from_default}
 use Rattle.intern_index.specs.Ordered.{IsOrder, birth_or_zero}
 
+-- births are listed where they are in no row
+pub no_row : {X : Type 0} (row : Option X) → is_some row ≡ false → row ≡ None
+no_row None is = refl
+no_row (Some r) is = absurd (cc)
+
 -- what is at each index of a list with one more at its end
 pushed : (xs : List ℕ) (x i : ℕ) → i < length (xs ++ x ∷ []) → ((i < length xs) × (slice_index (xs ++ x ∷ []) i ≡ slice_index xs i)) ⊎ ((i ≡ length xs) × (slice_index (xs ++ x ∷ []) i ≡ x))
 pushed [] x zero lt = inr (refl, refl)

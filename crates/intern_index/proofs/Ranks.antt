@@ -1,23 +1,24 @@
 -- The births at places that are in the order of their births are the keys of the map, in its order.
-use Rattle.std.proofs.Common.{◌≡◌, ◌≢◌, ◌⊎◌, inl, inr, ℕ, zero, suc, ◌<◌, Bool, true, false, List, [], ◌∷◌, length, map, Option, Some, None, IsSome, is_some, nat_eq, refl, sym, ap, subst, ◌∙◌, arith}
+use Rattle.std.proofs.Common.{◌≡◌, ◌≢◌, ◌⊎◌, inl, inr, ℕ, zero, suc, ◌<◌, ◌≤◌, Bool, true, false, List, [], ◌∷◌, length, map, Option, Some, None, IsSome, is_some, nat_eq, refl, sym, ap, subst, ◌∙◌, arith}
 use Rattle.std.specs.Prelude.{T, slice_index}
 use Rattle.std.specs.List.{slice_get, list_any}
 use Rattle.std.specs.Option.{option_map}
 use Rattle.std.specs.Ordering.{nat_cmp}
-use Rattle.std.specs.FinMap.{FinMap, get as map_get, entries, entries_sorted, is_sorted, keys, contains_key-keys}
+use Rattle.std.specs.FinMap.{FinMap, get as map_get, get-entries, entries, entries_sorted, is_sorted, find, len, len-entries, keys, contains_key-keys}
 use Rattle.std.specs.FinMap.Entries.{below_all}
 use Rattle.std.proofs.lemmas.Bool.{eq-eqb, eqb-true, or_left, or_right, or_cases}
 use Rattle.std.proofs.lemmas.List.{length-map, get_or-map}
 use Rattle.std.proofs.lemmas.List.Folds.{list_any_at}
-use Rattle.std.proofs.lemmas.Option.{slice_get-map, slice_get_within, get_or_from_slice_get}
+use Rattle.std.proofs.lemmas.Option.{same_Some, slice_get-map, slice_get_within, get_or_from_slice_get}
 use Rattle.slab.specs.Slab.{Slab, get}
 use Rattle.intern_store.proofs.Compared.{tied}
-use Rattle.intern_store.proofs.Sorted.{parts, less}
-use Rattle.intern_index.specs.IndexEntry.{IndexEntry}
+use Rattle.intern_store.proofs.Sorted.{parts, less, at_head, later}
+use Rattle.intern_store.specs.declared.names.Spot.{Spot}
+use Rattle.intern_index.specs.IndexEntry.{IndexEntry, spot_of, spot_at, spot_before}
 use Rattle.intern_index.specs.Entries.{held, birth_at}
-use Rattle.intern_index.specs.Ordered.{IsOrder, birth_or_zero}
+use Rattle.intern_index.specs.Ordered.{IsOrder, birth_or_zero, place_before}
 use Rattle.intern_index.specs.declared.entry.Entry.{Entry}
-use Rattle.intern_index.proofs.Held.{IsIn, IsOut, in_or_out, entry_there, birth_there}
+use Rattle.intern_index.proofs.Held.{IsApart, IsIn, IsOut, in_or_out, entry_there, birth_there, read_there}
 use Rattle.intern_index.proofs.Orders.{index_of}
 
 -- numbers that rise strictly
@@ -84,7 +85,15 @@ module _ {X : Type 0} where
   keys_rise (e ∷ es) sorted zero (suc j) before lt = below_each e.0 es (parts _ _ sorted).0 j (omega arith)
   keys_rise (e ∷ es) sorted (suc i) (suc j) before lt = keys_rise es (parts _ _ sorted).1 i j (omega arith) (omega arith)
 
-module _ {T N : Type 0} (s : Slab (Entry T N)) (m : FinMap nat_cmp (IndexEntry T N)) (view : held s.slots ≡ m) (places : List ℕ) (order : IsOrder places (birth_at s)) where
+  -- what is at a rank is found under its key
+  found_at : (at : ℕ) (e : ℕ × X) (es : List (ℕ × X)) → T (is_sorted nat_cmp es) → slice_get es at ≡ Some e → find nat_cmp e.0 es ≡ Some e.1
+  found_at at e [] sorted is = absurd (cc)
+  found_at zero e (f ∷ es) sorted is = subst (λ (x : ℕ × X). find nat_cmp x.0 (f ∷ es) ≡ Some x.1) (same_Some f e is) (at_head f es)
+  found_at (suc n) e (f ∷ es) sorted is =
+      let rest = parts _ _ sorted in
+      later e.0 e.1 f es rest.0 (found_at n e es rest.1 is)
+
+module _ {T N : Type 0} (s : Slab (Entry T N)) (apart : IsApart s) (m : FinMap nat_cmp (IndexEntry T N)) (view : held s.slots ≡ m) (places : List ℕ) (order : IsOrder places (birth_at s)) where
   abbrev birth_of : ℕ → ℕ
   birth_of p = birth_or_zero (birth_at s p)
 
@@ -125,7 +134,7 @@ module _ {T N : Type 0} (s : Slab (Entry T N)) (m : FinMap nat_cmp (IndexEntry T
   births_are_keys = same_rising (map birth_of places) (keys m) births_rise (keys_rise (entries m) (entries_sorted m)) (λ b is. sym (same_births b) ∙ is) (λ b is. same_births b ∙ is)
 
   -- the birth at the place of a rank is the key of that rank
-  pub birth_ranked : (at : ℕ) → option_map birth_of (slice_get places at) ≡ option_map (λ e. e.0) (slice_get (entries m) at)
+  birth_ranked : (at : ℕ) → option_map birth_of (slice_get places at) ≡ option_map (λ e. e.0) (slice_get (entries m) at)
   birth_ranked at = sym (slice_get-map birth_of places at) ∙ ap (λ bs. slice_get bs at) births_are_keys ∙ slice_get-map (λ e. e.0) (entries m) at
 
   -- and an entry is there
@@ -136,3 +145,49 @@ module _ {T N : Type 0} (s : Slab (Entry T N)) (m : FinMap nat_cmp (IndexEntry T
       entry_of : (o : Option (Entry T N)) → IsSome (option_map (λ e. e.birth) o) → IsSome o
       entry_of None none = none
       entry_of (Some e) some = refl
+
+  -- there are as many places as entries
+  ranked_length : len m ≡ length places
+  ranked_length = len-entries m ∙ sym (length-map (entries m) (λ e. e.0)) ∙ sym (ap length births_are_keys) ∙ length-map places birth_of
+
+  -- the spot of a rank
+  pub ranked_spot : (at p : ℕ) (e : Entry T N) → slice_get places at ≡ Some p → get s p ≡ Some e → Some (record { birth = e.birth; place = p }) ≡ spot_at m at
+  ranked_spot at p e is there = go (slice_get (entries m) at) refl
+    where
+      birth : Some e.birth ≡ option_map (λ e. e.0) (slice_get (entries m) at)
+      birth = sym (ap (λ o. Some (birth_or_zero (option_map (λ (e : Entry T N). e.birth) o))) there) ∙ ap (option_map birth_of) (sym is) ∙ birth_ranked at
+
+      go : (o : Option (ℕ × IndexEntry T N)) → slice_get (entries m) at ≡ o → Some (record { birth = e.birth; place = p }) ≡ option_map spot_of o
+      go None none = let no = birth ∙ ap (option_map (λ e. e.0)) none in absurd (cc)
+      go (Some r) some =
+          let key : e.birth ≡ r.0 = same_Some _ _ (birth ∙ ap (option_map (λ e. e.0)) some) in
+          let had = sym (ap (λ n. map_get n e.birth) (sym view) ∙ read_there s apart p e there) ∙ ap (map_get m) key ∙ get-entries m r.0 ∙ found_at at r (entries m) (entries_sorted m) some in
+          let seen_is = same_Some _ _ had in
+          ap (λ b. Some (record { birth = b; place = p })) key ∙ ap (λ (x : IndexEntry T N). Some (record { birth = r.0; place = x.place })) seen_is
+
+  pub ranked_none : (at : ℕ) → slice_get places at ≡ None → None ≡ spot_at m at
+  ranked_none at is = go (slice_get (entries m) at) (sym (ap (option_map birth_of) is) ∙ birth_ranked at)
+    where
+      go : (o : Option (ℕ × IndexEntry T N)) → None ≡ option_map (λ e. e.0) o → None ≡ option_map spot_of o
+      go None none = refl
+      go (Some r) none = absurd (cc)
+
+  -- the place of the rank before
+  ranked_before : (at : ℕ) → option_map (λ (s : Spot). s.place) (spot_before m at) ≡ place_before places at
+  ranked_before zero = refl
+  ranked_before (suc n) = go (slice_get places n) refl
+    where
+      go : (o : Option ℕ) → slice_get places n ≡ o → option_map (λ (s : Spot). s.place) (spot_at m n) ≡ slice_get places n
+      go None none = sym (ap (option_map (λ (s : Spot). s.place)) (ranked_none n none)) ∙ sym none
+      go (Some p) some =
+          let w = entry_at (get s p) refl (ranked_there n p some) in
+          sym (ap (option_map (λ (s : Spot). s.place)) (ranked_spot n p w.0 some w.1)) ∙ sym some
+        where
+          entry_at : (o : Option (Entry T N)) → get s p ≡ o → IsSome o → (e : Entry T N) × (get s p ≡ Some e)
+          entry_at None at none = absurd (cc)
+          entry_at (Some e) at some = (e, at)
+
+  -- what is told of a rank, by the spot of the rank before
+  pub told_ranked : (at : ℕ) (before : Option Spot) (told : Option ℕ) → at ≤ len m → before ≡ spot_before m at
+      → (at ≤ length places → option_map (λ (s : Spot). s.place) before ≡ place_before places at → told ≡ slice_get places at) → told ≡ slice_get places at
+  told_ranked at before told within is ranked = ranked (subst (λ n. at ≤ n) ranked_length within) (ap (option_map (λ (s : Spot). s.place)) is ∙ ranked_before at)

@@ -7,9 +7,9 @@ use Rattle.std.proofs.lemmas.Bool.{eq-eqb}
 use Rattle.std.proofs.lemmas.Option.{same_Some}
 use Rattle.intern_store.specs.Kept.{Kept, is_at, recounted}
 use Rattle.intern_store.proofs.Compared.{get-inserted, get-removed, get-retained}
-use Rattle.intern_index.specs.IndexEntry.{IndexEntry, has_hash, is_sought, with_payload}
+use Rattle.intern_buckets.specs.Leading.{leads}
+use Rattle.intern_index.specs.IndexEntry.{IndexEntry, Indexed, IsLed, has_hash, is_sought, with_payload, repaid}
 use Rattle.intern_store.specs.Maps.{map_values}
-use Rattle.intern_index.specs.Seen.{IsHashed}
 use Rattle.intern_store.proofs.Maps.{map_values-insert, seen, is_some_seen}
 
 -- a test is false, if from its truth it follows that it is false
@@ -25,6 +25,59 @@ pub some_then : {X E : Type 0} {P Q : X → Type 0} (o : Option X) (e : E) → (
 some_then None e f p = p
 some_then (Some x) e f p = f x p
 
+module _ {T N : Type 0} (key : T → N → ℕ) where
+  -- each entry is led to where there is none, or where those that are left were there
+  pub empty_led : (i : Indexed T N) → i.entries ≡ empty → IsLed key i
+  empty_led i none = record { led = λ b e at. let gone = ap (λ m. get m b) none ∙ get-empty nat_cmp b in absurd (cc) }
+
+  less_led : (i n : Indexed T N) → IsLed key i → n.buckets ≡ i.buckets → ((b : ℕ) (e : IndexEntry T N) → get n.entries b ≡ Some e → get i.entries b ≡ Some e) → IsLed key n
+  less_led i n is same was = record { led = λ b e at. ap (λ t. leads t (key e.value e.payload) e.place) same ∙ is.led b e (was b e at) }
+
+  pub removed_led : (i n : Indexed T N) (b : ℕ) → IsLed key i → n ≡ record i { entries = remove i.entries b } → IsLed key n
+  removed_led i n b is removed = less_led i n is (ap (λ (n : Indexed T N). n.buckets) removed) (λ q e at. go (nat_eq q b) q e (sym (ap (λ (n : Indexed T N). get n.entries q) removed ∙ get-removed i.entries b q) ∙ at))
+    where
+      go : (t : Bool) (q : ℕ) (e : IndexEntry T N) → cond t None (get i.entries q) ≡ Some e → get i.entries q ≡ Some e
+      go true q e at = absurd (cc)
+      go false q e at = at
+
+  pub retained_led : (i n : Indexed T N) (marked : ℕ → Bool) → IsLed key i → n ≡ record i { entries = retain_keys i.entries marked } → IsLed key n
+  retained_led i n marked is retained = less_led i n is (ap (λ (n : Indexed T N). n.buckets) retained) (λ q e at. go (marked q) q e (sym (ap (λ (n : Indexed T N). get n.entries q) retained ∙ get-retained i.entries marked q) ∙ at))
+    where
+      go : (t : Bool) (q : ℕ) (e : IndexEntry T N) → cond t (get i.entries q) None ≡ Some e → get i.entries q ≡ Some e
+      go true q e at = at
+      go false q e at = absurd (cc)
+
+  -- each entry is led to by another hash, where that is the same of all that are there
+  pub alike_led : (other : T → N → ℕ) (i n : Indexed T N) → n.buckets ≡ i.buckets → ((b : ℕ) (e : IndexEntry T N) → get n.entries b ≡ Some e → (d : IndexEntry T N) × (get i.entries b ≡ Some d) × (d.place ≡ e.place) × (key d.value d.payload ≡ other e.value e.payload)) → IsLed key i → IsLed other n
+  alike_led other i n same alike is = record {
+    led = λ b e at.
+        let w = alike b e at in
+        ap (λ t. leads t (other e.value e.payload) e.place) same ∙ sym (ap (λ p. leads i.buckets (other e.value e.payload) p) w.2)
+        ∙ sym (ap (λ h. leads i.buckets h w.0.place) w.3) ∙ is.led b w.0 w.1;
+  }
+
+  -- a payload is changed, and not what is hashed of it
+  module _ (f : N → N) (same : (v : T) (p : N) → key v (f p) ≡ key v p) (i n : Indexed T N) where
+    pub repaid_led : (b : ℕ) → n ≡ repaid f i b → IsLed key i → IsLed key n
+    repaid_led b changed is = go (get i.entries b) refl changed
+      where
+        go : (o : Option (IndexEntry T N)) → get i.entries b ≡ o → n ≡ record i { entries = with_payload f i.entries b o } → IsLed key n
+        go None at changed = subst (IsLed key) (sym changed) is
+        go (Some d) at changed = record { led = λ q e had. ap (λ (n : Indexed T N). leads n.buckets (key e.value e.payload) e.place) changed ∙ here (nat_eq q b) q e (sym (ap (λ (n : Indexed T N). get n.entries q) changed ∙ get-inserted i.entries b (record d { payload = f d.payload }) q) ∙ had) }
+          where
+            here : (t : Bool) (q : ℕ) (e : IndexEntry T N) → cond t (Some (record d { payload = f d.payload })) (get i.entries q) ≡ Some e → leads i.buckets (key e.value e.payload) e.place ≡ true
+            here true q e had = subst (λ (e : IndexEntry T N). leads i.buckets (key e.value e.payload) e.place ≡ true) (same_Some _ _ had) (ap (λ h. leads i.buckets h d.place) (same d.value d.payload) ∙ is.led b d at)
+            here false q e had = is.led q e had
+
+    -- the same, where it is changed only if there is one to change
+    pub found_led : {X : Type 0} (birth : X → ℕ) (o : Option X) → IfSome o (λ x. n ≡ repaid f i (birth x)) → IfNone o (n ≡ i) → IsLed key i → IsLed key n
+    found_led birth None changed same is = subst (IsLed key) (sym same) is
+    found_led birth (Some x) changed same is = repaid_led (birth x) changed is
+
+-- the entries of an index in which a payload was changed
+pub entries_repaid : {T N : Type 0} (f : N → N) (i n : Indexed T N) (b : ℕ) → n ≡ repaid f i b → n.entries ≡ with_payload f i.entries b (get i.entries b)
+entries_repaid {T} {N} f i n b changed = ap (λ (n : Indexed T N). n.entries) changed
+
 module _ {T N V : Type 0} (entry : IndexEntry T N → Kept V) where
   module _ (m : FinMap nat_cmp (IndexEntry T N)) (k : FinMap nat_cmp (Kept V)) (view : map_values entry m ≡ k) where
     -- an entry that is seen has a place
@@ -35,87 +88,43 @@ module _ {T N V : Type 0} (entry : IndexEntry T N → Kept V) where
         go None = refl
         go (Some r) = refl
 
-  module _ (hash : V → ℕ) where
-    pub empty_hashed : (m : FinMap nat_cmp (IndexEntry T N)) → m ≡ empty → IsHashed entry hash m
-    empty_hashed m none = record { hashed = λ b r had. let gone = ap (λ n. get n b) none ∙ get-empty nat_cmp b in absurd (cc) }
+  -- a payload is changed, and with it the count that is seen
+  module _ (f : N → N) (g : ℕ → ℕ) (counts : (r : IndexEntry T N) → entry (record r { payload = f r.payload }) ≡ record (entry r) { count = g (entry r).count })
+      (m n : FinMap nat_cmp (IndexEntry T N)) (k : FinMap nat_cmp (Kept V)) (b : ℕ) (view : map_values entry m ≡ k) (changed : n ≡ with_payload f m b (get m b))
+    where
+      pub changed_seen : map_values entry n ≡ recounted g k b (get k b)
+      changed_seen = go (get m b) changed ∙ ap (recounted g k b) (sym (seen entry m k view b))
+        where
+          go : (o : Option (IndexEntry T N)) → n ≡ with_payload f m b o → map_values entry n ≡ recounted g k b (option_map entry o)
+          go None changed = ap (map_values entry) changed ∙ view
+          go (Some r) changed =
+              map_values-insert entry m n b (record r { payload = f r.payload }) changed
+              ∙ ap (λ x. insert x b (entry (record r { payload = f r.payload }))) view
+              ∙ ap (insert k b) (counts r)
 
-    pub removed_hashed : (m n : FinMap nat_cmp (IndexEntry T N)) (b : ℕ) → IsHashed entry hash m → n ≡ remove m b → IsHashed entry hash n
-    removed_hashed m n b is removed = record { hashed = λ q r had. is.hashed q r (go (nat_eq q b) q r (sym (ap (λ x. get x q) removed ∙ get-removed m b q) ∙ had)) }
+  -- a search among the rows of a hash, seen as one among all entries
+  module _ (fits : T → N → Bool) (eq : V → V → Bool) (v : V) (same : (r : IndexEntry T N) → fits r.value r.payload ≡ eq v (entry r).value) (i : Indexed T N) (k : FinMap nat_cmp (Kept V)) (view : map_values entry i.entries ≡ k) where
+    -- what is sought in a row is what is at its entry
+    pub sought_seen : (b : ℕ) → is_sought fits (get i.entries b) ≡ is_at eq v (get k b)
+    sought_seen b = go (get i.entries b) ∙ sym (ap (is_at eq v) (seen entry i.entries k view b))
       where
-        go : (t : Bool) (q : ℕ) (r : IndexEntry T N) → cond t None (get m q) ≡ Some r → get m q ≡ Some r
-        go true q r e = absurd (cc)
-        go false q r e = e
+        go : (o : Option (IndexEntry T N)) → is_sought fits o ≡ is_at eq v (option_map entry o)
+        go None = refl
+        go (Some r) = same r
 
-    pub retained_hashed : (m n : FinMap nat_cmp (IndexEntry T N)) (marked : ℕ → Bool) → IsHashed entry hash m → n ≡ retain_keys m marked → IsHashed entry hash n
-    retained_hashed m n marked is retained = record { hashed = λ q r had. is.hashed q r (go (marked q) q r (sym (ap (λ x. get x q) retained ∙ get-retained m marked q) ∙ had)) }
-      where
-        go : (t : Bool) (q : ℕ) (r : IndexEntry T N) → cond t (get m q) None ≡ Some r → get m q ≡ Some r
-        go true q r e = e
-        go false q r e = absurd (cc)
+    pub finds : {X : Type 0} (birth : X → ℕ) (o : Option X) (h : ℕ) → IfSome o (λ x. is_sought fits (get i.entries (birth x)) ≡ true) → IfOk (ok_or o h) (λ x. is_at eq v (get k (birth x)) ≡ true)
+    finds birth o h = some_then o h (λ x has. sym (sought_seen (birth x)) ∙ has)
 
-    pub added_hashed : (m n : FinMap nat_cmp (IndexEntry T N)) (b : ℕ) (r : IndexEntry T N) → IsHashed entry hash m → r.hash ≡ hash (entry r).value → n ≡ insert m b r → IsHashed entry hash n
-    added_hashed m n b r is hashes added = record { hashed = λ q x had. go (nat_eq q b) q x (sym (ap (λ x. get x q) added ∙ get-inserted m b r q) ∙ had) }
-      where
-        go : (t : Bool) (q : ℕ) (x : IndexEntry T N) → cond t (Some r) (get m q) ≡ Some x → x.hash ≡ hash (entry x).value
-        go true q x e = let same : r ≡ x = same_Some _ _ e in ap (λ y. y.hash) (sym same) ∙ hashes ∙ ap (λ y. hash (entry y).value) same
-        go false q x e = is.hashed q x e
+    -- each is led to by the hash of the value that is seen, and what is equal to v has the hash of v
+    module _ (hash : V → ℕ) (alike : (x : V) → eq v x ≡ true → hash v ≡ hash x) (key : T → N → ℕ) (keys : (r : IndexEntry T N) → key r.value r.payload ≡ hash (entry r).value) (led : IsLed key i) where
+      candidate : (b : ℕ) → is_at eq v (get k b) ≡ true → has_hash key (hash v) (get i.entries b) ≡ true
+      candidate b equal = go (get i.entries b) (ap (is_at eq v) (sym (seen entry i.entries k view b)) ∙ equal)
+        where
+          go : (o : Option (IndexEntry T N)) → is_at eq v (option_map entry o) ≡ true → has_hash key (hash v) o ≡ true
+          go None e = absurd (cc)
+          go (Some r) e = eq-eqb (hash v) (key r.value r.payload) (alike (entry r).value e ∙ sym (keys r))
 
-    -- the same, where the addition may be refused
-    pub offered_hashed : {X E : Type 0} (m n : FinMap nat_cmp (IndexEntry T N)) (b : ℕ) (r : X → IndexEntry T N) → IsHashed entry hash m → ((x : X) → (r x).hash ≡ hash (entry (r x)).value)
-        → (o : Result X E) → IfOk o (λ x. n ≡ insert m b (r x)) → OnErr o (n ≡ m) → IsHashed entry hash n
-    offered_hashed m n b r is hashes (Ok x) added kept = added_hashed m n b (r x) is (hashes x) added
-    offered_hashed m n b r is hashes (Err e) added kept = subst (IsHashed entry hash) (sym kept) is
-
-    -- a payload is changed, and with it the count that is seen
-    module _ (f : N → N) (g : ℕ → ℕ) (counts : (r : IndexEntry T N) → entry (record r { payload = f r.payload }) ≡ record (entry r) { count = g (entry r).count })
-        (m n : FinMap nat_cmp (IndexEntry T N)) (k : FinMap nat_cmp (Kept V)) (b : ℕ) (view : map_values entry m ≡ k) (changed : n ≡ with_payload f m b (get m b))
-      where
-        pub changed_hashed : IsHashed entry hash m → IsHashed entry hash n
-        changed_hashed is = go (get m b) refl changed
-          where
-            go : (o : Option (IndexEntry T N)) → get m b ≡ o → n ≡ with_payload f m b o → IsHashed entry hash n
-            go None at changed = subst (IsHashed entry hash) (sym changed) is
-            go (Some r) at changed = added_hashed m n b (record r { payload = f r.payload }) is (is.hashed b r at ∙ ap (λ e. hash e.value) (sym (counts r))) changed
-
-        pub changed_seen : map_values entry n ≡ recounted g k b (get k b)
-        changed_seen = go (get m b) changed ∙ ap (recounted g k b) (sym (seen entry m k view b))
-          where
-            go : (o : Option (IndexEntry T N)) → n ≡ with_payload f m b o → map_values entry n ≡ recounted g k b (option_map entry o)
-            go None changed = ap (map_values entry) changed ∙ view
-            go (Some r) changed =
-                map_values-insert entry m n b (record r { payload = f r.payload }) changed
-                ∙ ap (λ x. insert x b (entry (record r { payload = f r.payload }))) view
-                ∙ ap (insert k b) (counts r)
-
-    -- the same, where it is changed only if there is one to change
-    pub found_hashed : {X : Type 0} (f : N → N) (g : ℕ → ℕ) (counts : (r : IndexEntry T N) → entry (record r { payload = f r.payload }) ≡ record (entry r) { count = g (entry r).count }) (m n : FinMap nat_cmp (IndexEntry T N)) (k : FinMap nat_cmp (Kept V)) → map_values entry m ≡ k
-        → (birth : X → ℕ) (o : Option X) → IfSome o (λ x. n ≡ with_payload f m (birth x) (get m (birth x))) → IfNone o (n ≡ m) → IsHashed entry hash m → IsHashed entry hash n
-    found_hashed f g counts m n k view birth None changed same is = subst (IsHashed entry hash) (sym same) is
-    found_hashed f g counts m n k view birth (Some x) changed same is = changed_hashed f g counts m n k (birth x) view changed is
-
-    -- a search among the rows of a hash, seen as one among all entries
-    module _ (fits : T → N → Bool) (eq : V → V → Bool) (v : V) (same : (r : IndexEntry T N) → fits r.value r.payload ≡ eq v (entry r).value) (alike : (x : V) → eq v x ≡ true → hash v ≡ hash x)
-        (m : FinMap nat_cmp (IndexEntry T N)) (k : FinMap nat_cmp (Kept V)) (is : IsHashed entry hash m) (view : map_values entry m ≡ k)
-      where
-        -- what is sought in a row is what is at its entry
-        sought_seen : (b : ℕ) → is_sought fits (get m b) ≡ is_at eq v (get k b)
-        sought_seen b = go (get m b) ∙ sym (ap (is_at eq v) (seen entry m k view b))
-          where
-            go : (o : Option (IndexEntry T N)) → is_sought fits o ≡ is_at eq v (option_map entry o)
-            go None = refl
-            go (Some r) = same r
-
-        -- an entry whose value equals v has the hash of v
-        candidate : (b : ℕ) → is_at eq v (get k b) ≡ true → has_hash (hash v) (get m b) ≡ true
-        candidate b equal = go (get m b) refl (ap (is_at eq v) (sym (seen entry m k view b)) ∙ equal)
-          where
-            go : (o : Option (IndexEntry T N)) → get m b ≡ o → is_at eq v (option_map entry o) ≡ true → has_hash (hash v) o ≡ true
-            go None at e = absurd (cc)
-            go (Some r) at e = eq-eqb (hash v) r.hash (alike (entry r).value e ∙ sym (is.hashed b r at))
-
-        pub finds : {X : Type 0} (birth : X → ℕ) (o : Option X) (h : ℕ) → IfSome o (λ x. is_sought fits (get m (birth x)) ≡ true) → IfOk (ok_or o h) (λ x. is_at eq v (get k (birth x)) ≡ true)
-        finds birth o h = some_then o h (λ x has. sym (sought_seen (birth x)) ∙ has)
-
-        pub finds_none : {X : Type 0} (o : Option X) (h : ℕ) → h ≡ hash v → IfNone o ((b : ℕ) → has_hash h (get m b) ≡ true → is_sought fits (get m b) ≡ false) → OnErr (ok_or o h) ((b : ℕ) → is_at eq v (get k b) ≡ false)
-        finds_none None h hashes apart = λ b. settled _ _ (λ equal. ap (λ x. has_hash x (get m b)) hashes ∙ candidate b equal) (λ has. sym (sought_seen b) ∙ apart b has)
-        finds_none (Some x) h hashes apart = apart
+      pub finds_none : {X : Type 0} (o : Option X) (h : ℕ) → h ≡ hash v
+          → IfNone o ((key : T → N → ℕ) → IsLed key i → (b : ℕ) → has_hash key h (get i.entries b) ≡ true → is_sought fits (get i.entries b) ≡ false) → OnErr (ok_or o h) ((b : ℕ) → is_at eq v (get k b) ≡ false)
+      finds_none None h hashes apart = λ b. settled _ _ (λ equal. ap (λ x. has_hash key x (get i.entries b)) hashes ∙ candidate b equal) (λ has. sym (sought_seen b) ∙ apart key led b has)
+      finds_none (Some x) h hashes apart = apart

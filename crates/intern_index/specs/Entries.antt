@@ -4,15 +4,13 @@ use Rattle.std.specs.Option.{option_map, option_map_or}
 use Rattle.std.specs.Ordering.{nat_cmp}
 use Rattle.std.specs.FinMap.{FinMap, empty, insert}
 use Rattle.slab.specs.Slab.{Slab, get}
-use Rattle.intern_buckets.specs.Leading.{leads}
-use Rattle.intern_buckets.specs.declared.buckets.Buckets.{Buckets}
 use Rattle.intern_index.specs.IndexEntry.{IndexEntry}
 use Rattle.intern_index.specs.declared.entry.Entry.{Entry}
 
 module _ {T N : Type 0} where
   -- what is seen under its birth of an entry at a place
   abbrev pub seen : ℕ → Entry T N → IndexEntry T N
-  seen p e = record { place = p; hash = e.hash; value = e.value; payload = e.payload }
+  seen p e = record { place = p; value = e.value; payload = e.payload }
 
   -- the map of the births in these slots, the first of which has this place
   unfoldable pub held_from : ℕ → List (Option (Entry T N)) → FinMap nat_cmp (IndexEntry T N)
@@ -35,14 +33,10 @@ module _ {T N : Type 0} where
   abbrev pub AreTold : Slab (Entry T N) → Type 0
   AreTold s = (p b : ℕ) → birth_at s p ≡ Some b → p + 1 < 2 ^ 48
 
-  -- the slab's entries, the table by their hashes, and what finds their births
-  pub record IsTied (s : Slab (Entry T N)) (by_hash : Buckets)
-      (IsFor : (ℕ → Option ℕ) → Type 0) : Type 0
-    where
-      -- no two places have one birth
-      pub apart : (p q b : ℕ) → birth_at s p ≡ Some b → birth_at s q ≡ Some b → p ≡ q
-      -- the probe sequence of its hash leads to each entry
-      pub led : (p : ℕ) (e : Entry T N) → get s p ≡ Some e → leads by_hash e.hash p ≡ true
-      -- each birth is found
-      pub found : IsFor (birth_at s)
-      pub told : AreTold s
+  -- the slab's entries, and what finds their births
+  pub record IsTied (s : Slab (Entry T N)) (IsFor : (ℕ → Option ℕ) → Type 0) : Type 0 where
+    -- no two places have one birth
+    pub apart : (p q b : ℕ) → birth_at s p ≡ Some b → birth_at s q ≡ Some b → p ≡ q
+    -- each birth is found
+    pub found : IsFor (birth_at s)
+    pub told : AreTold s

@@ -1,11 +1,10 @@
-//! Values with payloads, each under a birth and a hash.
-ghost use Rattle.std.specs.Prelude.{◌≡◌, ℕ, ◌<◌, option_copied, IsSome, is_some, Some, None};
+//! Values with payloads, each under a birth, found by their hashes too.
+ghost use Rattle.std.specs.Prelude.{◌≡◌, ℕ, ◌<◌, ◌≤◌, option_copied, IsSome, is_some, Some, None};
 ghost use Rattle.std.specs.Prelude.{IsPermutation, IfOk, OnErr, IfErr, IfSome, IfNone, true, false};
 ghost use Rattle.std.specs.Option.{option_map};
-ghost use Rattle.std.specs.List.{slice_get};
 ghost use Rattle.std.specs.FinMap as map;
 ghost use Rattle.intern_index.specs.Entries.{seen};
-ghost use Rattle.intern_index.specs.IndexEntry.{IndexEntry, has_hash, is_sought, with_payload};
+ghost use Rattle.intern_index.specs.IndexEntry.{IndexEntry, Indexed, IsLed, has_hash, is_sought, repaid, spot_at, spot_before};
 ghost use Rattle.intern_index.specs.Listed.{listed};
 
 use crate::birth_order::BirthOrder;
@@ -14,7 +13,7 @@ use crate::change::Change;
 use crate::entry::Entry;
 use crate::iter::Iter;
 use crate::offer::Offer;
-use crate::query::{OfHash, Query};
+use crate::query::{Fitting, Hashes, Query};
 use crate::sweep::keep_marked;
 use crate::table::{Key, Table};
 use intern_buckets::{PLACES, search};
@@ -24,7 +23,7 @@ use std::alloc::Global;
 use std::marker::Model;
 
 /// Entries in a slab, a hash table of their places, and what finds their places by births. The
-/// caller gives the hashes.
+/// caller says how entries are hashed, and gives the hash of each.
 ///
 /// Only an insertion takes memory.
 #[derive(Drop)]
@@ -36,38 +35,38 @@ pub struct Index<T, N: Copy, B: Births> {
 }
 
 // Entries are entered under their hashes.
-#[derive(Clone, Copy)]
-struct ByHash;
+#[derive_where(Clone, Copy)]
+struct ByHash<'a, K> {
+    by: &'a K,
+}
 
-impl<T, N: Copy> Key<T, N> for ByHash {
-    ghost key = { λ _ _ e. Some e.hash };
+impl<T, N: Copy, K: Hashes<T, N>> Key<T, N> for ByHash<'_, K> {
+    ghost key = { λ k _ e. Some (K.hash_of k.by.now e.value e.payload) };
 
     fn key(&self, _place: usize, entry: &Entry<T, N>) -> Option<u64> {
-        Some(entry.hash)
+        Some(self.by.hash_of(&entry.value, entry.payload))
     }
 }
 
 impl<T, N: Copy, B: Births> Model for Index<T, N, B> {
-    ghost use Rattle.std.specs.FinMap as map;
-    ghost use Rattle.std.specs.Ordering.{nat_cmp};
-    ghost use Rattle.std.specs.Coded.{coded_ℕ};
-    ghost use Rattle.intern_index.specs.IndexEntry.{IndexEntry, index_entry_code};
+    ghost use Rattle.intern_buckets.specs.contracts.buckets.Buckets as buckets;
+    ghost use Rattle.intern_index.specs.IndexEntry.{Indexed, indexed_code};
 
-    ghost Value = { map.FinMap nat_cmp (IndexEntry T N) };
+    ghost Value = { Indexed T N };
 
-    ghost coded = { map.code coded_ℕ (index_entry_code T.code N.code) };
+    ghost coded = { indexed_code T.code N.code buckets.the_row.coded };
 
-    ghost use Rattle.intern_index.specs.Entries.{held, birth_at, IsTied};
+    ghost use Rattle.intern_index.specs.Entries.{held, IsTied};
 
-    ghost view = { λ a. held a.slots.slots };
+    ghost view = { λ a. record { entries = held a.slots.slots; buckets = a.by_hash.buckets } };
 
-    ghost invariant = { λ a. IsTied a.slots a.by_hash.buckets (B.IsFor a.births) };
+    ghost invariant = { λ a. IsTied a.slots (B.IsFor a.births) };
 }
 
 impl<T, N: Copy, B: Births> Index<T, N, B> {
     /// An index without an entry. It takes no memory.
     pub fn new(alloc: Global) -> Index<T, N, B>
-        ensures { result ≡ map.empty }
+        ensures { result.entries ≡ map.empty }
     {
         Index {
             alloc,
@@ -79,21 +78,21 @@ impl<T, N: Copy, B: Births> Index<T, N, B> {
 
     /// How many entries there are.
     pub fn len(&self) -> usize
-        ensures { result ≡ map.len self.now }
+        ensures { result ≡ map.len self.now.entries }
     {
         self.slots.len()
     }
 
     /// The place of a birth.
     pub fn place(&self, birth: u64) -> Option<usize>
-        ensures { result ≡ option_map (λ e. e.place) (map.get self.now birth) }
+        ensures { result ≡ option_map (λ e. e.place) (map.get self.now.entries birth) }
     {
         self.births.find(&self.slots, birth)
     }
 
     // The entry of a birth, and its place, which is looked up only where the spot's is wrong.
     fn entry(&self, spot: Spot) -> Option<(usize, &Entry<T, N>)>
-        ensures { option_map (λ f. seen f.0 f.1.now) result ≡ map.get self.now spot.birth }
+        ensures { option_map (λ f. seen f.0 f.1.now) result ≡ map.get self.now.entries spot.birth }
     {
         match self.slots.get(spot.place) {
             Some(entry) if entry.birth == spot.birth => Some((spot.place, entry)),
@@ -107,7 +106,7 @@ impl<T, N: Copy, B: Births> Index<T, N, B> {
     /// The value of an entry.
     pub fn get(&self, spot: Spot) -> Option<&T>
         ensures { option_copied result
-            ≡ option_map (λ e. e.value) (map.get self.now spot.birth) }
+            ≡ option_map (λ e. e.value) (map.get self.now.entries spot.birth) }
     {
         let (_, entry) = self.entry(spot)?;
         Some(&entry.value)
@@ -115,7 +114,7 @@ impl<T, N: Copy, B: Births> Index<T, N, B> {
 
     /// The payload of an entry.
     pub fn payload(&self, spot: Spot) -> Option<N>
-        ensures { result ≡ option_map (λ e. e.payload) (map.get self.now spot.birth) }
+        ensures { result ≡ option_map (λ e. e.payload) (map.get self.now.entries spot.birth) }
     {
         let (_, entry) = self.entry(spot)?;
         Some(entry.payload)
@@ -124,9 +123,9 @@ impl<T, N: Copy, B: Births> Index<T, N, B> {
     /// The value and the payload of an entry.
     pub fn read(&self, spot: Spot) -> Option<(&T, N)>
         ensures value { option_map (λ r. r.0.now) result
-            ≡ option_map (λ e. e.value) (map.get self.now spot.birth) }
+            ≡ option_map (λ e. e.value) (map.get self.now.entries spot.birth) }
         ensures payload { option_map (λ r. r.1) result
-            ≡ option_map (λ e. e.payload) (map.get self.now spot.birth) }
+            ≡ option_map (λ e. e.payload) (map.get self.now.entries spot.birth) }
     {
         let (_, entry) = self.entry(spot)?;
         Some((&entry.value, entry.payload))
@@ -134,9 +133,9 @@ impl<T, N: Copy, B: Births> Index<T, N, B> {
 
     /// Changes the payload of an entry, and answers the one before.
     pub fn change<C: Change<N>>(&mut self, spot: Spot, change: &C) -> Option<N>
-        ensures payload { result ≡ option_map (λ e. e.payload) (map.get self.old spot.birth) }
-        ensures state { let entry = map.get self.old spot.birth in
-            self.new ≡ with_payload (C.changed change.now) self.old spot.birth entry }
+        ensures payload { result
+            ≡ option_map (λ e. e.payload) (map.get self.old.entries spot.birth) }
+        ensures state { self.new ≡ repaid (C.changed change.now) self.old spot.birth }
     {
         let (place, _) = self.entry(spot)?;
         let entry = &mut self.slots[place];
@@ -145,10 +144,13 @@ impl<T, N: Copy, B: Births> Index<T, N, B> {
         Some(payload)
     }
 
-    /// Removes an entry, and answers its value. With a `BirthOrder` this goes over all places.
+    /// Removes an entry, and answers its value. Where a `BirthOrder` has a list of places, this goes
+    /// over all of it.
     pub fn remove(&mut self, spot: Spot) -> Option<T>
-        ensures value { result ≡ option_map (λ e. e.value) (map.get self.old spot.birth) }
-        ensures removed { self.new ≡ map.remove self.old spot.birth }
+        ensures value { result ≡ option_map (λ e. e.value) (map.get self.old.entries spot.birth) }
+        ensures removed { self.new ≡ record self.old {
+          entries = map.remove self.old.entries spot.birth;
+        } }
     {
         let (place, _) = self.entry(spot)?;
         let entry = self.slots.remove(place);
@@ -158,28 +160,33 @@ impl<T, N: Copy, B: Births> Index<T, N, B> {
     }
 
     /// Adds an entry under a birth above all others, and tells its place. Where there is no memory
-    /// the offer comes back.
+    /// the offer comes back. Where the table of hashes is built anew, all entries are hashed.
     ///
     /// Room is made first, and the value last.
-    pub fn insert<O: Offer<T>>(
+    pub fn insert<O: Offer<T>, K: Hashes<T, N>>(
         &mut self,
         birth: u64,
         hash: u64,
         offer: O,
         payload: N,
+        by: &K,
     ) -> Result<usize, O>
-        requires { (b : ℕ) → IsSome (map.get self.old b) → b < birth }
-        ensures ok { IfOk result (λ p. self.new ≡ map.insert self.old birth
-            (record { place = p; hash = hash; value = O.value offer; payload = payload })) }
-        ensures err { OnErr result (self.new ≡ self.old) }
+        requires fresh { (b : ℕ) → IsSome (map.get self.old.entries b) → b < birth }
+        requires led { IsLed (K.hash_of by.now) self.old }
+        requires hash { hash ≡ K.hash_of by.now (O.value offer) payload }
+        ensures ok { IfOk result (λ p. self.new.entries ≡ map.insert self.old.entries birth
+            (record { place = p; value = O.value offer; payload = payload })) }
+        ensures err { OnErr result (self.new.entries ≡ self.old.entries) }
         ensures back { IfErr result (λ back. back ≡ offer) }
+        ensures led { IsLed (K.hash_of by.now) self.new }
     {
         let place = self.slots.vacant_key();
         if place >= PLACES - 1 {
             return Err(offer);
         }
         let (Ok(()), Ok(()), Ok(())) = (
-            self.by_hash.make_room(self.alloc, &self.slots, &ByHash),
+            self.by_hash
+                .make_room(self.alloc, &self.slots, &ByHash { by }),
             self.births.make_room(self.alloc, &self.slots, birth, place),
             self.slots.reserve(1),
         ) else {
@@ -189,7 +196,6 @@ impl<T, N: Copy, B: Births> Index<T, N, B> {
             Ok(value) => {
                 self.slots.insert_reserved(Entry {
                     birth,
-                    hash,
                     value,
                     payload,
                 });
@@ -201,19 +207,20 @@ impl<T, N: Copy, B: Births> Index<T, N, B> {
         }
     }
 
-    /// An entry of a hash that fits a query. Only entries of that hash are looked at.
+    /// An entry that fits a query. One is found where an entry of this hash fits; the one that is
+    /// found may have another. Entries are looked at to which a bucket with 16 bits of the hash leads,
+    /// also where the place was another entry's when the bucket was filled.
     pub fn find<Q: Query<T, N>>(&self, hash: u64, query: &Q) -> Option<Spot>
         ensures found { IfSome result (λ s.
-            is_sought (Q.fits query.now) (map.get self.now s.birth) ≡ true) }
+            is_sought (Q.fits query.now) (map.get self.now.entries s.birth) ≡ true) }
         ensures place { IfSome result (λ s.
-            option_map (λ e. e.place) (map.get self.now s.birth) ≡ Some s.place) }
-        ensures hash { IfSome result (λ s. has_hash hash (map.get self.now s.birth) ≡ true) }
-        ensures none { IfNone result ((b : ℕ) → has_hash hash (map.get self.now b) ≡ true →
-            is_sought (Q.fits query.now) (map.get self.now b) ≡ false) }
+            option_map (λ e. e.place) (map.get self.now.entries s.birth) ≡ Some s.place) }
+        ensures none { IfNone result ((key : T → N → ℕ) → IsLed key self.now → (b : ℕ) →
+            has_hash key hash (map.get self.now.entries b) ≡ true →
+            is_sought (Q.fits query.now) (map.get self.now.entries b) ≡ false) }
     {
-        let test = OfHash {
+        let test = Fitting {
             slots: &self.slots,
-            hash,
             query,
         };
         let place = search(&self.by_hash.buckets, hash, &test)?;
@@ -221,8 +228,8 @@ impl<T, N: Copy, B: Births> Index<T, N, B> {
         Some(Spot { birth, place })
     }
 
-    /// Changes the payload of an entry of a hash that fits a query, and answers where the entry
-    /// lies, and the payload before. Only entries of that hash are looked at.
+    /// Changes the payload of an entry that fits a query, which is found as by `find`, and answers
+    /// where the entry lies, and the payload before.
     pub fn find_and_change<Q: Query<T, N>, C: Change<N>>(
         &mut self,
         hash: u64,
@@ -230,22 +237,20 @@ impl<T, N: Copy, B: Births> Index<T, N, B> {
         change: &C,
     ) -> Option<(Spot, N)>
         ensures found { IfSome result (λ r.
-            is_sought (Q.fits query.now) (map.get self.old r.0.birth) ≡ true) }
+            is_sought (Q.fits query.now) (map.get self.old.entries r.0.birth) ≡ true) }
         ensures place { IfSome result (λ r.
-            option_map (λ e. e.place) (map.get self.old r.0.birth) ≡ Some r.0.place) }
-        ensures hash { IfSome result (λ r.
-            has_hash hash (map.get self.old r.0.birth) ≡ true) }
+            option_map (λ e. e.place) (map.get self.old.entries r.0.birth) ≡ Some r.0.place) }
         ensures payload { IfSome result (λ r.
-            option_map (λ e. e.payload) (map.get self.old r.0.birth) ≡ Some r.1) }
-        ensures state { IfSome result (λ r. let entry = map.get self.old r.0.birth in
-            self.new ≡ with_payload (C.changed change.now) self.old r.0.birth entry) }
-        ensures none { IfNone result ((b : ℕ) → has_hash hash (map.get self.old b) ≡ true →
-            is_sought (Q.fits query.now) (map.get self.old b) ≡ false) }
+            option_map (λ e. e.payload) (map.get self.old.entries r.0.birth) ≡ Some r.1) }
+        ensures state { IfSome result (λ r.
+            self.new ≡ repaid (C.changed change.now) self.old r.0.birth) }
+        ensures none { IfNone result ((key : T → N → ℕ) → IsLed key self.old → (b : ℕ) →
+            has_hash key hash (map.get self.old.entries b) ≡ true →
+            is_sought (Q.fits query.now) (map.get self.old.entries b) ≡ false) }
         ensures same { IfNone result (self.new ≡ self.old) }
     {
-        let test = OfHash {
+        let test = Fitting {
             slots: &self.slots,
-            hash,
             query,
         };
         let place = search(&self.by_hash.buckets, hash, &test)?;
@@ -258,7 +263,7 @@ impl<T, N: Copy, B: Births> Index<T, N, B> {
 
     /// The entries, in the order of their places.
     pub fn iter(&self) -> Iter<'_, T, N>
-        ensures { IsPermutation result (listed self.now) }
+        ensures { IsPermutation result (listed self.now.entries) }
     {
         Iter {
             slots: self.slots.iter(),
@@ -269,7 +274,9 @@ impl<T, N: Copy, B: Births> Index<T, N, B> {
     pub fn keep<M: Keeps>(&mut self, marks: &M)
     where
         T: Drop,
-        ensures { self.new ≡ map.retain_keys self.old (M.marked marks.now) }
+        ensures { self.new ≡ record self.old {
+          entries = map.retain_keys self.old.entries (M.marked marks.now);
+        } }
     {
         keep_marked(&mut self.slots, marks);
         self.births.forget(&self.slots);
@@ -277,14 +284,14 @@ impl<T, N: Copy, B: Births> Index<T, N, B> {
 }
 
 impl<T, N: Copy> Index<T, N, BirthOrder> {
-    /// The entry of this rank in the order of births.
-    pub fn spot(&self, at: usize) -> Option<Spot>
-        ensures birth { option_map (λ s. s.birth) result
-            ≡ option_map (λ e. e.0) (slice_get (map.entries self.now) at) }
-        ensures place { IfSome result (λ s.
-            option_map (λ e. e.place) (map.get self.now s.birth) ≡ Some s.place) }
+    /// Where the entry of a rank in the order of births lies; none behind the last. `before` is what
+    /// was answered for the rank before, none for rank 0: births in row are looked for from there.
+    pub fn spot(&self, at: usize, before: Option<Spot>) -> Option<Spot>
+        requires within { at ≤ map.len self.now.entries }
+        requires before { before ≡ spot_before self.now.entries at }
+        ensures { result ≡ spot_at self.now.entries at }
     {
-        let place = self.births.place(at)?;
+        let place = self.births.place(&self.slots, at, before)?;
         let entry = &self.slots[place];
         Some(Spot {
             birth: entry.birth,

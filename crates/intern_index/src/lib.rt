@@ -24,4 +24,4 @@ pub use entry::Entry;
 pub use index::Index;
 pub use iter::Iter;
 pub use offer::Offer;
-pub use query::Query;
+pub use query::{Hashes, Query};

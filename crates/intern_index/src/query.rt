@@ -1,5 +1,5 @@
-//! What is looked up among the entries of a hash.
-ghost use Rattle.std.specs.Prelude.{◌≡◌, Bool, ◌&&◌, nat_eq};
+//! What is looked up among the entries that may have a hash, and how entries are hashed.
+ghost use Rattle.std.specs.Prelude.{◌≡◌, ℕ, Bool};
 ghost use Rattle.intern_index.specs.Entries.{passes_at};
 
 use crate::entry::Entry;
@@ -16,23 +16,30 @@ pub trait Query<T, N: Copy> {
         ensures { result ≡ fits self.now value.now payload };
 }
 
-/// The places of the entries of a hash that fit a query.
+/// How values with their payloads are hashed.
+pub trait Hashes<T, N: Copy> {
+    // The hash of a value with its payload.
+    ghost hash_of: { Self → T → N → ℕ };
+
+    /// The hash of a value with its payload.
+    fn hash_of(&self, value: &T, payload: N) -> u64
+        ensures { result ≡ hash_of self.now value.now payload };
+}
+
+/// The places of the entries that fit a query.
 #[derive_where(Clone, Copy)]
-pub(crate) struct OfHash<'a, T, N: Copy, Q> {
+pub(crate) struct Fitting<'a, T, N: Copy, Q> {
     pub(crate) slots: &'a Slab<Entry<T, N>>,
-    pub(crate) hash: u64,
     pub(crate) query: &'a Q,
 }
 
-impl<T, N: Copy, Q: Query<T, N>> Test for OfHash<'_, T, N, Q> {
+impl<T, N: Copy, Q: Query<T, N>> Test for Fitting<'_, T, N, Q> {
     ghost passes = { λ t p. passes_at
-        (λ e. nat_eq e.hash t.hash && Q.fits t.query.now e.value e.payload) t.slots.now p };
+        (λ e. Q.fits t.query.now e.value e.payload) t.slots.now p };
 
     fn passes(&self, place: usize) -> bool {
         match self.slots.get(place) {
-            Some(entry) => {
-                entry.hash == self.hash && self.query.fits(&entry.value, entry.payload)
-            }
+            Some(entry) => self.query.fits(&entry.value, entry.payload),
             None => false,
         }
     }

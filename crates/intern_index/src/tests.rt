@@ -1,8 +1,10 @@
 //! Indexes of few entries and many births: they stay small, and each read is right.
-ghost use Rattle.std.specs.Prelude.{ℕ, ◌<◌, ◌==◌, nat_lt, true, IsSome};
+ghost use Rattle.std.specs.Prelude.{◌≡◌, ℕ, ◌+◌, ◌*◌, ◌%◌, ◌^◌, ◌<◌, ◌==◌, nat_lt, true, Some, IsSome};
 ghost use Rattle.std.specs.FinMap as map;
+ghost use Rattle.intern_buckets.specs.Leading.{leads};
+ghost use Rattle.intern_index.specs.IndexEntry.{IndexEntry};
 
-use crate::{BirthOrder, BirthTable, Births, Index, Offer, Query};
+use crate::{BirthOrder, BirthTable, Births, Hashes, Index, Offer, Query};
 use intern_store::{Keeps, Spot};
 use std::alloc::Global;
 use std::cell::Cell;
@@ -64,31 +66,36 @@ impl Keeps for Placed<'_> {
 #[derive(Drop)]
 struct Numbers<B: Births> {
     index: Index<u64, u64, B>,
-    hashes: Hashes,
+    hashes: Sequence,
     next: u64,
-    ghost below: { (b : ℕ) → IsSome (map.get index b) → b < next },
+    ghost below: { (b : ℕ) → IsSome (map.get index.entries b) → b < next },
+    ghost led: { (b : ℕ) (e : IndexEntry ℕ ℕ) → map.get index.entries b ≡ Some e →
+        leads index.buckets
+        ((hashes.first + (e.value * hashes.apart) % 2 ^ 64) % 2 ^ 64) e.place ≡ true },
 }
 
 // Hashes from a first one on, this far apart.
 #[derive(Clone, Copy)]
-struct Hashes {
+struct Sequence {
     first: u64,
     apart: u64,
 }
 
-const SPREAD: Hashes = Hashes {
+const SPREAD: Sequence = Sequence {
     first: 0,
     apart: 0x9E37_79B9_7F4A_7C15,
 };
 
-impl Hashes {
-    fn of(self, number: u64) -> u64 {
-        self.first.wrapping_add(number.wrapping_mul(self.apart))
+impl Hashes<u64, u64> for Sequence {
+    ghost hash_of = { λ s v _. (s.first + (v * s.apart) % 2 ^ 64) % 2 ^ 64 };
+
+    fn hash_of(&self, value: &u64, _payload: u64) -> u64 {
+        self.first.wrapping_add(value.wrapping_mul(self.apart))
     }
 }
 
 impl<B: Births> Numbers<B> {
-    fn new(alloc: Global, hashes: Hashes) -> Numbers<B> {
+    fn new(alloc: Global, hashes: Sequence) -> Numbers<B> {
         Numbers {
             index: Index::new(alloc),
             hashes,
@@ -100,10 +107,11 @@ impl<B: Births> Numbers<B> {
     fn add(&mut self, rt: &impl Abort) -> Spot {
         let birth = self.next;
         assert!(rt; birth < u64::MAX);
-        let hash = self.hashes.of(birth);
+        let payload = !birth;
+        let hash = self.hashes.hash_of(&birth, payload);
         let place = self
             .index
-            .insert(birth, hash, Number(birth), !birth)
+            .insert(birth, hash, Number(birth), payload, &self.hashes)
             .expect(rt, "memory");
         self.next = birth + 1;
         Spot { birth, place }
@@ -140,7 +148,8 @@ impl<B: Births> Numbers<B> {
 
     // The place of a number by its hash.
     fn found(&self, number: u64) -> Option<usize> {
-        let spot = self.index.find(self.hashes.of(number), &Number(number))?;
+        let hash = self.hashes.hash_of(&number, !number);
+        let spot = self.index.find(hash, &Number(number))?;
         Some(spot.place)
     }
 }
@@ -225,7 +234,7 @@ fn an_index_of_a_million_births_stays_small(rt: HostRuntime) {
 // At most 100 entries at a time, so there is room for 200, in 228 homes. Where all begin at the
 // last home, all but one stand behind it, in 427 buckets, and the vector may have doubled for them.
 fn shares_a_hash(rt: &impl Abort, alloc: Global, hash: u64) {
-    let hashes = Hashes {
+    let hashes = Sequence {
         first: hash,
         apart: 0,
     };
@@ -313,22 +322,26 @@ fn a_sweep_asks_by_the_right_places(rt: HostRuntime) {
     all_there(&rt, &numbers, &spots);
 }
 
-// Checks that these are the entries from a number on, in the order of births.
-fn in_order(rt: &impl Abort, numbers: &Numbers<BirthOrder>, from: usize, spots: &[Spot]) {
-    for (at, spot) in spots.iter().enumerate() {
-        let found = numbers
-            .index
-            .spot(from.saturating_add(at))
-            .expect(rt, "an entry");
-        assert_eq!(rt; (found.birth, found.place), (spot.birth, spot.place));
+// Checks that these are the last entries in the order of births.
+fn ends_with(rt: &impl Abort, numbers: &Numbers<BirthOrder>, spots: &[Spot]) {
+    let before = numbers.index.len().saturating_sub(spots.len());
+    let mut last = None;
+    for at in 0..numbers.index.len() {
+        let found = numbers.index.spot(at, last);
+        if at >= before {
+            let told = found.map(|it| (it.birth, it.place));
+            let wanted = spots.get(at - before).map(|it| (it.birth, it.place));
+            assert_eq!(rt; told, wanted);
+        }
+        last = found;
     }
 }
 
 // Adds entries behind these, and sweeps them out.
 fn sweep(rt: &impl Abort, alloc: Global, numbers: &mut Numbers<BirthOrder>, staying: &[Spot]) {
+    ends_with(rt, numbers, staying);
     let going = added(rt, alloc, numbers, 500);
-    in_order(rt, numbers, 0, staying);
-    in_order(rt, numbers, 500, &going);
+    ends_with(rt, numbers, &going);
     numbers.keep(&Below(500));
     all_there(rt, numbers, staying);
     for spot in &going {
@@ -343,11 +356,13 @@ fn an_index_in_order_stays_small(rt: HostRuntime) {
     let alloc = rt.alloc();
     let mut numbers = Numbers::<BirthOrder>::new(alloc, SPREAD);
     let mut staying = added(&rt, alloc, &mut numbers, 500);
+    // Births in row are in no list.
+    assert_eq!(rt; numbers.index.births().capacity(), 0);
     for _ in 0..198 {
         sweep(&rt, alloc, &mut numbers, &staying);
     }
     replace(&rt, &mut numbers, &mut staying);
-    in_order(&rt, &numbers, 0, &staying);
+    ends_with(&rt, &numbers, &staying);
     assert_eq!(rt; numbers.next, 100_000);
     assert_eq!(rt; numbers.index.len(), 500);
 }

@@ -172,6 +172,16 @@ module _ {V : Type 0} where
   due_found (Some b) s by_count = option_and_then by_count (count_at s b)
   due_found None s by_count = due_adding s
 
+  -- the refusal of a call that counts the entry of a birth once more, if there is one
+  abbrev pub due_found_full : Option ℕ → State V → Option Refusal
+  due_found_full None s = None
+  due_found_full (Some b) s = option_and_then (full s.top) (count_at s b)
+
+  -- the entry of a birth counted once more, if there is one
+  abbrev pub found_counted : Option ℕ → State V → State V
+  found_counted None s = s
+  found_counted (Some b) s = counted_up s b
+
   -- the refusal of a call that interns v, before want of memory: where v is stored what its count
   -- decides, else that births are used up
   abbrev pub due_interning : (V → V → Bool) → State V → V → (ℕ → Option Refusal) → Option Refusal

@@ -5,7 +5,7 @@ ghost use Rattle.std.specs.FinMap as map;
 ghost use Rattle.std.specs.Option.{option_map};
 ghost use Rattle.intern_store.specs.Named.{key_name};
 ghost use Rattle.intern_store.specs.Outcome.{Owes, MayWantBack, Becomes};
-ghost use Rattle.intern_store.specs.State.{IsState, new_state, name_in, entry_at, count_at, counts, counted_up, counted_down, taken, added_with, birth_of, is_new, interned, interned_name, interned_counted, given_back, name_of_value, due, due_at, due_adding, due_interning, full, zero_count, any_count, freed, released, kept};
+ghost use Rattle.intern_store.specs.State.{IsState, new_state, name_in, entry_at, count_at, counts, counted_up, counted_down, taken, added_with, birth_of, is_new, interned, interned_name, interned_counted, given_back, name_of_value, due, due_at, due_adding, due_interning, due_found_full, found_counted, full, zero_count, any_count, freed, released, kept};
 
 use crate::entries::{Entries, Finds, Keeps, Raises, Removes, Sweeps, Takes};
 use crate::names::{EntryKey, Limits, Spot};
@@ -267,6 +267,50 @@ impl<E: Entries> Store<E> {
         }
     }
 
+    /// Counts the entry whose value equals what is offered once more, and answers its key. Where no
+    /// such value is stored it answers the hash of what is offered, for `add_counted`. It takes no
+    /// memory.
+    pub fn count_up_stored<O>(&mut self, offer: &O) -> Result<Result<EntryKey, u64>, Refusal>
+    where
+        E: Raises<O>,
+        ensures found { IfOk result (λ found. option_map key_name (result_ok found)
+            ≡ name_of_value E.Value.eq self.old (E.value offer.now)) }
+        ensures hash { IfOk result (λ found. IfErr found (λ h. h ≡ E.hash_of offer.now)) }
+        ensures refused { Owes result
+            (due_found_full (birth_of E.Value.eq self.old (E.value offer.now)) self.old) }
+        ensures state { Becomes result self.old self.new
+            (found_counted (birth_of E.Value.eq self.old (E.value offer.now)) self.old) }
+    {
+        // A field that is read brings in the invariant, which the table alone doesn't know.
+        let top = self.top;
+        match self.table.find_and_raise(offer, top) {
+            Ok((spot, count)) => {
+                if count == top {
+                    return Err(Refusal::CountFull);
+                }
+                Ok(Ok(self.key(spot)))
+            }
+            Err(hash) => Ok(Err(hash)),
+        }
+    }
+
+    /// Stores what is offered, to which no stored value is equal, under its hash, counted once.
+    pub fn add_counted<O>(&mut self, hash: u64, offer: O) -> Result<EntryKey, Refused<O>>
+    where
+        E: Takes<O>,
+        requires hash { hash ≡ E.hash_of offer }
+        requires fresh { birth_of E.Value.eq self.old (E.value offer) ≡ None }
+        ensures name { IfOk result (λ k.
+            key_name k ≡ interned_name E.Value.eq self.old (E.value offer)) }
+        ensures refused { MayWantBack result (due_adding self.old) true offer }
+        ensures state { Becomes result self.old self.new
+            (interned_counted E.Value.eq self.old (E.value offer)) }
+    {
+        // A field that is read brings in the invariant, which the call doesn't know.
+        let _next = self.next;
+        self.add(hash, offer, 1)
+    }
+
     /// Stores what is offered, or hands it back where an equal value is stored. The entry is
     /// counted once more.
     pub fn intern_counted<O>(&mut self, offer: O) -> Result<(EntryKey, Option<O>), Refused<O>>
@@ -282,19 +326,10 @@ impl<E: Entries> Store<E> {
         ensures state { Becomes result self.old self.new
             (interned_counted E.Value.eq self.old (E.value offer)) }
     {
-        // A field that is read brings in the invariant, which the table alone doesn't know.
-        let top = self.top;
-        match self.table.find_and_raise(&offer, top) {
-            Ok((spot, count)) => {
-                if count == top {
-                    return Err(Refused {
-                        why: Refusal::CountFull,
-                        back: offer,
-                    });
-                }
-                Ok((self.key(spot), Some(offer)))
-            }
-            Err(hash) => Ok((self.add(hash, offer, 1)?, None)),
+        match self.count_up_stored(&offer) {
+            Ok(Ok(key)) => Ok((key, Some(offer))),
+            Ok(Err(hash)) => Ok((self.add_counted(hash, offer)?, None)),
+            Err(why) => Err(Refused { why, back: offer }),
         }
     }
 

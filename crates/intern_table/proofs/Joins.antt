@@ -12,15 +12,14 @@ use Rattle.std.proofs.lemmas.Bool.{cases_eq, cases_lt, and_parts}
 use Rattle.std.proofs.lemmas.Option.{same_Some}
 use Rattle.intern_store.specs.Kept.{Kept, recounted}
 use Rattle.intern_store.proofs.Compared.{get-inserted, get-retained}
-use Rattle.intern_index.specs.IndexEntry.{IndexEntry, with_payload}
+use Rattle.intern_index.specs.IndexEntry.{IndexEntry, Indexed, IsLed, with_payload}
 use Rattle.intern_store.specs.Maps.{map_values}
-use Rattle.intern_index.specs.Seen.{IsHashed}
 use Rattle.intern_table.specs.Sliced.{Sliced, sliced_eq, sliced_input}
 use Rattle.intern_table.specs.Read.{shown}
-use Rattle.intern_table.specs.Joined.{end_of, read_entry, sliced_entry, IsLaid, IsCovered, IsJoined}
+use Rattle.intern_table.specs.Joined.{end_of, read_entry, sliced_entry, sliced_hash, IsLaid, IsCovered, IsJoined}
 use Rattle.intern_table.specs.declared.pool.SlicePayload.{SlicePayload}
 use Rattle.intern_store.proofs.Chosen.{here, away}
-use Rattle.intern_index.proofs.Seen.{empty_hashed, retained_hashed, added_hashed, changed_hashed, changed_seen}
+use Rattle.intern_index.proofs.Seen.{alike_led, changed_seen}
 use Rattle.intern_store.proofs.Maps.{get-map_values, map_values-insert, map_values-retain, map_values-same, read_seen}
 
 -- equal headers and lists feed a hasher the same
@@ -126,215 +125,220 @@ module _ {H S : Type 0} where
       → map_values (sliced_entry items') new ≡ m
   still_seen index new items items' m view same_index same_items = ap (map_values (sliced_entry items')) same_index ∙ ap (λ xs. map_values (sliced_entry xs) index) same_items ∙ view
 
-  module _ (hash : Sliced H S → ℕ) where
-    -- where nothing has changed
-    pub still_joined : (index new : FinMap nat_cmp (IndexEntry H SlicePayload)) (items items' : List S) → IsJoined hash index items → new ≡ index → items' ≡ items → IsJoined hash new items'
-    still_joined index new items items' is same_index same_items = subst (λ m. IsJoined hash m items') (sym same_index) (subst (IsJoined hash index) (sym same_items) is)
+  -- where nothing has changed
+  pub still_joined : (index new : FinMap nat_cmp (IndexEntry H SlicePayload)) (items items' : List S) → IsJoined index items → new ≡ index → items' ≡ items → IsJoined new items'
+  still_joined index new items items' is same_index same_items = subst (λ m. IsJoined m items') (sym same_index) (subst (IsJoined index) (sym same_items) is)
 
-    -- a table of nothing
-    pub empty_joined : (index : FinMap nat_cmp (IndexEntry H SlicePayload)) (items : List S) → index ≡ empty → items ≡ [] → IsJoined hash index items
-    empty_joined index items none nothing =
-        let gone : (b : ℕ) → get index b ≡ None = λ b. ap (λ m. get m b) none ∙ get-empty nat_cmp b in
-        record {
-          laid = record { within = λ b r at. let e = gone b in absurd (cc); apart = λ b c r s below at its. let e = gone b in absurd (cc) };
-          hashed = empty_hashed (sliced_entry items) hash index none;
-          full = λ i below. let size : length items ≡ 0 = ap length nothing in absurd (omega (arith, below));
+  -- a table of nothing
+  pub empty_joined : (index : FinMap nat_cmp (IndexEntry H SlicePayload)) (items : List S) → index ≡ empty → items ≡ [] → IsJoined index items
+  empty_joined index items none nothing =
+      let gone : (b : ℕ) → get index b ≡ None = λ b. ap (λ m. get m b) none ∙ get-empty nat_cmp b in
+      record {
+        laid = record { within = λ b r at. let e = gone b in absurd (cc); apart = λ b c r s below at its. let e = gone b in absurd (cc) };
+        full = λ i below. let size : length items ≡ 0 = ap length nothing in absurd (omega (arith, below));
+      }
+
+  -- a row of before that reads as one of now
+  row_before : (items items' : List S) (o : Option (IndexEntry H SlicePayload)) (y : IndexEntry H SlicePayload) → Some (read_entry items' y) ≡ option_map (read_entry items) o → (x : IndexEntry H SlicePayload) × (o ≡ Some x) × (read_entry items' y ≡ read_entry items x)
+  row_before items items' None y e = absurd (cc)
+  row_before items items' (Some x) y e = (x, refl, same_Some _ _ e)
+
+  module _ (hash : Sliced H S → ℕ) where
+    -- more items behind them, or fewer, change no hash of rows that lie among these
+    module _ (i : Indexed H SlicePayload) (items more items' : List S) (laid : IsLaid i.entries (length items)) (longer : items' ≡ items ++ more) where
+      same_hash : (b : ℕ) (r : IndexEntry H SlicePayload) → get i.entries b ≡ Some r → sliced_hash hash items' r.value r.payload ≡ sliced_hash hash items r.value r.payload
+      same_hash b r at =
+          ap (λ xs. sliced_hash hash xs r.value r.payload) longer
+          ∙ ap (λ xs. hash (record { header = r.value; items = xs })) (same_part r.payload.start r.payload.length items more (laid.within b r at))
+
+      pub longer_led : IsLed (sliced_hash hash items) i → IsLed (sliced_hash hash items') i
+      longer_led is = alike_led (sliced_hash hash items) (sliced_hash hash items') i i refl (λ b r at. (r, at, refl, sym (same_hash b r at))) is
+
+      pub shorter_led : (n : Indexed H SlicePayload) (shorter : List S) → n.entries ≡ i.entries → shorter ≡ items → IsLed (sliced_hash hash items') n → IsLed (sliced_hash hash shorter) n
+      shorter_led n shorter same cut is =
+          subst (λ xs. IsLed (sliced_hash hash xs) n) (sym cut)
+          (alike_led (sliced_hash hash items') (sliced_hash hash items) n n refl (λ b r at. (r, at, refl, same_hash b r (sym (ap (λ m. get m b) same) ∙ at))) is)
+
+    -- nor does a move of the items that each row reads
+    pub moved_led : (i n : Indexed H SlicePayload) (items items' : List S) → n.buckets ≡ i.buckets → ((b : ℕ) → option_map (read_entry items') (get n.entries b) ≡ option_map (read_entry items) (get i.entries b))
+        → IsLed (sliced_hash hash items) i → IsLed (sliced_hash hash items') n
+    moved_led i n items items' same reads is =
+        alike_led (sliced_hash hash items) (sliced_hash hash items') i n same (λ b y at.
+        let w = row_before items items' (get i.entries b) y (sym (ap (option_map (read_entry items')) at) ∙ reads b) in
+        (w.0, w.1, ap (λ p. p.0) (sym w.2), ap (λ p. hash p.1.value) (sym w.2))) is
+
+  -- the items of what is added are its last part
+  pub added_hash : (hash : Sliced H S → ℕ) (items xs items' : List S) (h : H) (p : SlicePayload) → items' ≡ items ++ xs → p.start ≡ length items → p.length ≡ length xs → hash (record { header = h; items = xs }) ≡ sliced_hash hash items' h p
+  added_hash hash items xs items' h p more begins long =
+      sym (ap (λ zs. sliced_hash hash zs h p) more ∙ ap (λ zs. hash (record { header = h; items = zs })) (last_part p.start p.length items xs begins long))
+
+  module _ (index : FinMap nat_cmp (IndexEntry H SlicePayload)) (items : List S) (is : IsJoined index items) where
+    -- what is read of a row
+    pub reads : (b : ℕ) (v : H) (n : SlicePayload) → Some v ≡ option_map (λ r. r.value) (get index b) → Some n ≡ option_map (λ r. r.payload) (get index b)
+        → Some (record { header = v; items = take n.length (drop n.start items) }, n.length) ≡ option_map (λ r. shown (sliced_entry items r)) (get index b)
+    reads b v n value payload = go (get index b) refl value payload
+      where
+        go : (o : Option (IndexEntry H SlicePayload)) → get index b ≡ o → Some v ≡ option_map (λ r. r.value) o → Some n ≡ option_map (λ r. r.payload) o
+            → Some (record { header = v; items = take n.length (drop n.start items) }, n.length) ≡ option_map (λ r. shown (sliced_entry items r)) o
+        go None at value payload = absurd (cc)
+        go (Some r) at value payload =
+            let is_value : v ≡ r.value = same_Some _ _ value in
+            let is_payload : n ≡ r.payload = same_Some _ _ payload in
+            let long : length (take r.payload.length (drop r.payload.start items)) ≡ r.payload.length = part_length r.payload.start r.payload.length items (is.laid.within b r at) in
+            ap (λ w. Some (record { header = w; items = take n.length (drop n.start items) }, n.length)) is_value
+            ∙ ap (λ (x : SlicePayload). Some (record { header = r.value; items = take x.length (drop x.start items) }, x.length)) is_payload
+            ∙ ap (λ k. Some (record { header = r.value; items = take r.payload.length (drop r.payload.start items) }, k)) (sym long)
+
+    -- a count is changed
+    module _ (g : ℕ → ℕ) (m : FinMap nat_cmp (Kept (Sliced H S))) (view : map_values (sliced_entry items) index ≡ m) (b : ℕ)
+        (index' : FinMap nat_cmp (IndexEntry H SlicePayload)) (changed : index' ≡ with_payload (recount g) index b (get index b))
+      where
+        was : (q : ℕ) (y : IndexEntry H SlicePayload) → get index' q ≡ Some y → (x : IndexEntry H SlicePayload) × (get index q ≡ Some x) × (y.payload.start ≡ x.payload.start) × (y.payload.length ≡ x.payload.length)
+        was q y at = go (get index b) refl changed
+          where
+            go : (o : Option (IndexEntry H SlicePayload)) → get index b ≡ o → index' ≡ with_payload (recount g) index b o
+                → (x : IndexEntry H SlicePayload) × (get index q ≡ Some x) × (y.payload.start ≡ x.payload.start) × (y.payload.length ≡ x.payload.length)
+            go None had changed = (y, sym (ap (λ n. get n q) changed) ∙ at, refl, refl)
+            go (Some r) had changed =
+                let new : IndexEntry H SlicePayload = record r { payload = recount g r.payload } in
+                let now = ap (λ n. get n q) changed ∙ get-inserted index b new q in
+                elim (cases_eq q b) [
+                  | inl e ↦
+                      let same : new ≡ y = same_Some _ _ (sym (now ∙ here q b _ _ e) ∙ at) in
+                      (r, ap (get index) e ∙ had, ap (λ x. x.payload.start) (sym same), ap (λ x. x.payload.length) (sym same))
+                  | inr differs ↦ (y, sym (now ∙ away q b _ _ differs) ∙ at, refl, refl)
+                ]
+
+        will : (q : ℕ) (x : IndexEntry H SlicePayload) → get index q ≡ Some x → (y : IndexEntry H SlicePayload) × (get index' q ≡ Some y) × (y.payload.start ≡ x.payload.start) × (y.payload.length ≡ x.payload.length)
+        will q x at = go (get index b) refl changed
+          where
+            go : (o : Option (IndexEntry H SlicePayload)) → get index b ≡ o → index' ≡ with_payload (recount g) index b o
+                → (y : IndexEntry H SlicePayload) × (get index' q ≡ Some y) × (y.payload.start ≡ x.payload.start) × (y.payload.length ≡ x.payload.length)
+            go None had changed = (x, ap (λ n. get n q) changed ∙ at, refl, refl)
+            go (Some r) had changed =
+                let new : IndexEntry H SlicePayload = record r { payload = recount g r.payload } in
+                let now = ap (λ n. get n q) changed ∙ get-inserted index b new q in
+                elim (cases_eq q b) [
+                  | inl e ↦
+                      let same : r ≡ x = same_Some _ _ (sym (ap (get index) e ∙ had) ∙ at) in
+                      (new, now ∙ here q b _ _ e, ap (λ z. z.payload.start) same, ap (λ z. z.payload.length) same)
+                  | inr differs ↦ (x, now ∙ away q b _ _ differs ∙ at, refl, refl)
+                ]
+
+        pub changes_joined : IsJoined index' items
+        changes_joined = record {
+          laid = laid_by index index' (length items) was is.laid;
+          full = λ i below. covered_by index index' i will (is.full i below);
         }
 
-    module _ (index : FinMap nat_cmp (IndexEntry H SlicePayload)) (items : List S) (is : IsJoined hash index items) where
-      -- what is read of a row
-      pub reads : (b : ℕ) (v : H) (n : SlicePayload) → Some v ≡ option_map (λ r. r.value) (get index b) → Some n ≡ option_map (λ r. r.payload) (get index b)
-          → Some (record { header = v; items = take n.length (drop n.start items) }, n.length) ≡ option_map (λ r. shown (sliced_entry items r)) (get index b)
-      reads b v n value payload = go (get index b) refl value payload
-        where
-          go : (o : Option (IndexEntry H SlicePayload)) → get index b ≡ o → Some v ≡ option_map (λ r. r.value) o → Some n ≡ option_map (λ r. r.payload) o
-              → Some (record { header = v; items = take n.length (drop n.start items) }, n.length) ≡ option_map (λ r. shown (sliced_entry items r)) o
-          go None at value payload = absurd (cc)
-          go (Some r) at value payload =
-              let is_value : v ≡ r.value = same_Some _ _ value in
-              let is_payload : n ≡ r.payload = same_Some _ _ payload in
-              let long : length (take r.payload.length (drop r.payload.start items)) ≡ r.payload.length = part_length r.payload.start r.payload.length items (is.laid.within b r at) in
-              ap (λ w. Some (record { header = w; items = take n.length (drop n.start items) }, n.length)) is_value
-              ∙ ap (λ (x : SlicePayload). Some (record { header = r.value; items = take x.length (drop x.start items) }, x.length)) is_payload
-              ∙ ap (λ k. Some (record { header = r.value; items = take r.payload.length (drop r.payload.start items) }, k)) (sym long)
+        pub changes_seen : map_values (sliced_entry items) index' ≡ recounted g m b (get m b)
+        changes_seen = changed_seen (sliced_entry items) (recount g) g (λ r. refl) index index' m b view changed
 
-      -- a count is changed
-      module _ (g : ℕ → ℕ) (m : FinMap nat_cmp (Kept (Sliced H S))) (view : map_values (sliced_entry items) index ≡ m) (b : ℕ)
-          (index' : FinMap nat_cmp (IndexEntry H SlicePayload)) (changed : index' ≡ with_payload (recount g) index b (get index b))
-        where
-          was : (q : ℕ) (y : IndexEntry H SlicePayload) → get index' q ≡ Some y → (x : IndexEntry H SlicePayload) × (get index q ≡ Some x) × (y.payload.start ≡ x.payload.start) × (y.payload.length ≡ x.payload.length)
-          was q y at = go (get index b) refl changed
-            where
-              go : (o : Option (IndexEntry H SlicePayload)) → get index b ≡ o → index' ≡ with_payload (recount g) index b o
-                  → (x : IndexEntry H SlicePayload) × (get index q ≡ Some x) × (y.payload.start ≡ x.payload.start) × (y.payload.length ≡ x.payload.length)
-              go None had changed = (y, sym (ap (λ n. get n q) changed) ∙ at, refl, refl)
-              go (Some r) had changed =
-                  let new : IndexEntry H SlicePayload = record r { payload = recount g r.payload } in
-                  let now = ap (λ n. get n q) changed ∙ get-inserted index b new q in
-                  elim (cases_eq q b) [
-                    | inl e ↦
-                        let same : new ≡ y = same_Some _ _ (sym (now ∙ here q b _ _ e) ∙ at) in
-                        (r, ap (get index) e ∙ had, ap (λ x. x.payload.start) (sym same), ap (λ x. x.payload.length) (sym same))
-                    | inr differs ↦ (y, sym (now ∙ away q b _ _ differs) ∙ at, refl, refl)
-                  ]
+    -- a list is added behind all others
+    module _ (b : ℕ) (above : (c : ℕ) → IsSome (get index c) → c < b) (index' : FinMap nat_cmp (IndexEntry H SlicePayload)) (items' : List S) (r : IndexEntry H SlicePayload) (xs : List S)
+        (more : items' ≡ items ++ xs) (added : index' ≡ insert index b r)
+        (begins : r.payload.start ≡ length items) (long : r.payload.length ≡ length xs)
+      where
+        -- the entries before it stay
+        stays : (c : ℕ) (y : IndexEntry H SlicePayload) → get index c ≡ Some y → sliced_entry items' y ≡ sliced_entry items y
+        stays c y at =
+            ap (λ zs. sliced_entry zs y) more
+            ∙ ap (λ zs. record { value = record { header = y.value; items = zs }; count = y.payload.count }) (same_part y.payload.start y.payload.length items xs (is.laid.within c y at))
 
-          will : (q : ℕ) (x : IndexEntry H SlicePayload) → get index q ≡ Some x → (y : IndexEntry H SlicePayload) × (get index' q ≡ Some y) × (y.payload.start ≡ x.payload.start) × (y.payload.length ≡ x.payload.length)
-          will q x at = go (get index b) refl changed
-            where
-              go : (o : Option (IndexEntry H SlicePayload)) → get index b ≡ o → index' ≡ with_payload (recount g) index b o
-                  → (y : IndexEntry H SlicePayload) × (get index' q ≡ Some y) × (y.payload.start ≡ x.payload.start) × (y.payload.length ≡ x.payload.length)
-              go None had changed = (x, ap (λ n. get n q) changed ∙ at, refl, refl)
-              go (Some r) had changed =
-                  let new : IndexEntry H SlicePayload = record r { payload = recount g r.payload } in
-                  let now = ap (λ n. get n q) changed ∙ get-inserted index b new q in
-                  elim (cases_eq q b) [
-                    | inl e ↦
-                        let same : r ≡ x = same_Some _ _ (sym (ap (get index) e ∙ had) ∙ at) in
-                        (new, now ∙ here q b _ _ e, ap (λ z. z.payload.start) same, ap (λ z. z.payload.length) same)
-                    | inr differs ↦ (x, now ∙ away q b _ _ differs ∙ at, refl, refl)
-                  ]
+        enters : sliced_entry items' r ≡ record { value = record { header = r.value; items = xs }; count = r.payload.count }
+        enters =
+            ap (λ zs. sliced_entry zs r) more
+            ∙ ap (λ zs. record { value = record { header = r.value; items = zs }; count = r.payload.count }) (last_part r.payload.start r.payload.length items xs begins long)
 
-          pub changes_joined : IsJoined hash index' items
-          changes_joined = record {
-            laid = laid_by index index' (length items) was is.laid;
-            hashed = changed_hashed (sliced_entry items) hash (recount g) g (λ r. refl) index index' m b view changed is.hashed;
-            full = λ i below. covered_by index index' i will (is.full i below);
-          }
+        either : (c : ℕ) (y : IndexEntry H SlicePayload) → get index' c ≡ Some y → ((c ≡ b) × (r ≡ y)) ⊎ ((c < b) × (get index c ≡ Some y))
+        either c y at =
+            let now = ap (λ n. get n c) added ∙ get-inserted index b r c in
+            elim (cases_eq c b) [
+              | inl e ↦ inl (e, same_Some _ _ (sym (now ∙ here c b _ _ e) ∙ at))
+              | inr differs ↦ let was : get index c ≡ Some y = sym (now ∙ away c b _ _ differs) ∙ at in inr (above c (ap is_some was), was)
+            ]
 
-          pub changes_seen : map_values (sliced_entry items) index' ≡ recounted g m b (get m b)
-          changes_seen = changed_seen (sliced_entry items) hash (recount g) g (λ r. refl) index index' m b view changed
+        longer : length items' ≡ length items + length xs
+        longer = ap length more ∙ length-append items xs
 
-      -- a list is added behind all others
-      module _ (b : ℕ) (above : (c : ℕ) → IsSome (get index c) → c < b) (index' : FinMap nat_cmp (IndexEntry H SlicePayload)) (items' : List S) (r : IndexEntry H SlicePayload) (xs : List S)
-          (more : items' ≡ items ++ xs) (added : index' ≡ insert index b r)
-          (begins : r.payload.start ≡ length items) (long : r.payload.length ≡ length xs)
-        where
-          -- the entries before it stay
-          stays : (c : ℕ) (y : IndexEntry H SlicePayload) → get index c ≡ Some y → sliced_entry items' y ≡ sliced_entry items y
-          stays c y at =
-              ap (λ zs. sliced_entry zs y) more
-              ∙ ap (λ zs. record { value = record { header = y.value; items = zs }; count = y.payload.count }) (same_part y.payload.start y.payload.length items xs (is.laid.within c y at))
-
-          enters : sliced_entry items' r ≡ record { value = record { header = r.value; items = xs }; count = r.payload.count }
-          enters =
-              ap (λ zs. sliced_entry zs r) more
-              ∙ ap (λ zs. record { value = record { header = r.value; items = zs }; count = r.payload.count }) (last_part r.payload.start r.payload.length items xs begins long)
-
-          either : (c : ℕ) (y : IndexEntry H SlicePayload) → get index' c ≡ Some y → ((c ≡ b) × (r ≡ y)) ⊎ ((c < b) × (get index c ≡ Some y))
-          either c y at =
-              let now = ap (λ n. get n c) added ∙ get-inserted index b r c in
-              elim (cases_eq c b) [
-                | inl e ↦ inl (e, same_Some _ _ (sym (now ∙ here c b _ _ e) ∙ at))
-                | inr differs ↦ let was : get index c ≡ Some y = sym (now ∙ away c b _ _ differs) ∙ at in inr (above c (ap is_some was), was)
-              ]
-
-          longer : length items' ≡ length items + length xs
-          longer = ap length more ∙ length-append items xs
-
-          adds_laid : IsLaid index' (length items')
-          adds_laid = record {
-            within = λ c y at.
-                elim (either c y at) [
-                  | inl new ↦
-                      let ends : end_of r ≡ end_of y = ap end_of new.1 in
-                      let size = longer in
-                      omega arith
-                  | inr old ↦
-                      let fits : end_of y ≤ length items = is.laid.within c y old.1 in
-                      let size = longer in
-                      omega arith
-                ];
-            apart = λ c d y z below at its.
-                elim (either c y at) [
-                  | inl new ↦
-                      elim (either d z its) [
-                        | inl also ↦ let e : c ≡ b = new.0 in let f : d ≡ b = also.0 in absurd (omega arith)
-                        | inr old ↦ let e : c ≡ b = new.0 in let f : d < b = old.0 in absurd (omega arith)
-                      ]
-                  | inr old ↦
-                      elim (either d z its) [
-                        | inl new ↦
-                            let fits : end_of y ≤ length items = is.laid.within c y old.1 in
-                            let starts : r.payload.start ≡ z.payload.start = ap (λ x. x.payload.start) new.1 in
-                            omega arith
-                        | inr also ↦ is.laid.apart c d y z below old.1 also.1
-                      ]
-                ];
-          }
-
-          keeps : (c : ℕ) (y : IndexEntry H SlicePayload) → get index c ≡ Some y → get index' c ≡ Some y
-          keeps c y at =
-              let now = ap (λ n. get n c) added ∙ get-inserted index b r c in
-              let below : c < b = above c (ap is_some at) in
-              elim (cases_eq c b) [
-                | inl e ↦ let same : c ≡ b = e in absurd (omega arith)
-                | inr differs ↦ now ∙ away c b _ _ differs ∙ at
-              ]
-
-          adds_full : (i : ℕ) → i < length items' → IsCovered index' i
-          adds_full i below =
-              elim (cases_lt i (length items)) [
-                | inl old ↦ covered_by index index' i (λ c y at. (y, keeps c y at, refl, refl)) (is.full i old)
-                | inr new ↦
+        adds_laid : IsLaid index' (length items')
+        adds_laid = record {
+          within = λ c y at.
+              elim (either c y at) [
+                | inl new ↦
+                    let ends : end_of r ≡ end_of y = ap end_of new.1 in
                     let size = longer in
-                    record {
-                      birth = b;
-                      row = r;
-                      there = ap (λ n. get n b) added ∙ get-inserted index b r b ∙ here b b _ _ refl;
-                      from = omega arith;
-                      below = omega arith;
-                    }
-              ]
+                    omega arith
+                | inr old ↦
+                    let fits : end_of y ≤ length items = is.laid.within c y old.1 in
+                    let size = longer in
+                    omega arith
+              ];
+          apart = λ c d y z below at its.
+              elim (either c y at) [
+                | inl new ↦
+                    elim (either d z its) [
+                      | inl also ↦ let e : c ≡ b = new.0 in let f : d ≡ b = also.0 in absurd (omega arith)
+                      | inr old ↦ let e : c ≡ b = new.0 in let f : d < b = old.0 in absurd (omega arith)
+                    ]
+                | inr old ↦
+                    elim (either d z its) [
+                      | inl new ↦
+                          let fits : end_of y ≤ length items = is.laid.within c y old.1 in
+                          let starts : r.payload.start ≡ z.payload.start = ap (λ x. x.payload.start) new.1 in
+                          omega arith
+                      | inr also ↦ is.laid.apart c d y z below old.1 also.1
+                    ]
+              ];
+        }
 
-          pub adds_joined : r.hash ≡ hash (record { header = r.value; items = xs }) → IsJoined hash index' items'
-          adds_joined hashes = record {
-            laid = adds_laid;
-            hashed =
-                added_hashed (sliced_entry items') hash index index' b r
-                (record { hashed = λ c y at. is.hashed.hashed c y at ∙ ap (λ e. hash e.value) (sym (stays c y at)) })
-                (hashes ∙ ap (λ e. hash e.value) (sym enters)) added;
-            full = adds_full;
-          }
+        keeps : (c : ℕ) (y : IndexEntry H SlicePayload) → get index c ≡ Some y → get index' c ≡ Some y
+        keeps c y at =
+            let now = ap (λ n. get n c) added ∙ get-inserted index b r c in
+            let below : c < b = above c (ap is_some at) in
+            elim (cases_eq c b) [
+              | inl e ↦ let same : c ≡ b = e in absurd (omega arith)
+              | inr differs ↦ now ∙ away c b _ _ differs ∙ at
+            ]
 
-          pub adds_seen : (m : FinMap nat_cmp (Kept (Sliced H S))) → map_values (sliced_entry items) index ≡ m
-              → map_values (sliced_entry items') index' ≡ insert m b (record { value = record { header = r.value; items = xs }; count = r.payload.count })
-          adds_seen m view =
-              map_values-insert (sliced_entry items') index index' b r added
-              ∙ ap (λ n. insert n b (sliced_entry items' r)) (map_values-same (sliced_entry items') (sliced_entry items) index stays ∙ view)
-              ∙ ap (insert m b) enters
+        adds_full : (i : ℕ) → i < length items' → IsCovered index' i
+        adds_full i below =
+            elim (cases_lt i (length items)) [
+              | inl old ↦ covered_by index index' i (λ c y at. (y, keeps c y at, refl, refl)) (is.full i old)
+              | inr new ↦
+                  let size = longer in
+                  record {
+                    birth = b;
+                    row = r;
+                    there = ap (λ n. get n b) added ∙ get-inserted index b r b ∙ here b b _ _ refl;
+                    from = omega arith;
+                    below = omega arith;
+                  }
+            ]
 
-      -- the lists of the births that are marked are moved down
-      module _ (marked : ℕ → Bool) (kept new : FinMap nat_cmp (IndexEntry H SlicePayload)) (items' : List S) (keeps : kept ≡ retain_keys index marked) (laid : IsLaid new (length items'))
-          (full : (i : ℕ) → i < length items' → IsCovered new i)
-          (same : (b : ℕ) → option_map (read_entry items') (get new b) ≡ option_map (read_entry items) (get kept b))
-        where
-          kept_hashed : IsHashed (sliced_entry items) hash kept
-          kept_hashed = retained_hashed (sliced_entry items) hash index kept marked is.hashed keeps
+        pub adds_joined : IsJoined index' items'
+        adds_joined = record { laid = adds_laid; full = adds_full }
 
-          row_before : (o : Option (IndexEntry H SlicePayload)) (y : IndexEntry H SlicePayload) → Some (read_entry items' y) ≡ option_map (read_entry items) o → (x : IndexEntry H SlicePayload) × (o ≡ Some x) × (read_entry items' y ≡ read_entry items x)
-          row_before None y e = absurd (cc)
-          row_before (Some x) y e = (x, refl, same_Some _ _ e)
+        pub adds_seen : (m : FinMap nat_cmp (Kept (Sliced H S))) → map_values (sliced_entry items) index ≡ m
+            → map_values (sliced_entry items') index' ≡ insert m b (record { value = record { header = r.value; items = xs }; count = r.payload.count })
+        adds_seen m view =
+            map_values-insert (sliced_entry items') index index' b r added
+            ∙ ap (λ n. insert n b (sliced_entry items' r)) (map_values-same (sliced_entry items') (sliced_entry items) index stays ∙ view)
+            ∙ ap (insert m b) enters
 
-          pub keeps_joined : IsJoined hash new items'
-          keeps_joined = record {
-            laid = laid;
-            hashed = record {
-              hashed = λ b y at.
-                  let w = row_before (get kept b) y (sym (ap (option_map (read_entry items')) at) ∙ same b) in
-                  ap (λ p. p.0) w.2 ∙ kept_hashed.hashed b w.0 w.1 ∙ ap (λ p. hash p.1.value) (sym w.2);
-            };
-            full = full;
-          }
+  -- the lists of the births that are marked are moved down
+  module _ (index : FinMap nat_cmp (IndexEntry H SlicePayload)) (items : List S) (marked : ℕ → Bool) (kept new : FinMap nat_cmp (IndexEntry H SlicePayload)) (items' : List S) (keeps : kept ≡ retain_keys index marked)
+      (same : (b : ℕ) → option_map (read_entry items') (get new b) ≡ option_map (read_entry items) (get kept b))
+    where
+      entries_same : (o p : Option (IndexEntry H SlicePayload)) → option_map (read_entry items') o ≡ option_map (read_entry items) p → option_map (sliced_entry items') o ≡ option_map (sliced_entry items) p
+      entries_same None None e = refl
+      entries_same None (Some x) e = absurd (cc)
+      entries_same (Some y) None e = absurd (cc)
+      entries_same (Some y) (Some x) e = ap (λ p. Some p.1) (same_Some (read_entry items' y) (read_entry items x) e)
 
-          entries_same : (o p : Option (IndexEntry H SlicePayload)) → option_map (read_entry items') o ≡ option_map (read_entry items) p → option_map (sliced_entry items') o ≡ option_map (sliced_entry items) p
-          entries_same None None e = refl
-          entries_same None (Some x) e = absurd (cc)
-          entries_same (Some y) None e = absurd (cc)
-          entries_same (Some y) (Some x) e = ap (λ p. Some p.1) (same_Some (read_entry items' y) (read_entry items x) e)
-
-          pub keeps_seen : (m : FinMap nat_cmp (Kept (Sliced H S))) → map_values (sliced_entry items) index ≡ m → map_values (sliced_entry items') new ≡ retain_keys m marked
-          keeps_seen m view =
-              same_map nat_cmp_total nat_cmp-IsAntisymmetric _ _ (λ b.
-              get-map_values (sliced_entry items') new b ∙ entries_same (get new b) (get kept b) (same b) ∙ sym (get-map_values (sliced_entry items) kept b))
-              ∙ map_values-retain (sliced_entry items) index kept marked keeps
-              ∙ ap (λ n. retain_keys n marked) view
+      pub keeps_seen : (m : FinMap nat_cmp (Kept (Sliced H S))) → map_values (sliced_entry items) index ≡ m → map_values (sliced_entry items') new ≡ retain_keys m marked
+      keeps_seen m view =
+          same_map nat_cmp_total nat_cmp-IsAntisymmetric _ _ (λ b.
+          get-map_values (sliced_entry items') new b ∙ entries_same (get new b) (get kept b) (same b) ∙ sym (get-map_values (sliced_entry items) kept b))
+          ∙ map_values-retain (sliced_entry items) index kept marked keeps
+          ∙ ap (λ n. retain_keys n marked) view

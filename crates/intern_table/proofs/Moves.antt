@@ -11,7 +11,8 @@ use Rattle.std.proofs.lemmas.Bool.{cases_lt}
 use Rattle.std.proofs.lemmas.List.{append-nil, length-take, drop-drop}
 use Rattle.std.proofs.lemmas.Option.{same_Some, slice_get_cases}
 use Rattle.intern_store.proofs.Sorted.{parts, at_head, behind_head, put_at_head, put_behind, found, above_all, later}
-use Rattle.intern_index.specs.IndexEntry.{IndexEntry, with_payload}
+use Rattle.intern_store.specs.declared.names.Spot.{Spot}
+use Rattle.intern_index.specs.IndexEntry.{IndexEntry, with_payload, spot_of, spot_at, spot_before}
 use Rattle.intern_table.specs.Joined.{end_of, read_entry, IsLaid, IsCovered}
 use Rattle.intern_table.specs.declared.pool.SlicePayload.{SlicePayload}
 
@@ -50,6 +51,26 @@ module _ {H : Type 0} where
   nth_moved zero lo es = refl
   nth_moved (suc n) lo [] = refl
   nth_moved (suc n) lo (e ∷ es) = nth_moved n (lo + e.1.payload.length) es
+
+  -- a row stays where it is
+  moved_spots : (n lo k : ℕ) (es : Rows H) → option_map spot_of (slice_get (moved n lo es) k) ≡ option_map spot_of (slice_get es k)
+  moved_spots zero lo k es = refl
+  moved_spots (suc n) lo k [] = refl
+  moved_spots (suc n) lo zero (e ∷ es) = refl
+  moved_spots (suc n) lo (suc k) (e ∷ es) = moved_spots n (lo + e.1.payload.length) k es
+
+  moved_length : (n lo : ℕ) (es : Rows H) → length (moved n lo es) ≡ length es
+  moved_length zero lo es = refl
+  moved_length (suc n) lo [] = refl
+  moved_length (suc n) lo (e ∷ es) = ap suc (moved_length n (lo + e.1.payload.length) es)
+
+  -- the birth that a spot tells
+  pub spot_birth : (o : Option (ℕ × Row H)) (told : Option Spot) → told ≡ option_map spot_of o → option_map (λ (s : Spot). s.birth) told ≡ option_map (λ e. e.0) o
+  spot_birth o told is = ap (option_map (λ (s : Spot). s.birth)) is ∙ go o
+    where
+      go : (o : Option (ℕ × Row H)) → option_map (λ (s : Spot). s.birth) (option_map spot_of o) ≡ option_map (λ e. e.0) o
+      go None = refl
+      go (Some e) = refl
 
   -- the slices lie in this order from lo on, each so behind the one before, and the last so before n
   abbrev pub Chain : (ℕ → ℕ → Type 0) → ℕ → Rows H → ℕ → Type 0
@@ -199,7 +220,7 @@ module _ {H S : Type 0} where
       let long = slice_length xs e.1 (lies_within (end_of e.1) (length xs) es lies.1) in
       let head = ap (take n) (drop_at before (first ++ rest) lo begins) ∙ take_at first rest n long in
       read_either (read_entry (before ++ (first ++ rest))) (read_entry xs) (eq_by_cmp nat_cmp b e.0) (started e.1 lo) e.1 (find nat_cmp b (moved (length es) (lo + n) es)) (find nat_cmp b es)
-      (ap (λ zs. (e.1.hash, record { value = record { header = e.1.value; items = zs }; count = e.1.payload.count })) head)
+      (ap (λ zs. (e.1.place, record { value = record { header = e.1.value; items = zs }; count = e.1.payload.count })) head)
       (ap (λ ys. option_map (read_entry ys) (find nat_cmp b (moved (length es) (lo + n) es))) (sym (append_assoc before first rest))
       ∙ read_moved xs (before ++ first) (lo + n) (end_of e.1) es (omega (arith, length-append before first, begins, long)) lies.1 b)
 
@@ -222,12 +243,34 @@ module _ {H S : Type 0} where
     nth : slice_get (entries now) n ≡ slice_get (entries m) n
     nth = ap (λ es. slice_get es n) is.rows ∙ nth_moved n 0 (entries m)
 
+    -- the rows are as many as before, and each of them stays where it is
+    pub as_many : len now ≡ len m
+    as_many = len-entries now ∙ ap length is.rows ∙ moved_length n 0 (entries m) ∙ sym (len-entries m)
+
+    pub same_spot : spot_at now n ≡ spot_at m n
+    same_spot = ap (option_map spot_of) nth
+
+    pub same_before : (k : ℕ) → spot_before now k ≡ spot_before m k
+    same_before zero = refl
+    same_before (suc k) = ap (λ es. option_map spot_of (slice_get es k)) is.rows ∙ moved_spots n 0 k (entries m)
+
     pub is_left : n < len m → {X : Type 0} (f : X → ℕ) (o : Option X) → option_map f o ≡ option_map (λ e. e.0) (slice_get (entries now) n) → IsSome o
     is_left inside f o same =
         elim (slice_get_cases (entries m) n).1 [
           | inl w ↦ some_too f (λ e. e.0) o (slice_get (entries now) n) same (ap is_some (nth ∙ w.2))
           | inr past ↦ absurd (omega (arith, past.0, inside, len-entries m))
         ]
+
+    -- the next row is there, with a payload
+    pub is_there : (b : ℕ) → Some b ≡ option_map (λ e. e.0) (slice_get (entries now) n) → IsSome (option_map (λ (r : Row H). r.payload) (get now b))
+    is_there b its_birth = go (slice_get (entries m) n) refl
+      where
+        go : (o : Option (ℕ × Row H)) → slice_get (entries m) n ≡ o → IsSome (option_map (λ (r : Row H). r.payload) (get now b))
+        go None at = let none = its_birth ∙ ap (option_map (λ (e : ℕ × Row H). e.0)) (nth ∙ at) in absurd (cc)
+        go (Some e) at =
+            let w = next_at xs n 0 0 e (entries m) (entries_sorted m) lies (omega arith) at in
+            let b_is : b ≡ e.0 = same_Some _ _ (its_birth ∙ ap (option_map (λ (f : ℕ × Row H). f.0)) (nth ∙ at)) in
+            ap (λ o. is_some (option_map (λ (r : Row H). r.payload) o)) (ap (get now) b_is ∙ get-entries now e.0 ∙ ap (find nat_cmp e.0) is.rows ∙ w.here)
 
     -- the slice of a row fits, and is moved
     abbrev Moves : ℕ → SlicePayload → Option (Row H) → Type 0

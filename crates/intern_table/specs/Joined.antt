@@ -3,8 +3,7 @@ use Rattle.std.specs.Prelude.{ℕ, ◌+◌, ◌<◌, ◌≤◌, ◌≡◌, List,
 use Rattle.std.specs.Ordering.{nat_cmp}
 use Rattle.std.specs.FinMap.{FinMap, get}
 use Rattle.intern_store.specs.Kept.{Kept}
-use Rattle.intern_index.specs.IndexEntry.{IndexEntry}
-use Rattle.intern_index.specs.Seen.{IsHashed}
+use Rattle.intern_index.specs.IndexEntry.{IndexEntry, Indexed, IsLed}
 use Rattle.intern_table.specs.Sliced.{Sliced}
 use Rattle.intern_table.specs.declared.pool.SlicePayload.{SlicePayload}
 
@@ -35,15 +34,23 @@ module _ {H S : Type 0} where
     count = r.payload.count;
   }
 
-  -- the hash of a row, and its entry
+  -- the place of a row, and its entry
   abbrev pub read_entry : List S → IndexEntry H SlicePayload → ℕ × Kept (Sliced H S)
-  read_entry xs r = (r.hash, sliced_entry xs r)
+  read_entry xs r = (r.place, sliced_entry xs r)
 
-  pub record IsJoined (hash : Sliced H S → ℕ) (index : FinMap nat_cmp (IndexEntry H SlicePayload))
-      (items : List S) : Type 0
+  -- the hash of a header with its items, which are among these
+  abbrev pub sliced_hash : (Sliced H S → ℕ) → List S → H → SlicePayload → ℕ
+  sliced_hash hash xs h p = hash (record { header = h; items = take p.length (drop p.start xs) })
+
+  pub record IsJoined (rows : FinMap nat_cmp (IndexEntry H SlicePayload)) (items : List S) : Type 0
     where
-      pub laid : IsLaid index (length items)
-      -- each row has the hash of its header and items
-      pub hashed : IsHashed (sliced_entry items) hash index
+      pub laid : IsLaid rows (length items)
       -- no item is left that no list has
-      pub full : (i : ℕ) → i < length items → IsCovered index i
+      pub full : (i : ℕ) → i < length items → IsCovered rows i
+
+  pub record IsSliced (hash : Sliced H S → ℕ) (index : Indexed H SlicePayload) (items : List S)
+      : Type 0
+    where
+      pub joined : IsJoined index.entries items
+      -- the hash of its header and items leads to each row
+      pub led : IsLed (sliced_hash hash items) index

@@ -1,8 +1,8 @@
-//! What a caller offers to a table.
+//! What a caller offers to a table, and how values are hashed.
 ghost use Rattle.std.specs.Prelude.{◌≡◌};
 ghost use Rattle.intern_table.specs.Hashes.{hash_of};
 
-use intern_index::Offer;
+use intern_index::{Hashes, Offer};
 use std::cmp::Eq;
 use std::hash::{FoldHasher, Hash, Hasher};
 
@@ -14,6 +14,18 @@ pub(crate) fn hash_value<T: Hash>(value: &T) -> u64
     let mut hasher = FoldHasher::default();
     value.hash(&mut hasher);
     hasher.finish()
+}
+
+/// How stored values are hashed.
+#[derive(Clone, Copy)]
+pub(crate) struct ValueHash;
+
+impl<T: Hash, N: Copy> Hashes<T, N> for ValueHash {
+    ghost hash_of = { λ _ v _. hash_of (T.hash_input v) };
+
+    fn hash_of(&self, value: &T, _payload: N) -> u64 {
+        hash_value(value)
+    }
 }
 
 /// An offer that is compared and hashed as the value that it names. That takes no memory.

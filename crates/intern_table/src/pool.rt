@@ -45,20 +45,23 @@ pub(crate) fn compact<H, S: Copy>(
     index: &mut Index<H, SlicePayload, BirthOrder>,
     items: &mut Vec<S>,
 )
-    requires { IsLaid index.old (length items.old.items) }
-    ensures laid { IsLaid index.new (length items.new.items) }
-    ensures same { (b : ℕ) → option_map (read_entry items.new.items) (get index.new b)
-        ≡ option_map (read_entry items.old.items) (get index.old b) }
-    ensures full { (i : ℕ) → i < length items.new.items → IsCovered index.new i }
+    requires { IsLaid index.old.entries (length items.old.items) }
+    ensures laid { IsLaid index.new.entries (length items.new.items) }
+    ensures same { (b : ℕ) → option_map (read_entry items.new.items) (get index.new.entries b)
+        ≡ option_map (read_entry items.old.items) (get index.old.entries b) }
+    ensures full { (i : ℕ) → i < length items.new.items → IsCovered index.new.entries i }
+    ensures buckets { index.new.buckets ≡ index.old.buckets }
 {
     let mut end = 0;
+    let mut last = None;
     for at in 0..index.len() {
-        let spot = index.spot(at).unwrap();
+        let spot = index.spot(at, last).unwrap();
         let SlicePayload { start, length, .. } = index
             .change(spot, &MoveTo { start: end })
             .unwrap();
         items.copy_within(start..start + length, end);
         end += length;
+        last = Some(spot);
     }
     items.truncate(end);
 }

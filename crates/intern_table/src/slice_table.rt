@@ -4,6 +4,7 @@ ghost use Rattle.std.specs.Option.{option_map};
 ghost use Rattle.std.specs.FinMap as map;
 ghost use Rattle.intern_table.specs.Sliced.{sliced_eq, sliced_input};
 ghost use Rattle.intern_table.specs.Hashes.{hash_of};
+ghost use Rattle.intern_table.specs.Joined.{sliced_hash};
 ghost use Rattle.intern_table.specs.Listed.{listed_counts, listed_slices};
 ghost use Rattle.intern_table.specs.Read.{read, shown};
 
@@ -13,7 +14,7 @@ use crate::equivalent::hash_value;
 use crate::pool::{SlicePayload, compact, part};
 use crate::slice::{HeaderSlice, HeaderWithLength, SliceValue};
 use crate::slice_iter::SliceIter;
-use intern_index::{BirthOrder, Index, Query};
+use intern_index::{BirthOrder, Hashes, Index, Query};
 use intern_store::{Entries, Finds, Keeps, Spot, Sweeps, Takes};
 use std::alloc::Global;
 use std::cmp::Eq;
@@ -23,9 +24,10 @@ use std::marker::Model;
 /// The table of slices: an index of the headers, and one vector with the items of every slice, in
 /// the order of births.
 ///
-/// Interning takes expected constant time, unless the hash table is built anew, and compares only
-/// slices of one hash. A call on a handle touches its entry, and a read its items too. Only an
-/// insertion takes memory.
+/// Interning takes expected constant time, unless the hash table is built anew. It compares the
+/// slices of one hash, and others only where a bucket with the same 16 bits leads to them, as one
+/// does whose place was given to another entry. Building the table anew hashes each slice. A call on
+/// a handle touches its entry, and a read its items too. Only an insertion takes memory.
 #[derive(Drop)]
 pub struct SliceTable<H: Hash + Eq, S: Hash + Eq + Copy> {
     index: Index<H, SlicePayload, BirthOrder>,
@@ -44,12 +46,12 @@ impl<H: Hash + Eq, S: Hash + Eq + Copy> Model for SliceTable<H, S> {
     ghost coded = { map.code coded_ℕ (kept_code (sliced_code H.code S.code)) };
 
     ghost use Rattle.intern_store.specs.Maps.{map_values};
-    ghost use Rattle.intern_table.specs.Joined.{sliced_entry, IsJoined};
+    ghost use Rattle.intern_table.specs.Joined.{sliced_entry, IsSliced};
     ghost use Rattle.intern_table.specs.Hashes.{hash_of};
 
-    ghost view = { λ a. map_values (sliced_entry a.items.items) a.index };
+    ghost view = { λ a. map_values (sliced_entry a.items.items) a.index.entries };
 
-    ghost invariant = { λ a. IsJoined
+    ghost invariant = { λ a. IsSliced
         (λ v. hash_of (sliced_input H.hash_input S.hash_input v)) a.index a.items.items };
 }
 
@@ -69,6 +71,22 @@ impl<H: Eq, S: Eq> Query<H, SlicePayload> for EqualSlice<'_, H, S> {
 
     fn fits(&self, value: &H, payload: SlicePayload) -> bool {
         self.header == value && self.items == part(self.all, payload.start, payload.length)
+    }
+}
+
+// How stored headers are hashed, each with its slice.
+#[derive_where(Clone, Copy)]
+struct SliceHash<'a, S> {
+    // Where the slices lie.
+    all: &'a [S],
+}
+
+impl<H: Hash, S: Hash> Hashes<H, SlicePayload> for SliceHash<'_, S> {
+    ghost hash_of = { λ h v p. sliced_hash
+        (λ s. hash_of (sliced_input H.hash_input S.hash_input s)) h.all.now v p };
+
+    fn hash_of(&self, header: &H, payload: SlicePayload) -> u64 {
+        hash_value(&(header, part(self.all, payload.start, payload.length)))
     }
 }
 
@@ -194,7 +212,10 @@ impl<'a, H: Hash + Eq, S: Hash + Eq + Copy> Takes<(H, &'a [S])> for SliceTable<H
             length: items.len(),
             count,
         };
-        match self.index.insert(birth, hash, header, payload) {
+        let by = SliceHash {
+            all: self.items.as_slice(),
+        };
+        match self.index.insert(birth, hash, header, payload, &by) {
             Ok(place) => Ok(place),
             Err(header) => {
                 self.items.truncate(start);

@@ -7,7 +7,7 @@ ghost use Rattle.intern_table.specs.Listed.{listed_counts, listed_values};
 
 use crate::counted::Counts;
 use crate::counts::{Lower, Raise};
-use crate::equivalent::Equivalent;
+use crate::equivalent::{Equivalent, ValueHash};
 use intern_index::{BirthTable, Index, Iter, Query};
 use intern_store::{Entries, Finds, Keeps, Raises, Removes, Spot, Sweeps, Takes};
 use std::alloc::Global;
@@ -17,8 +17,10 @@ use std::marker::Model;
 
 /// The table of values: an index whose payloads are the counts.
 ///
-/// Interning takes expected constant time, unless the hash tables are built anew, and compares only
-/// values of one hash. A call on a handle touches its entry alone. Only an insertion takes memory.
+/// Interning takes expected constant time, unless the hash tables are built anew. It compares the
+/// values of one hash, and others only where a bucket with the same 16 bits leads to them, as one
+/// does whose place was given to another entry. Building the table of hashes anew hashes each value.
+/// A call on a handle touches its entry alone. Only an insertion takes memory.
 #[derive(Drop)]
 pub struct Table<T: Hash + Eq> {
     index: Index<T, u64, BirthTable>,
@@ -35,13 +37,13 @@ impl<T: Hash + Eq> Model for Table<T> {
     ghost coded = { map.code coded_ℕ (kept_code T.code) };
 
     ghost use Rattle.intern_store.specs.Maps.{map_values};
-    ghost use Rattle.intern_index.specs.Seen.{kept_entry, IsHashed};
+    ghost use Rattle.intern_index.specs.IndexEntry.{IsLed};
+    ghost use Rattle.intern_index.specs.Seen.{kept_entry};
     ghost use Rattle.intern_table.specs.Hashes.{hash_of};
 
-    ghost view = { λ a. map_values kept_entry a.index };
+    ghost view = { λ a. map_values kept_entry a.index.entries };
 
-    ghost invariant = { λ a. IsHashed
-        kept_entry (λ v. hash_of (T.hash_input v)) a.index };
+    ghost invariant = { λ a. IsLed (λ v _. hash_of (T.hash_input v)) a.index };
 }
 
 // A value that equals the one offered.
@@ -133,7 +135,7 @@ impl<T: Hash + Eq, O: Equivalent<T>> Finds<O> for Table<T> {
 
 impl<T: Hash + Eq, O: Equivalent<T>> Takes<O> for Table<T> {
     fn insert(&mut self, birth: u64, hash: u64, offer: O, count: u64) -> Result<usize, O> {
-        self.index.insert(birth, hash, offer, count)
+        self.index.insert(birth, hash, offer, count, &ValueHash)
     }
 }
 

@@ -13,5 +13,6 @@ invariant_of-self g c = record {
   below = λ b some.
       let added = rw c.expect-place.ensures at c.insert.ensures.ok in
       still_below b c.args.self.now.next _ _ (c.args.self.now.below b) _ refl
-      (sym (ap (λ m. is_some (map_get m b)) added ∙ ap is_some (get-inserted c.args.self.now.index c.args.self.now.next _ b)) ∙ some);
+      (sym (ap (λ m. is_some (map_get m b)) added ∙ ap is_some (get-inserted c.args.self.now.index.entries c.args.self.now.next _ b)) ∙ some);
+  led = c.insert.ensures.led.led;
 }

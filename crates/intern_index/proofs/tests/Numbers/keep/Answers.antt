@@ -1,6 +1,8 @@
-use Rattle.std.proofs.Common.{Bool, true, false, cond, Option, None, IsSome, is_some, ap, sym, ◌∙◌}
+use Rattle.std.proofs.Common.{ℕ, Bool, true, false, cond, Option, None, IsSome, is_some, ap, sym, ◌∙◌}
 use Rattle.std.specs.FinMap.{get as map_get}
 use Rattle.intern_store.proofs.Compared.{get-retained}
+use Rattle.intern_index.specs.IndexEntry.{Indexed}
+use Rattle.intern_index.proofs.Seen.{retained_led}
 use Rattle.intern_index.proofs.tests.Numbers.keep.Goals as goal
 
 was_there : {X : Type 0} (t : Bool) (o : Option X) → IsSome (cond t o None) → IsSome o
@@ -11,5 +13,6 @@ pub invariant_of-self : goal.invariant_of-self
 invariant_of-self g c = record {
   below = λ b some.
       c.args.self.now.below b (was_there (g.M.Keeps.marked c.args.marks.now b) _
-      (sym (ap (λ m. is_some (map_get m b)) c.keep.ensures ∙ ap is_some (get-retained c.args.self.now.index _ b)) ∙ some));
+      (sym (ap (λ (i : Indexed ℕ ℕ). is_some (map_get i.entries b)) c.keep.ensures ∙ ap is_some (get-retained c.args.self.now.index.entries _ b)) ∙ some));
+  led = (retained_led _ _ _ _ (record { led = c.args.self.now.led }) c.keep.ensures).led;
 }

@@ -9,7 +9,7 @@ use Rattle.intern_table.proofs.slice_table.SliceTable.get.Goals as goal
 pub returns : goal.returns
 returns g c =
     ap (λ xs. Some (record { header = c.in_ok-header.header.now; items = xs }, c.in_ok-header.payload.length)) (c.part.ensures ∙ ap (λ xs. take c.in_ok-header.payload.length (drop c.in_ok-header.payload.start xs)) c.as_slice.ensures.value)
-    ∙ reads _ _ _ c.self.invariant c.args.spot.birth c.in_ok-header.header.now c.in_ok-header.payload c.in_ok-header.ensures.value c.in_ok-header.ensures.payload
+    ∙ reads _ _ c.self.invariant.joined c.args.spot.birth c.in_ok-header.header.now c.in_ok-header.payload c.in_ok-header.ensures.value c.in_ok-header.ensures.payload
     ∙ read_seen (sliced_entry c.self.inside.items.items) _ _ c.self.view_is shown c.args.spot.birth
 
 pub returns-in_err-header : goal.returns-in_err-header

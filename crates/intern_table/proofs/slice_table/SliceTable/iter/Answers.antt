@@ -15,6 +15,6 @@ returns g c =
     let xs = c.self.inside.items.items in
     rw c.as_slice.ensures.value (
     subst (IsPermutation (list_map (slice_among xs) c.iter.result))
-    (map-map (slice_among xs) listed_of (entries c.self.inside.index)
+    (map-map (slice_among xs) listed_of (entries c.self.inside.index.entries)
     ∙ listed_through (sliced_entry xs) (λ e. slice_among xs (listed_of e)) (λ e. (e.0, shown e.1)) (λ e. refl) _ _ c.self.view_is)
     (IsPermutation-map (slice_among xs) _ _ c.iter.ensures))

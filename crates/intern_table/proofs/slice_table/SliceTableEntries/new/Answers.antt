@@ -1,10 +1,11 @@
 use Rattle.intern_table.specs.Joined.{sliced_entry}
+use Rattle.intern_index.proofs.Seen.{empty_led}
 use Rattle.intern_table.proofs.Joins.{empty_joined}
 use Rattle.intern_store.proofs.Maps.{map_values-empty}
 use Rattle.intern_table.proofs.slice_table.SliceTableEntries.new.Goals as goal
 
 pub invariant_of-result : goal.invariant_of-result
-invariant_of-result g c = empty_joined _ _ _ c.new.ensures c.new-2.ensures.items
+invariant_of-result g c = record { joined = empty_joined _ _ c.new.ensures c.new-2.ensures.items; led = empty_led _ _ c.new.ensures }
 
 pub returns : goal.returns
 returns g c = map_values-empty (sliced_entry c.new-2.result.items) _ c.new.ensures

@@ -1,13 +1,26 @@
-use Rattle.intern_table.proofs.Joins.{retained_laid, keeps_joined, keeps_seen}
+use Rattle.std.proofs.Common.{ℕ, ap}
+use Rattle.intern_index.specs.IndexEntry.{Indexed}
+use Rattle.intern_index.proofs.Seen.{retained_led}
+use Rattle.intern_table.specs.Hashes.{hash_of}
+use Rattle.intern_table.specs.Joined.{sliced_hash}
+use Rattle.intern_table.specs.Sliced.{Sliced, sliced_input}
+use Rattle.intern_table.specs.declared.pool.SlicePayload.{SlicePayload}
+use Rattle.intern_table.proofs.Joins.{retained_laid, moved_led, keeps_seen}
 use Rattle.intern_table.proofs.slice_table.SliceTableSweeps.keep.Goals as goal
 
 pub compact-requires : goal.compact-requires
-compact-requires g c = retained_laid _ _ (g.M.Keeps.marked c.args.marks.now) _ c.self.invariant.laid c.keep.ensures
+compact-requires g c = retained_laid _ _ (g.M.Keeps.marked c.args.marks.now) _ c.self.invariant.joined.laid (ap (λ (i : Indexed g.row.H.Denot SlicePayload). i.entries) c.keep.ensures)
 
 pub invariant_of-self : goal.invariant_of-self
 invariant_of-self g c =
-    keeps_joined _ _ _ c.self.invariant (g.M.Keeps.marked c.args.marks.now) _ _ _ c.keep.ensures c.compact.ensures.laid c.compact.ensures.full c.compact.ensures.same
+    record {
+      joined = record { laid = c.compact.ensures.laid; full = c.compact.ensures.full };
+      led =
+          let hash : Sliced g.row.H.Denot g.row.S.Denot → ℕ = λ v. hash_of (sliced_input g.H.Hash.hash_input g.S.Hash.hash_input v) in
+          moved_led hash c.keep.new.self c.compact.new.index c.self.inside.items.items _ c.compact.ensures.buckets c.compact.ensures.same
+          (retained_led (sliced_hash hash c.self.inside.items.items) _ _ (g.M.Keeps.marked c.args.marks.now) c.self.invariant.led c.keep.ensures);
+    }
 
 pub returns : goal.returns
 returns g c =
-    keeps_seen _ _ _ c.self.invariant (g.M.Keeps.marked c.args.marks.now) _ _ _ c.keep.ensures c.compact.ensures.laid c.compact.ensures.full c.compact.ensures.same _ c.self.view_is
+    keeps_seen _ _ (g.M.Keeps.marked c.args.marks.now) _ _ _ (ap (λ (i : Indexed g.row.H.Denot SlicePayload). i.entries) c.keep.ensures) c.compact.ensures.same _ c.self.view_is

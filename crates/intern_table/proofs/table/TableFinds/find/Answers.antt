@@ -7,11 +7,10 @@ use Rattle.intern_table.proofs.table.TableFinds.find.Goals as goal
 pub returns-clause-found : goal.returns-clause-found
 returns-clause-found g c =
     let v = g.O.Offer.value c.args.offer.now in
-    rw c.ok_or.ensures.value (finds kept_entry (λ v. hash_of (g.T.Hash.hash_input v)) (λ w n. g.T.PartialEq.eq v w) g.T.PartialEq.eq v (λ r. refl)
-    (λ w e. ap hash_of (g.met.T.Hash.respects_eq v w e)) _ _ c.self.invariant c.self.view_is (λ s. s.birth) c.find.result c.hashed-hash.result c.find.ensures.found)
+    rw c.ok_or.ensures.value (finds kept_entry (λ w n. g.T.PartialEq.eq v w) g.T.PartialEq.eq v (λ r. refl) c.self.inside.index _ c.self.view_is (λ s. s.birth) c.find.result c.hashed-hash.result c.find.ensures.found)
 
 pub returns-clause-none : goal.returns-clause-none
 returns-clause-none g c =
     let v = g.O.Offer.value c.args.offer.now in
-    rw c.ok_or.ensures.value (finds_none kept_entry (λ v. hash_of (g.T.Hash.hash_input v)) (λ w n. g.T.PartialEq.eq v w) g.T.PartialEq.eq v (λ r. refl)
-    (λ w e. ap hash_of (g.met.T.Hash.respects_eq v w e)) _ _ c.self.invariant c.self.view_is c.find.result c.hashed-hash.result c.hashed-hash.ensures c.find.ensures.none)
+    rw c.ok_or.ensures.value (finds_none kept_entry (λ w n. g.T.PartialEq.eq v w) g.T.PartialEq.eq v (λ r. refl) c.self.inside.index _ c.self.view_is (λ v. hash_of (g.T.Hash.hash_input v)) (λ w e. ap hash_of (g.met.T.Hash.respects_eq v w e)) _ (λ r. refl) c.self.invariant
+    c.find.result c.hashed-hash.result c.hashed-hash.ensures c.find.ensures.none)
