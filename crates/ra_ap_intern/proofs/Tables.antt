@@ -4,13 +4,18 @@ use Rattle.std.specs.Option.{option_eq, option_map}
 use Rattle.std.specs.Str.{bytes_eq}
 use Rattle.std.proofs.lemmas.Bool.{eq-eqb, eqb-true, ne_eqb, false≢true}
 use Rattle.std.proofs.lemmas.Option.{same_Some}
+use Rattle.std.proofs.lemmas.Slice.Eq.{bytes_eq-Decides}
 use Rattle.intern_presets.specs.Presets.{place_of}
-use Rattle.intern_store.specs.Kept.{Kept, recount}
+use Rattle.intern_store.specs.Kept.{Kept, is_at, recount}
 use Rattle.intern_store.specs.Outcome.{Becomes}
-use Rattle.intern_store.specs.State.{State, entry_at, count_at, with_count, counted_up, counted_down, taken, added, birth_of, or_added, interned_counted, released}
+use Rattle.intern_store.specs.State.{State, entry_at, count_at, name_in, with_count, counted_up, counted_down, taken, added, birth_of, name_of_value, or_added, interned_counted, released, due_found, due_found_full, found_counted, full}
 use Rattle.intern_store.proofs.Compared.{get-inserted, get-modified}
+use Rattle.intern_store.specs.declared.names.Name.{Name}
+use Rattle.intern_store.specs.declared.refusal.Refusal.{Refusal}
+use Rattle.intern_store.proofs.Births.{is_stored}
 use Rattle.intern_store.proofs.States.{still}
-use Rattle.ra_ap_intern.specs.Symbols.{IsTable}
+use Rattle.ra_ap_intern.specs.Symbols.Named.{entry}
+use Rattle.ra_ap_intern.specs.Symbols.{IsTable, symbol_at, symbol_in, due_symbol_at, due_symbol, named_at, named_in}
 
 -- what holds of each entry of a table
 abbrev pub Counts : Kept (List ℕ) → Type 0
@@ -68,3 +73,49 @@ released_table s b is = go (option_eq ◌==◌ (count_at s b) (Some 1)) refl
 pub either_table : {A E : Type 0} (r : Result A E) (old new next : State (List ℕ)) → Becomes r old new next → IsTable next → IsTable old → IsTable new
 either_table (Ok a) old new next e next_is old_is = subst IsTable (sym e) next_is
 either_table (Err why) old new next e next_is old_is = subst IsTable (sym e) old_is
+
+-- a text that is stored is no preset
+stored_other : (s : State (List ℕ)) (t : List ℕ) (b : ℕ) → IsTable s → birth_of bytes_eq s t ≡ Some b → place_of t ≡ None
+stored_other s t b is stored = go (entry_at s b) refl (is_stored bytes_eq s t b stored)
+  where
+    go : (o : Option (Kept (List ℕ))) → entry_at s b ≡ o → is_at bytes_eq t o ≡ true → place_of t ≡ None
+    go None at e = absurd (cc)
+    go (Some k) at e = ap place_of ((bytes_eq-Decides t k.value).0 e) ∙ is.others b k at
+
+-- the entry of a text, if there is one, counted once more
+pub found_table : (s : State (List ℕ)) (o : Option ℕ) → IsTable s → IsTable (found_counted o s)
+found_table s None is = is
+found_table s (Some b) is = up_table s b is
+
+module _ (s : State (List ℕ)) (t : List ℕ) (is : IsTable s) where
+  -- where its count is full, so is the symbol's
+  pub found_due : (why : Refusal) → due_found_full (birth_of bytes_eq s t) s ≡ Some why → due_symbol s t ≡ Some why
+  found_due why due = go (birth_of bytes_eq s t) refl due
+    where
+      go : (o : Option ℕ) → birth_of bytes_eq s t ≡ o → due_found_full o s ≡ Some why → due_symbol s t ≡ Some why
+      go None at due = absurd (cc)
+      go (Some b) at due = ap (λ p. due_symbol_at p s t) (stored_other s t b is at) ∙ ap (λ o. due_found o s (full s.top)) at ∙ due
+
+  -- a name that is found is the symbol's
+  module _ (n : Name) (found : Some n ≡ name_of_value bytes_eq s t) where
+    there : (b : ℕ) × (birth_of bytes_eq s t ≡ Some b) × (n ≡ name_in s b)
+    there = go (birth_of bytes_eq s t) refl found
+      where
+        go : (o : Option ℕ) → birth_of bytes_eq s t ≡ o → Some n ≡ option_map (name_in s) o → (b : ℕ) × (birth_of bytes_eq s t ≡ Some b) × (n ≡ name_in s b)
+        go None at found = absurd (cc)
+        go (Some b) at found = (b, at, same_Some _ _ found)
+
+    other : place_of t ≡ None
+    other = stored_other s t there.0 is there.1
+
+    pub found_named : named_in s t ≡ Some (entry n)
+    found_named = ap (λ p. named_at p s t) other ∙ ap (option_map entry) (sym found)
+
+    pub found_symbol : (symbol_in s t).symbol ≡ entry n
+    found_symbol =
+        ap (λ p. (symbol_at p s t).symbol) other ∙ ap (λ o. entry (name_in s (or_added o s t).birth)) there.1 ∙ ap entry (sym there.2)
+
+    pub found_state : (symbol_in s t).table ≡ found_counted (birth_of bytes_eq s t) s
+    found_state =
+        ap (λ p. (symbol_at p s t).table) other ∙ ap (λ o. counted_up (or_added o s t).state (or_added o s t).birth) there.1
+        ∙ sym (ap (λ o. found_counted o s) there.1)

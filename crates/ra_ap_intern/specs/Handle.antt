@@ -1,9 +1,10 @@
 -- The names of handles. Handles are equal exactly if their names are.
-use Rattle.std.specs.Prelude.{ℕ}
+use Rattle.std.specs.Prelude.{ℕ, ◌-◌, ◌^◌, ◌==◌, if◌then◌else◌, Option, Some, None}
 use Rattle.std.specs.Ordering.{nat_cmp, ordering_then}
 use Rattle.std.specs.declared.cmp.Ordering.{Ordering}
 use Rattle.intern_store.specs.Named.{key_name}
 use Rattle.intern_store.specs.declared.names.Name.{Name}
+use Rattle.ra_ap_intern.specs.declared.optional.OptionalRef.{OptionalRef}
 use Rattle.ra_ap_intern.specs.declared.owed.Owed.{Owed}
 use Rattle.ra_ap_intern.specs.declared.storage.Owned.{Owned}
 use Rattle.ra_ap_intern.specs.declared.storage.Ref.{Ref}
@@ -20,6 +21,10 @@ module _ {K : Type 0} where
   -- the owned handle in one that must be released
   abbrev pub handle_of : Owed K → Owned K
   handle_of h = h.handle
+
+-- the name of an optional reference, unless its place tells that there is none
+abbrev pub name_if : {K : Type 0} → OptionalRef K → Option Name
+name_if o = if o.key.spot.place == 2 ^ 64 - 1 then None else Some (key_name o.key)
 
 -- the order of names: by the storages' numbers, and then by the births
 abbrev pub name_cmp : Name → Name → Ordering

@@ -8,6 +8,11 @@ use Rattle.ra_ap_intern.specs.declared.storage.Ref.{Ref}
 abbrev pub own_name : {K : Type 0} → Ref K → List Name
 own_name reference = ref_name reference ∷ []
 
+-- an optional reference declares the name that it has
+abbrev pub of_name : Option Name → List Name
+of_name None = []
+of_name (Some name) = name ∷ []
+
 -- an option declares what is in it
 abbrev pub of_option : {V : Type 0} → (V → List Name) → Option V → List Name
 of_option children None = []

@@ -6,6 +6,7 @@ mod intern;
 mod intern_slice;
 mod kind;
 pub mod laws;
+mod optional;
 mod owed;
 mod storage;
 mod symbol;
@@ -22,6 +23,7 @@ pub use intern_slice::{
 pub use intern_store::{Limits, Name, Refusal, Refused};
 pub use intern_table::{HeaderSlice, HeaderWithLength, Text};
 pub use kind::{Kind, Slices, Values};
+pub use optional::{OptionalInternedRef, OptionalInternedSliceRef, OptionalRef};
 pub use owed::{Owed, OwedSlice, OwedValue};
 pub use storage::{Owned, Ref, Storage};
 pub use symbol::{Symbol, SymbolDisplay, SymbolIter, SymbolRef, SymbolTable, symbols as sym};

@@ -18,10 +18,11 @@ use std::marker::{Model, PhantomData};
 /// A storage of entries of a kind, each value kept once: an `InternStorage` or an
 /// `InternSliceStorage`.
 ///
-/// Interning takes one hash, one look-up, and a comparison with each stored value of that hash.
-/// Only a value that isn't stored takes memory. Where storing it builds the tables anew, that takes
-/// time in proportion to the most entries that there were at once, which is constant time a call on
-/// average. Reads, counts and removals go straight to the entry; `from_raw` looks its birth up.
+/// Interning hashes what is offered and looks it up once, and compares it with the stored values of
+/// that hash, rarely with another. Only a value that isn't stored takes memory. Where storing it
+/// builds the tables anew, each stored value is hashed again, in time in proportion to the most
+/// entries that there were at once, which is constant time a call on average. Reads, counts and
+/// removals go straight to the entry; `from_raw` looks its birth up.
 #[derive(Drop)]
 pub struct Storage<K: Kind> {
     pub(crate) store: Store<K::Table>,

@@ -118,9 +118,10 @@ impl SymbolTable {
     pub fn get(&self, text: &str) -> Option<SymbolRef>
         ensures { option_map symbol_ref_name result ≡ named_in self.now text.now }
     {
-        let source = match intern_presets::place(text) {
-            Some(place) => Source::Preset(place),
-            None => Source::Runtime(self.store.find(&text)?),
+        // No table keeps a preset's text.
+        let source = match self.store.find(&text) {
+            Some(key) => Source::Runtime(key),
+            None => Source::Preset(intern_presets::place(text)?),
         };
         Some(SymbolRef(source))
     }
@@ -161,11 +162,17 @@ impl Symbol {
         ensures state { Becomes result table.old table.new
             (symbol_in table.old text.now).table }
     {
+        // No table keeps a preset's text, so the presets are looked at only for what isn't stored.
+        let hash = match table.store.count_up_stored(&text) {
+            Ok(Ok(key)) => return Ok(Symbol(Source::Runtime(key))),
+            Ok(Err(hash)) => hash,
+            Err(why) => return Err(why),
+        };
         if let Some(preset) = intern_presets::place(text) {
             return Ok(Symbol(Source::Preset(preset)));
         }
-        match table.store.intern_counted(text) {
-            Ok((key, _)) => Ok(Symbol(Source::Runtime(key))),
+        match table.store.add_counted(hash, text) {
+            Ok(key) => Ok(Symbol(Source::Runtime(key))),
             Err(Refused { why, .. }) => Err(why),
         }
     }
