@@ -4,14 +4,15 @@ ghost use Rattle.std.specs.Prelude.{true};
 use crate::shapes::Shape;
 use anyhow::Result;
 use ra_ap_intern::{
-    GarbageCollector, GcInternedVisit, InternStorage, Internable, Interned, InternedRef, Refusal,
+    GarbageCollector, GcInternedVisit, InternStorage, Internable, Interned, InternedRef,
+    OptionalInternedRef, Refusal,
 };
 
 /// A node, which may refer to two others of its storage.
 #[derive(Clone, Copy, PartialEq, Eq, Hash)]
 pub(crate) struct Node {
     id: u64,
-    children: [Option<InternedRef<Node>>; 2],
+    children: [OptionalInternedRef<Node>; 2],
 }
 
 impl Node {
@@ -19,7 +20,7 @@ impl Node {
     pub(crate) fn alone(id: u64) -> Node {
         Node {
             id,
-            children: [None, None],
+            children: [OptionalInternedRef::none(); 2],
         }
     }
 }
@@ -31,21 +32,15 @@ impl Internable for Node {
 }
 
 impl GcInternedVisit for Node {
-    ghost use Rattle.std.specs.Prelude.{filter_map};
-    ghost use Rattle.std.specs.Option.{option_map};
+    ghost use Rattle.std.specs.List.{flat_map};
     ghost use Rattle.intern_bench.specs.declared.nodes.Node.{out-Node};
-    ghost use Rattle.ra_ap_intern.specs.Handle.{ref_name};
+    ghost use Rattle.ra_ap_intern.specs.Handle.{name_if};
+    ghost use Rattle.ra_ap_intern.specs.Visitors.{of_name};
 
-    ghost children = { λ node. filter_map (option_map ref_name) (out-Node node).children };
+    ghost children = { λ node. flat_map (λ o. of_name (name_if o)) (out-Node node).children };
 
     fn visit_with(&self, gc: &mut GarbageCollector) {
-        let [a, b] = self.children;
-        if let Some(a) = a {
-            let _ = gc.mark_interned_alive(a);
-        }
-        if let Some(b) = b {
-            let _ = gc.mark_interned_alive(b);
-        }
+        self.children.visit_with(gc);
     }
 }
 
@@ -78,8 +73,11 @@ pub(crate) fn store_nodes(
 }
 
 // The reference at a place of a list.
-fn listed_at<T>(listed: &[InternedRef<T>], place: Option<usize>) -> Option<InternedRef<T>> {
-    listed.get(place?).copied()
+fn listed_at<T>(listed: &[InternedRef<T>], place: Option<usize>) -> OptionalInternedRef<T> {
+    match place {
+        Some(place) => listed.get(place).copied().into(),
+        None => OptionalInternedRef::none(),
+    }
 }
 
 /// Counts the entries of references once more each, and keeps the handles.

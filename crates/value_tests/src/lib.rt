@@ -21,6 +21,8 @@ mod large;
 #[cfg(test)]
 mod numbers;
 #[cfg(test)]
+mod optional;
+#[cfg(test)]
 mod owed;
 #[cfg(test)]
 mod ported;
