@@ -8,7 +8,7 @@ use Rattle.intern_table.proofs.table.TableRaises.find_and_raise.Goals as goal
 
 pub invariant_of-self : goal.invariant_of-self
 invariant_of-self g c =
-    found_led _ (raised c.args.top) (λ v n. refl) _ _
+    found_led _ (raised _) (λ v n. refl) _ _
     (λ r. r.0.birth) c.find_and_change.result c.find_and_change.ensures.state c.find_and_change.ensures.same c.self.invariant
 
 pub returns-clause-found : goal.returns-clause-found
