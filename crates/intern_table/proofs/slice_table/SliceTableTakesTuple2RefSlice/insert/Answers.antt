@@ -26,12 +26,11 @@ insert-requires-clause-hash g c =
 pub invariant_of-self-in-Ok-insert : goal.invariant_of-self-in-Ok-insert
 invariant_of-self-in-Ok-insert g c =
     let hash : Sliced g.row.H.Denot g.row.S.Denot → ℕ = λ v. hash_of (sliced_input g.H.Hash.hash_input g.S.Hash.hash_input v) in
-    let r : IndexEntry g.row.H.Denot SlicePayload = record { place = c.in-Ok-insert.place; value = c.args.offer.0; payload = record { start = c.len-start.result; length = length c.args.offer.1.now; count = c.args.count } } in
     let counted = c.self.inside.items.ok.0 in
     let begins : c.len-start.result ≡ length c.self.inside.items.items = omega (arith, c.len-start.ensures) in
     record {
       joined =
-          adds_joined _ _ c.self.invariant.joined c.args.birth (all_below (sliced_entry c.self.inside.items.items) _ _ c.self.view_is c.args.birth c.requires.above) _ c.extend_from_slice.new.self.items r c.args.offer.1.now
+          adds_joined _ _ c.self.invariant.joined c.args.birth (all_below (sliced_entry c.self.inside.items.items) _ _ c.self.view_is c.args.birth c.requires.above) _ c.extend_from_slice.new.self.items _ c.args.offer.1.now
           c.in-Ok.ensures.items c.in-Ok-insert.ensures.ok begins refl;
       led = subst (λ xs. IsLed (sliced_hash hash xs) c.insert.new.self) c.as_slice.ensures.value c.insert.ensures.led;
     }
