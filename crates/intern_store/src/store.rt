@@ -268,8 +268,8 @@ impl<E: Entries> Store<E> {
     }
 
     /// Counts the entry whose value equals what is offered once more, and answers its key. Where no
-    /// such value is stored it answers the hash of what is offered, for `add_counted`. It takes no
-    /// memory.
+    /// such value is stored it answers the hash of what is offered, for `add_counted`. Refused with
+    /// `CountFull` where the count is at its limit. It takes no memory.
     pub fn count_up_stored<O>(&mut self, offer: &O) -> Result<Result<EntryKey, u64>, Refusal>
     where
         E: Raises<O>,
@@ -295,6 +295,8 @@ impl<E: Entries> Store<E> {
     }
 
     /// Stores what is offered, to which no stored value is equal, under its hash, counted once.
+    /// Refused, with the offer handed back, with `NumbersUsedUp` and `OutOfMemory`. It takes memory
+    /// where the table has no room.
     pub fn add_counted<O>(&mut self, hash: u64, offer: O) -> Result<EntryKey, Refused<O>>
     where
         E: Takes<O>,
