@@ -1,6 +1,8 @@
 //! A reference or none, in the room of a reference.
-ghost use Rattle.std.specs.Prelude.{◌≡◌, None, Some, is_some, not};
+ghost use Rattle.std.specs.Prelude.{◌≡◌, None, Some, is_some, not, refl};
 ghost use Rattle.std.specs.Option.{option_eq, option_map};
+ghost use Rattle.std.specs.Ordering.{on, as_partial_cmp};
+ghost use Rattle.std.specs.Cmp.{partial_order_from_own_ties};
 ghost use Rattle.std.specs.Cmp.Rules.{comparing, hashing};
 ghost use Rattle.std.proofs.Common.{rules};
 ghost use Rattle.intern_store.specs.Named.{same_name};
@@ -10,7 +12,7 @@ use crate::gc::{GarbageCollector, GcInternedVisit};
 use crate::kind::{Slices, Values};
 use crate::storage::Ref;
 use intern_store::{EntryKey, Name, Spot};
-use std::cmp::Eq;
+use std::cmp::{Eq, Ordering};
 use std::fmt;
 use std::hash::{Hash, Hasher};
 use std::marker::PhantomData;
@@ -19,8 +21,8 @@ use std::marker::PhantomData;
 const NOWHERE: usize = usize::MAX;
 
 /// A reference, or none. It takes 24 bytes, as a reference does, where an `Option` of one takes 32:
-/// for the fields of values of which a storage keeps many. It is compared, hashed and shown by the
-/// name of the entry, if there is one.
+/// for the fields of values of which a storage keeps many. It is compared, ordered, hashed and shown by
+/// the name of the entry, if there is one; none comes first.
 #[derive_where(Clone, Copy)]
 pub struct OptionalRef<K> {
     key: EntryKey,
@@ -123,6 +125,30 @@ impl<K> PartialEq for OptionalRef<K> {
 
 impl<K> Eq for OptionalRef<K> {
     ghost laws = { Prim.search (comparing, rules) };
+}
+
+impl<K> PartialOrd for OptionalRef<K> {
+    ghost partial_cmp = { as_partial_cmp (on name_if ⟦<Option<Name> as Ord>⟧.cmp) };
+
+    ghost laws = { partial_order_from_own_ties (Prim.search (comparing, rules)) (Prim.search (comparing, rules)) };
+
+    fn partial_cmp(&self, other: &OptionalRef<K>) -> Option<Ordering> {
+        Some(self.cmp(other))
+    }
+}
+
+impl<K> Ord for OptionalRef<K> {
+    ghost cmp = { on name_if ⟦<Option<Name> as Ord>⟧.cmp };
+
+    ghost total = { Prim.search (comparing, rules) };
+
+    ghost matches_partial_cmp = { λ _ _. refl };
+
+    ghost matches_eq = { Prim.search (comparing, rules) };
+
+    fn cmp(&self, other: &OptionalRef<K>) -> Ordering {
+        self.name().cmp(&other.name())
+    }
 }
 
 impl<K> Hash for OptionalRef<K> {

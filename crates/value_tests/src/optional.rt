@@ -76,6 +76,7 @@ fn an_optional_reference_is_a_reference_or_none(rt: HostRuntime) {
     assert!(rt; OptionalInternedRef::from(None) == none);
     assert!(rt; optional != none);
     assert!(rt; optional != OptionalInternedRef::from(first));
+    assert!(rt; none < first.into() && OptionalInternedRef::from(first) < optional);
     let shown: Result<_, _> = format!(in rt.alloc(); "{optional:?} {none:?}");
     is_equal(
         &rt,
