@@ -6,13 +6,7 @@ use thiserror::Error;
 /// Why a run gave up.
 #[derive(Clone, Copy, PartialEq, Eq, Debug, Error)]
 pub enum Fault {
-    /// When a read failed. Nothing was written.
-    #[error("input failed")]
-    Input,
-    /// When the input isn't UTF-8. Nothing was written.
-    #[error("input is not UTF-8")]
-    NotText,
-    /// When a request for memory was refused. Nothing was written.
+    /// When a request for memory was refused.
     #[error("out of memory")]
     OutOfMemory(#[from(alloc)] AllocError),
     /// When a new query has no handle, since its storage has given all births.
@@ -24,9 +18,6 @@ pub enum Fault {
     /// When an evaluation isn't done after 2^64 - 1 steps.
     #[error("all steps are used up")]
     StepsUsedUp,
-    /// When a write failed. A beginning of the answers was written.
-    #[error("output failed")]
-    Output,
 }
 
 impl From<Refusal> for Fault {

@@ -1,9 +1,9 @@
 //! Worked examples.
-use crate::lexer::read_line;
-use crate::parser::Program;
-use crate::session::told;
-use crate::syntax::Syntax;
-use crate::token::Place;
+use syntax::lexer::read_line;
+use syntax::parser::Program;
+use syntax::session::told;
+use syntax::syntax::Syntax;
+use syntax::token::Place;
 use std::alloc::Global;
 use std::process::Abort;
 

@@ -2,9 +2,9 @@
 ghost use Rattle.std.specs.Prelude.{◌<◌};
 
 use super::examples::{parsed, printed};
-use crate::change::{Change, Part, Spots};
-use crate::fault::Fault;
-use crate::syntax::Syntax;
+use syntax::change::{Change, Part, Spots};
+use syntax::fault::Fault;
+use syntax::syntax::Syntax;
 use std::alloc::{AllocError, Global};
 use std::process::Abort;
 

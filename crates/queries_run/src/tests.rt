@@ -1,12 +1,12 @@
 //! Worked examples, random edits beside a simple reference, and deep formulas and chains.
 ghost use Rattle.std.specs.Prelude.{◌<◌};
 
-use crate::fault::Fault;
-use crate::parser::{Line, parse_line};
-use crate::place::Place;
-use crate::run::answer_all;
-use crate::spreadsheet::Spreadsheet;
-use crate::value::{Answer, CellError, Value};
+use queries::fault::Fault;
+use queries::parser::{Line, parse_line};
+use queries::place::Place;
+use queries::run::answer_all;
+use queries::spreadsheet::Spreadsheet;
+use queries::value::{Answer, CellError, Value};
 use std::alloc::{AllocError, Global};
 use std::fmt;
 use std::process::Abort;

@@ -2,13 +2,13 @@
 mod random;
 mod reference;
 
-use crate::environment::Environment;
-use crate::fault::Fault;
-use crate::session::answers;
-use crate::store::Types;
+use types::environment::Environment;
+use types::fault::Fault;
+use types::session::answers;
+use types::store::Types;
 use crate::tests::random::{Generator, write_expression};
 use crate::tests::reference::{FUEL, Kind, Reference};
-use crate::value::{TypeNode, TypeRef};
+use types::value::{TypeNode, TypeRef};
 use ra_ap_intern::{SymbolRef, SymbolTable};
 use std::alloc::{AllocError, Global};
 use std::process::Abort;

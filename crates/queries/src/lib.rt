@@ -1,0 +1,16 @@
+//! A spreadsheet over an incremental cache of queries: the answers to the lines of a text.
+#![tactic(auto)]
+
+mod cache;
+pub mod fault;
+pub mod formula;
+mod key;
+pub mod laws;
+pub mod parser;
+mod path;
+pub mod place;
+pub mod run;
+pub mod sheet;
+pub mod spreadsheet;
+mod token;
+pub mod value;

@@ -1,0 +1,21 @@
+//! Infers the principal types of a small functional language: the declarations of a text, and the
+//! type of each.
+#![tactic(auto)]
+
+mod copy;
+pub mod environment;
+mod error;
+pub mod fault;
+mod infer;
+pub mod laws;
+mod lexer;
+mod parser;
+mod scope;
+pub mod session;
+mod step;
+pub mod store;
+mod token;
+mod unify;
+mod unknowns;
+pub mod value;
+mod written;

@@ -1,0 +1,28 @@
+//! Infers the principal types of a small functional language: reads declarations, and writes the
+//! type of each.
+#![tactic(auto)]
+
+#[cfg(test)]
+mod tests;
+
+use types::fault::Fault;
+use types::session::answers;
+use std::alloc::Global;
+use std::process::ExitCode;
+use text_run::{Program, run};
+
+struct Types;
+
+impl Program for Types {
+    type Fault = Fault;
+
+    const NAME: &'static str = "types";
+
+    fn answers(alloc: Global, text: &str) -> Result<String, Fault> {
+        answers(alloc, text)
+    }
+}
+
+fn main(rt: HostRuntime) -> ExitCode {
+    run::<Types>(&rt)
+}
