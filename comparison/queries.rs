@@ -1,7 +1,7 @@
 //! A spreadsheet over an incremental cache of queries, with plain values: a query is the key of its
 //! memo in a hash table, and what it read is a list of such keys.
 //!
-//! It reads what `crates/queries` reads, caches in the same way, and writes the same answers, for
+//! It reads what `crates/queries_run` reads, caches in the same way, and writes the same answers, for
 //! inputs without errors. At a wrong line it writes to standard error, and ends with status 1.
 mod hash;
 

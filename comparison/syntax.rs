@@ -1,7 +1,7 @@
 //! Versions of a program as plain trees: each node has its own text and its own parts, and what
 //! changed is found by comparing two trees part by part.
 //!
-//! It reads what `crates/syntax` reads, and tells the same of it, for versions without errors. At an
+//! It reads what `crates/syntax_run` reads, and tells the same of it, for versions without errors. At an
 //! error it writes a line to standard error, and ends with status 1. How many trees are distinct, new
 //! and gone it tells only with the argument `counts`: it looks up each tree in a set then.
 mod hash;

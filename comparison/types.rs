@@ -1,9 +1,9 @@
 //! Hindley-Milner inference over plain values: a type is a tree of counted boxes, and two types are
 //! compared part by part.
 //!
-//! It reads what `crates/types` reads, infers in the same way, and writes the same types, for
+//! It reads what `crates/types_run` reads, infers in the same way, and writes the same types, for
 //! declarations without errors. At an error it writes a line to standard error, and ends with status
-//! 1. It doesn't write the last line of `crates/types`, which tells what its store holds.
+//! 1. It doesn't write the last line of `crates/types_run`, which tells what its store holds.
 mod hash;
 
 use hash::HashMap;
