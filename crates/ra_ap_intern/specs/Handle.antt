@@ -1,6 +1,6 @@
 -- The names of handles. Handles are equal exactly if their names are.
 use Rattle.std.specs.Prelude.{ℕ, ◌-◌, ◌^◌, ◌==◌, if◌then◌else◌, Option, Some, None}
-use Rattle.std.specs.Ordering.{nat_cmp, ordering_then}
+use Rattle.std.specs.Ordering.{nat_cmp, on, then_cmp}
 use Rattle.std.specs.declared.cmp.Ordering.{Ordering}
 use Rattle.intern_store.specs.Named.{key_name}
 use Rattle.intern_store.specs.declared.names.Name.{Name}
@@ -28,7 +28,7 @@ name_if o = if o.key.spot.place == 2 ^ 64 - 1 then None else Some (key_name o.ke
 
 -- the order of names: by the storages' numbers, and then by the births
 abbrev pub name_cmp : Name → Name → Ordering
-name_cmp a b = ordering_then (nat_cmp a.storage b.storage) (nat_cmp a.birth b.birth)
+name_cmp = then_cmp (on (λ n. n.storage) nat_cmp) (on (λ n. n.birth) nat_cmp)
 
 -- a value that a table lists under its birth, with its name in the storage of this number
 abbrev pub with_name : {V : Type 0} → ℕ → ℕ × (V × ℕ) → Name × V

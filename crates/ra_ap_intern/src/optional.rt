@@ -1,12 +1,12 @@
 //! A reference or none, in the room of a reference.
 ghost use Rattle.std.specs.Prelude.{◌≡◌, None, Some, is_some, not, refl};
-ghost use Rattle.std.specs.Option.{option_eq, option_map};
+ghost use Rattle.std.specs.Option.{option_cmp, option_eq, option_map};
 ghost use Rattle.std.specs.Ordering.{on, as_partial_cmp};
-ghost use Rattle.std.specs.Cmp.{partial_order_from_own_ties};
+ghost use Rattle.std.specs.Cmp.{on_total, partial_order_from_own_ties, partial_order_from_total};
 ghost use Rattle.std.specs.Cmp.Rules.{comparing, hashing};
 ghost use Rattle.std.proofs.Common.{rules};
 ghost use Rattle.intern_store.specs.Named.{same_name};
-ghost use Rattle.ra_ap_intern.specs.Handle.{name_if, ref_name};
+ghost use Rattle.ra_ap_intern.specs.Handle.{name_cmp, name_if, ref_name};
 
 use crate::gc::{GarbageCollector, GcInternedVisit};
 use crate::kind::{Slices, Values};
@@ -128,9 +128,11 @@ impl<K> Eq for OptionalRef<K> {
 }
 
 impl<K> PartialOrd for OptionalRef<K> {
-    ghost partial_cmp = { as_partial_cmp (on name_if ⟦<Option<Name> as Ord>⟧.cmp) };
+    ghost partial_cmp = { as_partial_cmp (on name_if (option_cmp name_cmp)) };
 
-    ghost laws = { partial_order_from_own_ties (Prim.search (comparing, rules)) (Prim.search (comparing, rules)) };
+    ghost laws = { partial_order_from_own_ties
+        (partial_order_from_total (on_total name_if {R = option_cmp name_cmp} (Prim.search (comparing, rules))))
+        (Prim.search (comparing, rules)) };
 
     fn partial_cmp(&self, other: &OptionalRef<K>) -> Option<Ordering> {
         Some(self.cmp(other))
@@ -138,7 +140,7 @@ impl<K> PartialOrd for OptionalRef<K> {
 }
 
 impl<K> Ord for OptionalRef<K> {
-    ghost cmp = { on name_if ⟦<Option<Name> as Ord>⟧.cmp };
+    ghost cmp = { on name_if (option_cmp name_cmp) };
 
     ghost total = { Prim.search (comparing, rules) };
 
