@@ -1,12 +1,12 @@
-//! Why the program gave up.
+//! Why a run gave up.
 use ra_ap_intern::{Refusal, Refused};
 use std::alloc::AllocError;
 use thiserror::Error;
 
-/// Why the program gave up.
+/// Why a run gave up.
 #[derive(Clone, Copy, Debug, Error)]
 pub enum Fault {
-    /// When there was no memory for the input, its tokens or what is told.
+    /// When there was no memory for the tokens of a version or for what is told.
     #[error("out of memory")]
     OutOfMemory(#[from(alloc)] AllocError),
     /// When a storage had no memory for a name or a tree, or was at one of its limits.

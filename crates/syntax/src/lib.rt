@@ -1,5 +1,4 @@
-//! Reads versions of a program, a line `---` between two, and tells of each how large it is and what
-//! changed.
+//! Versions of a program, a line `---` between two: how large each is, and what changed.
 //!
 //! A program is a list of items, `fn name(a, b) = expression;` or `let name = expression;`. An
 //! expression is a name, a number, a call `f(x, y)`, an infix `+ - * / < ==`, `if c then a else b`,

@@ -22,7 +22,7 @@ struct Session {
 }
 
 /// What is told of the versions in a text.
-pub fn told(alloc: Global, text: &str) -> Result<String, Fault> {
+pub fn answer_all(alloc: Global, text: &str) -> Result<String, Fault> {
     let mut session = Session {
         syntax: Syntax::new(alloc),
         before: Program {

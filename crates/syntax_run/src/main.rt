@@ -6,7 +6,7 @@
 mod tests;
 
 use syntax::fault::Fault;
-use syntax::session::told;
+use syntax::session::answer_all;
 use std::alloc::Global;
 use std::process::ExitCode;
 use text_run::{Program, run};
@@ -19,7 +19,7 @@ impl Program for Syntax {
     const NAME: &'static str = "syntax";
 
     fn answers(alloc: Global, text: &str) -> Result<String, Fault> {
-        told(alloc, text)
+        answer_all(alloc, text)
     }
 }
 

@@ -1,5 +1,4 @@
-//! Infers the principal types of a small functional language: the declarations of a text, and the
-//! type of each.
+//! The principal types of a small functional language: those of the declarations of a text.
 #![tactic(auto)]
 
 mod copy;

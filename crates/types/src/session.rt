@@ -24,7 +24,7 @@ const TYPES: u64 = 2;
 const FEW_TYPES: usize = 1000;
 
 /// The answers to all declarations of a text, a line each.
-pub fn answers(alloc: Global, text: &str) -> Result<String, Fault> {
+pub fn answer_all(alloc: Global, text: &str) -> Result<String, Fault> {
     let mut session = Session::new(alloc)?;
     let lexemes = tokens(alloc, &mut session.names, text)?;
     for part in lexemes.split_inclusive(|lexeme| matches!(lexeme.token, Token::Semicolon)) {

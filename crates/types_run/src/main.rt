@@ -6,7 +6,7 @@
 mod tests;
 
 use types::fault::Fault;
-use types::session::answers;
+use types::session::answer_all;
 use std::alloc::Global;
 use std::process::ExitCode;
 use text_run::{Program, run};
@@ -19,7 +19,7 @@ impl Program for Types {
     const NAME: &'static str = "types";
 
     fn answers(alloc: Global, text: &str) -> Result<String, Fault> {
-        answers(alloc, text)
+        answer_all(alloc, text)
     }
 }
 

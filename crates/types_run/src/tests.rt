@@ -4,7 +4,7 @@ mod reference;
 
 use types::environment::Environment;
 use types::fault::Fault;
-use types::session::answers;
+use types::session::answer_all;
 use types::store::Types;
 use crate::tests::random::{Generator, write_expression};
 use crate::tests::reference::{FUEL, Kind, Reference};
@@ -16,7 +16,7 @@ use std::test::Fail;
 
 // The first line of the answers to a text.
 fn first_answer(alloc: Global, text: &str) -> Result<String, Fail> {
-    let told = answers(alloc, text)?;
+    let told = answer_all(alloc, text)?;
     let line = told.as_str().lines().next().unwrap_or("");
     Ok(String::from_str(alloc, line)?)
 }
@@ -182,7 +182,7 @@ fn a_collection_keeps_what_is_declared(rt: HostRuntime) -> Result<(), Fail> {
 #[test]
 fn equal_schemes_are_one(rt: HostRuntime) -> Result<(), Fail> {
     let text = "f x y = x; g = fun first -> (fun second -> let same = first in same);";
-    let told = answers(rt.alloc(), text)?;
+    let told = answer_all(rt.alloc(), text)?;
     // 'a, 'b, their pair, the types of fst and snd, 'b -> 'a, and the one type of f and g.
     assert!(rt; told.as_str().contains("\n4 names, 7 types, "), "{told}");
     Ok(())
@@ -267,7 +267,7 @@ fn compare(rt: &impl Abort, alloc: Global, seed: u64, counts: &mut Counts) {
             rt, "memory",
         );
     }
-    let told = answers(alloc, text.as_str()).expect(rt, "memory");
+    let told = answer_all(alloc, text.as_str()).expect(rt, "memory");
     for (answer, wanted) in told.as_str().lines().zip(wanted.as_str().lines()) {
         assert!(rt; is_same(answer, wanted), "{answer} for {wanted} in\n{text}");
     }

@@ -1,7 +1,7 @@
 //! Worked examples.
 use syntax::lexer::read_line;
 use syntax::parser::Program;
-use syntax::session::told;
+use syntax::session::answer_all;
 use syntax::syntax::Syntax;
 use syntax::token::Place;
 use std::alloc::Global;
@@ -73,7 +73,7 @@ fn operators_are_read_by_precedence(rt: HostRuntime) {
 }
 
 fn check_told(rt: &impl Abort, alloc: Global, text: &str, expected: &str) {
-    let Ok(told) = told(alloc, text) else {
+    let Ok(told) = answer_all(alloc, text) else {
         panic!(rt; "told")
     };
     assert_eq!(rt; told.as_str(), expected);
