@@ -5,10 +5,10 @@
 #[cfg(test)]
 mod tests;
 
-use syntax::fault::Fault;
-use syntax::session::answer_all;
 use std::alloc::Global;
 use std::process::ExitCode;
+use syntax::fault::Fault;
+use syntax::session::answer_all;
 use text_run::{Program, run};
 
 struct Syntax;

@@ -5,11 +5,11 @@
 #[cfg(test)]
 mod tests;
 
-use types::fault::Fault;
-use types::session::answer_all;
 use std::alloc::Global;
 use std::process::ExitCode;
 use text_run::{Program, run};
+use types::fault::Fault;
+use types::session::answer_all;
 
 struct Types;
 

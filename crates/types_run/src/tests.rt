@@ -2,17 +2,17 @@
 mod random;
 mod reference;
 
-use types::environment::Environment;
-use types::fault::Fault;
-use types::session::answer_all;
-use types::store::Types;
 use crate::tests::random::{Generator, write_expression};
 use crate::tests::reference::{FUEL, Kind, Reference};
-use types::value::{TypeNode, TypeRef};
 use ra_ap_intern::{SymbolRef, SymbolTable};
 use std::alloc::{AllocError, Global};
 use std::process::Abort;
 use std::test::Fail;
+use types::environment::Environment;
+use types::fault::Fault;
+use types::session::answer_all;
+use types::store::Types;
+use types::value::{TypeNode, TypeRef};
 
 // The first line of the answers to a text.
 fn first_answer(alloc: Global, text: &str) -> Result<String, Fail> {

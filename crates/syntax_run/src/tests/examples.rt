@@ -1,11 +1,11 @@
 //! Worked examples.
+use std::alloc::Global;
+use std::process::Abort;
 use syntax::lexer::read_line;
 use syntax::parser::Program;
 use syntax::session::answer_all;
 use syntax::syntax::Syntax;
 use syntax::token::Place;
-use std::alloc::Global;
-use std::process::Abort;
 
 const MOST: usize = 1 << 40;
 

@@ -2,11 +2,11 @@
 ghost use Rattle.std.specs.Prelude.{◌<◌};
 
 use super::examples::{parsed, printed};
+use std::alloc::{AllocError, Global};
+use std::process::Abort;
 use syntax::change::{Change, Part, Spots};
 use syntax::fault::Fault;
 use syntax::syntax::Syntax;
-use std::alloc::{AllocError, Global};
-use std::process::Abort;
 
 const MOST: usize = 1 << 40;
 
