@@ -1,4 +1,4 @@
-use Rattle.types.proofs.tests.reference.Reference.+occurs.Given as goal
+use Rattle.types_run.proofs.tests.reference.Reference.+occurs.Given as goal
 
 abbrev pub decreases-occurs : goal.decreases-occurs
 decreases-occurs l = l.fuel

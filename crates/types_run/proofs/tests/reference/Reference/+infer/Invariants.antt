@@ -1,5 +1,5 @@
 use Rattle.std.proofs.Common.{◌+◌, ◌*◌}
-use Rattle.types.proofs.tests.reference.Reference.+infer.Given as goal
+use Rattle.types_run.proofs.tests.reference.Reference.+infer.Given as goal
 
 abbrev pub decreases-two : goal.decreases-two
 decreases-two l = 2 * l.fuel + 1

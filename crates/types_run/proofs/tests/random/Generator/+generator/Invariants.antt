@@ -1,5 +1,5 @@
 use Rattle.std.proofs.Common.{◌+◌, ◌*◌}
-use Rattle.types.proofs.tests.random.Generator.+generator.Given as goal
+use Rattle.types_run.proofs.tests.random.Generator.+generator.Given as goal
 
 abbrev pub decreases-within : goal.decreases-within
 decreases-within l = 2 * l.depth + 1

@@ -1,4 +1,4 @@
-use Rattle.types.proofs.tests.random.+write_expression.Given as goal
+use Rattle.types_run.proofs.tests.random.+write_expression.Given as goal
 
 abbrev pub decreases-write_expression : goal.decreases-write_expression
 decreases-write_expression l = l.fuel
