@@ -8,6 +8,7 @@
 
 mod collections;
 mod fault;
+mod many;
 mod marks;
 mod one_entry;
 mod scene;
@@ -20,6 +21,7 @@ mod worlds;
 
 use crate::collections::{Collection, check_collection, check_registration};
 use crate::fault::Fault;
+use crate::many::check_many;
 use crate::one_entry::{check_no_births, check_one_entry};
 use crate::scene::check;
 use crate::slices::Row;
@@ -50,7 +52,8 @@ fn check_all(rt: &(impl Print + Eprint), alloc: Global) -> Result<(), Fault> {
     check_keeping(rt, alloc)?;
     check_no_births(rt, alloc)?;
     check_one_entry(rt, alloc)?;
-    check_two_texts(rt, alloc)
+    check_two_texts(rt, alloc)?;
+    check_many(rt, alloc)
 }
 
 fn main(rt: HostRuntime) -> ExitCode {

@@ -20,15 +20,12 @@ looked_up : (family : List Entry) (x : Name) → lookup (same_name x) (map named
 looked_up [] x = refl
 looked_up (e ∷ family) x = ap (λ o. cond (same_name x e.name) (Some e) o) (looked_up family x)
 
-is_there : (o : Option Entry) → is_some o ≡ true → IsSome o
-is_there o h = search
-
 -- names of entries, none of them twice, are no more than the entries
 few_names : (family : List Entry) (names : List Name) → IsDistinct same_name names
     → ((x : Name) → has names x ≡ true → is_entry family x ≡ true) → length names ≤ length family
 few_names family names once each =
     let few = length-le_from_keys same_name_is_equivalence names (map named family) once
-    (λ x among. subst IsSome (sym (looked_up family x)) (is_there (entry_of family x) (each x among))) in
+    (λ x among. subst IsSome (sym (looked_up family x)) (each x among)) in
     omega (arith, length-map family named)
 
 -- so where they are as many, they are the names of all entries

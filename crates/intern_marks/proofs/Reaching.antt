@@ -1,7 +1,7 @@
 -- What is reached, and what is left of it once the rest is gone.
 use Rattle.std.proofs.Common.{◌≡◌, Bool, true, false, cond, ◌&&◌, ◌||◌, List, [], ◌∷◌, Option, Some, None, is_some, refl, sym, ◌∙◌, ap, inl, inr, true≢false}
 use Rattle.std.specs.List.{filter}
-use Rattle.std.proofs.lemmas.Bool.{cases_Bool, false_from_ne_true}
+use Rattle.std.proofs.lemmas.Bool.{cases_Bool}
 use Rattle.intern_store.specs.declared.names.Name.{Name}
 use Rattle.intern_store.proofs.Named.{names_same}
 use Rattle.intern_store.specs.Named.{same_name}
@@ -16,34 +16,23 @@ least begins family set first closed [] x path = first x path
 least begins family set first closed (parent ∷ before) x path =
     closed parent x (least begins family set first closed before parent path.2) path.1 path.0
 
-module _ (names : List Name) where
-  kept : List Entry → List Entry
-  kept family = filter (λ e. has names e.name) family
-
-  -- an entry that is kept is found as before
-  find_kept : (family : List Entry) (x : Name) → has names x ≡ true → entry_of (filter (λ e. has names e.name) family) x ≡ entry_of family x
-  find_kept [] x in_names = refl
-  find_kept (e ∷ family) x in_names =
-      elim (cases_Bool (has names e.name)) [
-        | inl stays ↦ ap (λ b. entry_of (cond b (e ∷ filter (λ e. has names e.name) family) (filter (λ e. has names e.name) family)) x) stays
-            ∙ ap (λ o. cond (same_name x e.name) (Some e) o) (find_kept family x in_names)
-        | inr goes ↦
-            let other : same_name x e.name ≡ false = false_from_ne_true _ (λ same. true≢false (sym in_names ∙ ap (has names) (names_same x e.name same) ∙ goes)) in
-            ap (λ b. entry_of (cond b (e ∷ filter (λ e. has names e.name) family) (filter (λ e. has names e.name) family)) x) goes
-            ∙ find_kept family x in_names ∙ sym (ap (λ b. cond b (Some e) (entry_of family x)) other)
-      ]
-
-  -- no other is there
-  pub find_gone : (family : List Entry) (x : Name) → has names x ≡ false → entry_of (filter (λ e. has names e.name) family) x ≡ None
-  find_gone [] x out = refl
-  find_gone (e ∷ family) x out =
-      elim (cases_Bool (has names e.name)) [
-        | inl stays ↦
-            let other : same_name x e.name ≡ false = false_from_ne_true _ (λ same. true≢false (sym stays ∙ ap (has names) (sym (names_same x e.name same)) ∙ out)) in
-            ap (λ b. entry_of (cond b (e ∷ filter (λ e. has names e.name) family) (filter (λ e. has names e.name) family)) x) stays
-            ∙ ap (λ b. cond b (Some e) (entry_of (filter (λ e. has names e.name) family) x)) other ∙ find_gone family x out
-        | inr goes ↦ ap (λ b. entry_of (cond b (e ∷ filter (λ e. has names e.name) family) (filter (λ e. has names e.name) family)) x) goes ∙ find_gone family x out
-      ]
+-- an entry that is kept is found as before, and no other is there
+find_kept : (names : List Name) (family : List Entry) (x : Name) (b : Bool) → has names x ≡ b
+    → entry_of (kept_entries family names) x ≡ cond b (entry_of family x) None
+find_kept names [] x true is = refl
+find_kept names [] x false is = refl
+find_kept names (e ∷ family) x b is =
+    go (has names e.name) (same_name x e.name) b refl (λ same. ap (has names) (sym (names_same x e.name same)) ∙ is) (find_kept names family x b is)
+  where
+    go : (stays same b : Bool) → same_name x e.name ≡ same → (same ≡ true → stays ≡ b)
+        → let kept = kept_entries family names in entry_of kept x ≡ cond b (entry_of family x) None
+        → entry_of (cond stays (e ∷ kept) kept) x ≡ cond b (cond same (Some e) (entry_of family x)) None
+    go true same true is agree rest = λ i. cond (is i) (Some e) (rest i)
+    go true false false is agree rest = λ i. cond (is i) (Some e) (rest i)
+    go true true false is agree rest = absurd (true≢false (agree refl))
+    go false same false is agree rest = rest
+    go false false true is agree rest = rest
+    go false true true is agree rest = absurd (true≢false (sym (agree refl)))
 
 -- what is reached is reached once the rest is gone, and nothing else is
 module _ (family : List Entry) (listed names : List Name) (is : IsReachedSet (starts_with listed family) family names) where
@@ -51,14 +40,14 @@ module _ (family : List Entry) (listed names : List Name) (is : IsReachedSet (st
   rest = kept_entries family names
 
   same_entry : (x : Name) → Reached (starts_with listed family) family x → entry_of rest x ≡ entry_of family x
-  same_entry x reached = find_kept names family x ((is.reached x).1 reached)
+  same_entry x reached = find_kept names family x true ((is.reached x).1 reached)
 
   -- what an entry that is left tells, it told before
   from_rest : (x : Name) (o : Option Entry) → entry_of rest x ≡ o → is_some o ≡ true → entry_of family x ≡ o
   from_rest x o at there =
       elim (cases_Bool (has names x)) [
-        | inl stays ↦ sym (find_kept names family x stays) ∙ at
-        | inr goes ↦ let none = ap is_some (sym (find_gone names family x goes) ∙ at) in let no : false ≡ true = none ∙ there in absurd (true≢false (sym no))
+        | inl stays ↦ sym (find_kept names family x true stays) ∙ at
+        | inr goes ↦ let none = ap is_some (sym (find_kept names family x false goes) ∙ at) in let no : false ≡ true = none ∙ there in absurd (true≢false (sym no))
       ]
 
   into : (before : List Name) (x : Name) → IsPath (starts_with listed family) family before x → IsPath (starts_with listed rest) rest before x
@@ -108,7 +97,7 @@ module _ (family : List Entry) (listed names : List Name) (is : IsReachedSet (st
             let declared = declares parent x (entry_of rest parent) refl child in
             let there = closed parent x declared in
             ap is_some (same_entry x (parent ∷ up.0, (there, declared, up.1))) ∙ there
-        | inr goes ↦ let none = ap (λ (o : Option Entry). has (children_of o) x) (find_gone names family parent goes) in
+        | inr goes ↦ let none = ap (λ (o : Option Entry). has (children_of o) x) (find_kept names family parent false goes) in
             let no : false ≡ true = sym none ∙ child in absurd (true≢false (sym no))
       ]
 

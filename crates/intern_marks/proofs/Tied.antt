@@ -1,5 +1,5 @@
 -- What ties a collector's fields together, and what its calls do to that.
-use Rattle.std.proofs.Common.{◌≡◌, ◌≢◌, inl, inr, ℕ, ◌+◌, ◌-◌, ◌<◌, ◌≤◌, ◌^◌, Bool, true, false, not, cond, ◌&&◌, ◌||◌, List, [], ◌∷◌, ◌++◌, length, set, Option, Some, None, is_some, refl, sym, ap, ◌∙◌, subst, arith, length-append}
+use Rattle.std.proofs.Common.{◌≡◌, ◌≢◌, inl, inr, ℕ, ◌+◌, ◌-◌, ◌<◌, ◌≤◌, ◌^◌, Bool, true, false, not, cond, ◌&&◌, ◌||◌, List, [], ◌∷◌, ◌++◌, length, set, Some, None, is_some, refl, sym, ap, ◌∙◌, subst, arith, length-append}
 use Rattle.std.specs.Option.{option_map}
 use Rattle.std.specs.FinMap.{FinMap, get, insert, empty, len, len-empty, len-insert}
 use Rattle.std.proofs.lemmas.Bool.{cases_eq, false_from_ne_true, false≢true}
@@ -17,17 +17,14 @@ use Rattle.intern_marks.specs.declared.flags.Flags.{Flags}
 use Rattle.intern_marks.specs.declared.found.Table.{Table}
 use Rattle.intern_marks.specs.declared.slots.Slots.{Slots}
 use Rattle.intern_store.proofs.Named.{names_same, same_names}
-use Rattle.intern_marks.proofs.Names.{has_append, name_cmp_total}
+use Rattle.intern_marks.proofs.Names.{name_cmp_total}
 use Rattle.intern_marks.proofs.Sound.{nothing_sound, unmarked, sound_more, sound_added, fewer as few}
 use Rattle.intern_marks.proofs.Steps.{grown_has}
 use Rattle.intern_marks.proofs.Slotted.{names_same_below, names_there, names_nowhere, named, names_gap, names_push, IsWritten, at_below, at_past, written_here, written_else, written_cases, mark_written}
 
-nothing_below : (at : ℕ → Option Registered) → names_below at 0 ≡ empty
-unfolding names_below
-nothing_below at = refl
-
 pub nothing_names : (s : Slots) → slot_count s ≡ 0 → names_in s ≡ empty
-nothing_names s none = ap (names_below (registered_at s)) none ∙ nothing_below (registered_at s)
+unfolding names_below
+nothing_names s none = ap (names_below (registered_at s)) none
 
 -- nothing is registered
 pub nothing_tied : (s : Slots) (t : Table) (marked : List Name) (capacity : ℕ) → slot_count s ≡ 0 → s.parts.items ≡ [] → t.is_filled ≡ false → marked ≡ [] → IsTied s t 0 marked 0 capacity
@@ -79,6 +76,19 @@ module _ {s : Slots} {t : Table} {size : ℕ} {marked : List Name} {visits capac
       → is_next b (seen (names_in s) marked visits calls) x ≡ false
   next_nowhere b calls x none = ap (λ o. may_be b o && not (has marked x)) (nowhere_unknown x none)
 
+  -- once a slot is written with a name that isn't marked, which no other slot has, the flags tell what is marked with it
+  written_flagged : (next : Slots) (i : ℕ) (x : Name) (f : Flags) → IsWritten (registered_at s) (registered_at next) i (record { name = x; flags = f })
+      → has marked x ≡ false → ((j : ℕ) (q : Registered) → j ≢ i → registered_at s j ≡ Some q → x ≡ q.name → ⊥)
+      → (j : ℕ) (y : Name) (g : Flags) → IsAt next j y g → has (cond f.is_marked (marked ++ x ∷ []) marked) y ≡ g.is_marked
+  written_flagged next i x f written bare apart j y g at = grown_has f.is_marked marked x y ∙ elim (written_cases (registered_at s) (registered_at next) i _ written j _ at) [
+    | inl now ↦
+        let same : y ≡ x = ap (λ (r : Registered). r.name) now.1 in
+        (λ k. (ap (has marked) same ∙ bare) k || (same_names y x same k && f.is_marked)) ∙ sym (ap (λ (r : Registered). r.flags.is_marked) now.1)
+    | inr old ↦
+        ap (λ b. has marked y || (b && f.is_marked)) (false_from_ne_true _ (λ same. apart j _ old.0 old.1 (sym (names_same y x same))))
+        ∙ or-false (has marked y) ∙ tied.flagged j y g old.1
+  ]
+
   -- a name in a slot is marked that wasn't
   module _ (i : ℕ) (x : Name) (f : Flags) (here : IsAt s i x f) (bare : f.is_marked ≡ false) where
     new : has marked x ≡ false
@@ -97,9 +107,6 @@ module _ {s : Slots} {t : Table} {size : ℕ} {marked : List Name} {visits capac
 
     module _ (next : Slots) (parts : next.parts.items ≡ s.parts.items) (births : next.births.items ≡ s.births.items)
         (flags : next.flags.items ≡ set s.flags.items i (Some (with_mark f))) where
-      r : Registered
-      r = record { name = x; flags = f }
-
       abbrev with : Registered
       with = record { name = x; flags = with_mark f }
 
@@ -126,22 +133,6 @@ module _ {s : Slots} {t : Table} {size : ℕ} {marked : List Name} {visits capac
         | inr old ↦ (q, old.1, refl)
       ]
 
-      now_flagged : (j : ℕ) (y : Name) (g : Flags) → IsAt next j y g → has (marked ++ x ∷ []) y ≡ g.is_marked
-      now_flagged j y g at = has_append marked (x ∷ []) y ∙ elim (written_cases (registered_at s) (registered_at next) i with written j _ at) [
-        | inl now ↦ either_true (has marked y) (same_name y x) (same_names y x (ap (λ (r : Registered). r.name) now.1)) ∙ sym (ap (λ (r : Registered). r.flags.is_marked) now.1)
-        | inr old ↦ either_false (has marked y) (same_name y x)
-            (false_from_ne_true _ (λ same. old.0 (tied.apart j i _ _ old.1 here (names_same y x same))))
-            ∙ tied.flagged j y g old.1
-      ]
-        where
-          either_true : (a b : Bool) → b ≡ true → (a || (b || false)) ≡ true
-          either_true true b h = refl
-          either_true false b h = ap (λ b. b || false) h
-
-          either_false : (a b : Bool) → b ≡ false → (a || (b || false)) ≡ a
-          either_false true b h = refl
-          either_false false b h = ap (λ b. b || false) h
-
       pub marked_tied : (u : Table) → IsLed s u → IsTied next u size (marked ++ x ∷ []) visits capacity
       marked_tied u led = record {
         follow = subst (λ n. Follow 0 next.parts.items n) (sym count) (subst (λ parts. Follow 0 parts (slot_count s)) (sym parts) tied.follow);
@@ -155,7 +146,7 @@ module _ {s : Slots} {t : Table} {size : ℕ} {marked : List Name} {visits capac
             led filled j y (ap (option_map (λ (r : Registered). r.name)) a.1 ∙ ap Some (a.2 ∙ r.2));
         told = let told = tied.told in let count = count in omega arith;
         sized = tied.sized ∙ ap len (sym names_kept);
-        flagged = now_flagged;
+        flagged = written_flagged next i x (with_mark f) written new (λ j q other at same. other (tied.apart j i q _ at here (sym same)));
         sound = subst (λ m. IsSound m (marked ++ x ∷ [])) (sym names_kept) more_sound;
         within = let more = length-append marked (x ∷ []) in let within = tied.within in omega arith;
         room = tied.room;
@@ -209,16 +200,6 @@ module _ {s : Slots} {t : Table} {size : ℕ} {marked : List Name} {visits capac
     abbrev pub grown : List Name
     grown = cond f.is_marked (marked ++ x ∷ []) marked
 
-    grown_flagged : (j : ℕ) (y : Name) (g : Flags) → IsAt next j y g → has grown y ≡ g.is_marked
-    grown_flagged j y g at = grown_has f.is_marked marked x y ∙ elim (written_cases (registered_at s) (registered_at next) i it written j _ at) [
-      | inl now ↦
-          let same : y ≡ x = ap (λ (r : Registered). r.name) now.1 in
-          (λ k. (ap (has marked) same ∙ not_marked) k || (same_names y x same k && f.is_marked)) ∙ sym (ap (λ (r : Registered). r.flags.is_marked) now.1)
-      | inr old ↦
-          ap (λ b. has marked y || (b && f.is_marked)) (false_from_ne_true _ (λ same. not_there j _ old.1 (sym (names_same y x same))))
-          ∙ or-false (has marked y) ∙ tied.flagged j y g old.1
-    ]
-
     grown_longer : length marked ≤ length grown
     grown_longer = go f.is_marked
       where
@@ -242,7 +223,7 @@ module _ {s : Slots} {t : Table} {size : ℕ} {marked : List Name} {visits capac
       led = λ filled. absurd (false≢true (sym empty_table ∙ filled));
       told = omega arith;
       sized = ap (λ n. n + 1) tied.sized ∙ sym (ap len names_added ∙ len-insert name_cmp_total (names_in s) x f.is_counted ∙ ap (λ o. cond (is_some o) (len (names_in s)) (len (names_in s) + 1)) unknown);
-      flagged = grown_flagged;
+      flagged = written_flagged next i x f written not_marked (λ j q _. not_there j q);
       sound = subst (λ m. IsSound m grown) (sym names_added) (sound_added (names_in s) marked x f.is_counted f.is_marked unknown tied.sound);
       within = let within = tied.within in let longer = grown_longer in omega arith;
       room = fits;

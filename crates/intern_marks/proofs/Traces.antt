@@ -3,6 +3,7 @@ use Rattle.std.proofs.Common.{ℕ, ◌≡◌, ◌+◌, ◌-◌, ◌^◌, ◌≤�
 use Rattle.std.specs.List.{sum_by, slice_get}
 use Rattle.std.specs.Option.{option_map, option_or}
 use Rattle.std.specs.FinMap.{FinMap, get, empty, get-empty}
+use Rattle.std.proofs.Math.Bool.{and_comm}
 use Rattle.std.proofs.lemmas.List.{take_all, take_more}
 use Rattle.std.proofs.lemmas.List.Sums.{sum_by-append}
 use Rattle.std.proofs.lemmas.Map.Keys.{any_passes_from_place}
@@ -130,15 +131,8 @@ module _ (family : List Entry) (listed : List Name) (m : Marks) (is : Learns tru
       ∙ (λ i. is.marked x i || (has listed x && may_be true (known x i)))
       ∙ ap (λ b. starts family x || (has listed x && b)) (there_as (entry_of family x))
 
-  turn : (a b c : Bool) → (a || (b && c)) ≡ (a || (c && b))
-  turn true b c = refl
-  turn false true true = refl
-  turn false true false = refl
-  turn false false true = refl
-  turn false false false = refl
-
   first : (x : Name) → has (roots m listed).marked x ≡ starts_with listed family x
-  first x = rooted_has x ∙ turn (starts family x) (has listed x) (is_entry family x)
+  first x = rooted_has x ∙ ap (λ b. starts family x || b) (and_comm (has listed x) (is_entry family x))
 
   none : visited (roots m listed) ≡ []
   none = ap (λ k. take k (roots m listed).marked) (each-visits true root root_places m listed ∙ is.visits)

@@ -1,10 +1,10 @@
 //! A spreadsheet over an incremental cache of queries: the answers to the lines of a text.
 #![tactic(auto)]
 
-mod cache;
+pub mod cache;
 pub mod fault;
 pub mod formula;
-mod key;
+pub mod key;
 pub mod laws;
 pub mod parser;
 mod path;

@@ -106,18 +106,18 @@ module _ {V : Type 0} (eq : V → V → Bool) where
   -- ---- whether two names are one
 
   -- what names need to tell values: each that is read was given, and no two read equal values
-  record IsTelling (s : State V) : Type 0 where
+  pub record IsTelling (s : State V) : Type 0 where
     pub below : (name : Name) (v : V) → reads s name ≡ Some v → name.birth < s.next
     pub apart : (n m : Name) (v w : V) → reads s n ≡ Some v → reads s m ≡ Some w
         → eq v w ≡ true → n ≡ m
 
-  state_telling : (s : State V) → IsState eq s → IsTelling s
+  pub state_telling : (s : State V) → IsState eq s → IsTelling s
   state_telling s ok = record {
     below = λ name v read. read_below eq s ok name (ap is_some read);
     apart = read_once eq s ok;
   }
 
-  counted_telling : (s : State V) (b : ℕ) → IsTelling s → IsTelling (counted_up s b)
+  pub counted_telling : (s : State V) (b : ℕ) → IsTelling s → IsTelling (counted_up s b)
   counted_telling s b is = record {
     below = λ name v read. is.below name v (sym (counted_up_reads s b name) ∙ read);
     apart = λ n m v w first second. is.apart n m v w
@@ -161,7 +161,7 @@ module _ {V : Type 0} (eq : V → V → Bool) where
     ];
   }
 
-  interned_telling : IsEquivalence eq → (s : State V) (v : V) → IsTelling s
+  pub interned_telling : IsEquivalence eq → (s : State V) (v : V) → IsTelling s
       → IsTelling (interned eq s v).state
   interned_telling laws s v is = go (birth_of eq s v) refl
     where

@@ -11,6 +11,7 @@ mod CallerViews
 mod Collections
 mod Entries
 mod Following
+mod InTurn
 mod Learning
 mod Listings
 mod Pairs

@@ -1,6 +1,7 @@
 pub mod Constants
 pub mod Families
 pub mod Handle
+pub mod Interning
 pub mod PairLaws
 pub mod Slices
 pub mod StorageLaws

@@ -11,10 +11,12 @@ ghost use Rattle.intern_store.specs.Outcome.{Owes, OwesBack, MayWantBack, Become
 ghost use Rattle.intern_store.specs.State.{name_in, entry_at, reads, is_new, interned, interned_name, interned_counted, given_back, name_of_value, named_values, due, due_at, due_interning, full, zero_count, any_count, freed, released};
 ghost use Rattle.ra_ap_intern.specs.Handle.{name_of, ref_name};
 
+mod each;
 mod iter;
 
 use crate::kind::Values;
 use crate::storage::{Owned, Ref, Storage};
+pub use each::InternHandle;
 use intern_store::{Refusal, Refused};
 pub use iter::Iter;
 use std::cmp::Eq;

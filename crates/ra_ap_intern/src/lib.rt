@@ -16,7 +16,7 @@ pub use gc::{
     Collected, Family, GarbageCollector, GcInternedSliceVisit, GcInternedVisit, NoStorages,
     Numbered, Pair, Trace, Visits,
 };
-pub use intern::{InternStorage, Internable, Interned, InternedRef, Iter};
+pub use intern::{InternHandle, InternStorage, Internable, Interned, InternedRef, Iter};
 pub use intern_slice::{
     InternSliceStorage, InternedSlice, InternedSliceRef, SliceInternable, SliceIter,
 };

@@ -1,5 +1,4 @@
 //! Why a run gave up.
-use crate::parser::ParseError;
 use ra_ap_intern::Refusal;
 use std::alloc::AllocError;
 use thiserror::Error;

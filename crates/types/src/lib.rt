@@ -3,17 +3,17 @@
 
 mod copy;
 pub mod environment;
-mod error;
+pub mod error;
 pub mod fault;
-mod infer;
+pub mod infer;
 pub mod laws;
-mod lexer;
-mod parser;
+pub mod lexer;
+pub mod parser;
 mod scope;
 pub mod session;
-mod step;
+pub mod step;
 pub mod store;
-mod token;
+pub mod token;
 mod unify;
 mod unknowns;
 pub mod value;

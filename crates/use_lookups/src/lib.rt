@@ -1,13 +1,17 @@
 //! Look-ups in collected mode: what is found reads an equal value.
 #![tactic(auto)]
 
-ghost use Rattle.std.specs.Prelude.{◌≡◌, true, false, Some, IfOk, IfSome, IfNone};
+ghost use Rattle.std.specs.List.{slice_get};
+ghost use Rattle.std.specs.Prelude.{◌≡◌, ℕ, true, false, Some, IfOk, OnOk, IfSome, IfNone, map as list_map};
+ghost use Rattle.std.specs.Vec.Iter.{into_iter_items};
 ghost use Rattle.ra_ap_intern.specs.Handle.{ref_name};
+ghost use Rattle.ra_ap_intern.specs.Interning.{Interns, names_in_turn};
 ghost use Rattle.ra_ap_intern.specs.Name.{Name};
 ghost use Rattle.ra_ap_intern.specs.Outcome.{Becomes, MayWantBack};
 ghost use Rattle.ra_ap_intern.specs.State.{reads, is_new, interned, interned_name, due_interning, any_count};
 
 use ra_ap_intern::{InternStorage, Internable, Interned, InternedRef, Refused};
+use std::vec::IntoIter;
 
 /// The reference of a value, which is stored where no equal one is. Refused, with the value back:
 /// `NumbersUsedUp` and `OutOfMemory` where it isn't stored.
@@ -26,6 +30,28 @@ pub fn find_or_intern<T: Internable + Drop>(
 {
     let (reference, _) = Interned::new_gc(storage, value)?;
     Ok(reference)
+}
+
+/// Adds the references of values to a list, in their order. Refused as `find_or_intern` is: the value
+/// comes back, and those behind it are left.
+pub fn find_or_intern_all<T: Internable + Drop>(
+    storage: &mut InternStorage<T>,
+    values: &mut IntoIter<T>,
+    references: &mut Vec<InternedRef<T>>,
+) -> Result<(), Refused<T>>
+    requires { T.Internable.USE_GC ≡ true }
+    ensures all { OnOk result (Interns (λ s v. (interned T.eq s v).state) T.eq (λ _. any_count)
+        storage.old storage.new (into_iter_items values.old) (list_map ref_name references.old.items)
+        (list_map ref_name references.new.items)) }
+    ensures reads { OnOk result ((i : ℕ) (v : T) →
+        slice_get (into_iter_items values.old) i ≡ Some v → (n : Name)
+        × (slice_get (names_in_turn (λ s v. (interned T.eq s v).state) T.eq storage.old
+        (into_iter_items values.old)) i ≡ Some n)
+        × (w : T) × (reads storage.new n ≡ Some w) × (T.eq v w ≡ true)) }
+{
+    let _number = storage.number();
+    storage.extend(values, references)?;
+    Ok(())
 }
 
 /// The stored value that equals this one. None where there is none.

@@ -1,8 +1,9 @@
 //! One storage of numbers.
 ghost use Rattle.std.specs.Prelude.{true};
 
-use crate::{find, find_or_intern};
+use crate::{find, find_or_intern, find_or_intern_all};
 use ra_ap_intern::{InternStorage, Internable};
+use std::test::Fail;
 
 /// A number that is collected.
 #[derive(Debug, Drop, PartialEq, Eq, Hash)]
@@ -22,4 +23,20 @@ fn what_is_stored_is_found(rt: HostRuntime) {
     assert!(rt; seven == again);
     assert_eq!(rt; find(&numbers, &Number(7)), Some(&Number(7)));
     assert_eq!(rt; find(&numbers, &Number(8)), None);
+}
+
+#[test]
+fn many_are_stored_once(rt: HostRuntime) -> Result<(), Fail> {
+    let alloc = rt.alloc();
+    let mut numbers = InternStorage::new(alloc, 1);
+    let mut values = Vec::new(alloc);
+    for number in [7, 8, 7] {
+        values.push(Number(number))?;
+    }
+    let mut references = Vec::new(alloc);
+    find_or_intern_all(&mut numbers, &mut values.into_iter(), &mut references)?;
+    assert_eq!(rt; references.len(), 3);
+    assert!(rt; references.first() == references.last());
+    assert_eq!(rt; numbers.len(), 2);
+    Ok(())
 }

@@ -27,6 +27,22 @@ impl Numeral for Number {
     }
 }
 
+/// A number, collected.
+#[derive(Clone, Copy, Debug, PartialEq, Eq, Hash)]
+pub struct Kept(u64);
+
+impl Internable for Kept {
+    const USE_GC: bool = true;
+
+    ghost USE_GC = { true };
+}
+
+impl Numeral for Kept {
+    fn of(number: u64) -> Kept {
+        Kept(number)
+    }
+}
+
 impl Numeral for Unhashed {
     fn of(number: u64) -> Unhashed {
         Unhashed(number)

@@ -15,6 +15,8 @@ mod entries;
 #[cfg(test)]
 mod hostile;
 #[cfg(test)]
+mod in_turn;
+#[cfg(test)]
 mod kinds;
 #[cfg(test)]
 mod large;

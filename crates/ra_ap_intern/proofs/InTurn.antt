@@ -1,0 +1,113 @@
+-- Values that are interned in turn: what their names read, and which names are one.
+use Rattle.std.proofs.Common.{◌≡◌, ℕ, zero, suc, ◌<◌, Bool, true, List, [], ◌∷◌, ◌++◌, Option, Some, None, refl, sym, ap, ◌∙◌, append_assoc}
+use Rattle.std.specs.Prelude.{◌↔◌}
+use Rattle.std.specs.Cmp.{IsEquivalence}
+use Rattle.std.specs.List.{fold, slice_get}
+use Rattle.std.proofs.lemmas.List.Sums.{fold-append}
+use Rattle.std.proofs.lemmas.Option.{same_Some}
+use Rattle.intern_store.proofs.Reading.{interned_reads}
+use Rattle.ra_ap_intern.specs.Interning.{names_in_turn, NoneDue, Interns}
+use Rattle.ra_ap_intern.specs.Name.{Name}
+use Rattle.ra_ap_intern.specs.Refusal.{Refusal}
+use Rattle.ra_ap_intern.specs.State.{State, IsState, reads, interned, interned_name, interned_counted, due_interning}
+use Rattle.ra_ap_intern.proofs.CallerInterning.{ReadsEqual, IsTelling, state_telling, interned_telling, counted_telling, interned_counted_reads}
+use Rattle.ra_ap_intern.proofs.CallerReads.{interned_reads_given, interned_counted_reads_given}
+
+module _ {V : Type 0} (after : State V → V → State V) (eq : V → V → Bool) where
+  -- the name of a value behind others
+  names_push : (s : State V) (values : List V) (v : V)
+      → names_in_turn after eq s (values ++ v ∷ []) ≡ names_in_turn after eq s values ++ interned_name eq (fold after s values) v ∷ []
+  names_push s [] v = refl
+  names_push s (w ∷ values) v = ap (λ names. interned_name eq s w ∷ names) (names_push (after s w) values v)
+
+  module _ (owed : State V → ℕ → Option Refusal) where
+    -- one value more isn't due
+    due_push : (s : State V) (values : List V) (v : V) → NoneDue after eq owed s values
+        → due_interning eq (fold after s values) v (owed (fold after s values)) ≡ None → NoneDue after eq owed s (values ++ v ∷ [])
+    due_push s [] v before due = (due, tt)
+    due_push s (w ∷ values) v before due = (before.0, due_push (after s w) values v before.1 due)
+
+    -- one value more is interned
+    pub interns_more : (old new : State V) (values : List V) (listed names : List Name) (v : V)
+        → Interns after eq owed old new values listed names → due_interning eq new v (owed new) ≡ None
+        → Interns after eq owed old (after new v) (values ++ v ∷ []) listed (names ++ interned_name eq new v ∷ [])
+    interns_more old new values listed names v turn due = record {
+      due = due_push old values v turn.due (ap (λ s. due_interning eq s v (owed s)) (sym turn.state) ∙ due);
+      state = ap (λ s. after s v) turn.state ∙ sym (fold-append after old values (v ∷ []));
+      named = (λ k. turn.named k ++ interned_name eq (turn.state k) v ∷ [])
+          ∙ append_assoc listed (names_in_turn after eq old values) (interned_name eq (fold after old values) v ∷ [])
+          ∙ ap (λ names. listed ++ names) (sym (names_push old values v));
+    }
+
+  -- a step that interns a value: what it names reads an equal value, and what was given reads what it read
+  pub record IsInterning : Type 0 where
+    pub named : (s : State V) (v : V) → ReadsEqual eq (after s v) (interned_name eq s v) v
+    pub given : (s : State V) (v : V) (name : Name) → name.birth < s.next → reads (after s v) name ≡ reads s name
+    pub telling : (s : State V) (v : V) → IsTelling eq s → IsTelling eq (after s v)
+
+  module _ (step : IsInterning) where
+    -- what is read is read after values are interned in turn
+    read_on : (s : State V) → IsTelling eq s → (values : List V) (name : Name) (v : V) → reads s name ≡ Some v
+        → reads (fold after s values) name ≡ Some v
+    read_on s is [] name v read = read
+    read_on s is (w ∷ values) name v read =
+        read_on (after s w) (step.telling s w is) values name v (step.given s w name (is.below name v read) ∙ read)
+
+    telling_on : (s : State V) → IsTelling eq s → (values : List V) → IsTelling eq (fold after s values)
+    telling_on s is [] = is
+    telling_on s is (v ∷ values) = telling_on (after s v) (step.telling s v is) values
+
+    each_reads : (s : State V) → IsTelling eq s → (values : List V) (i : ℕ) (v : V) → slice_get values i ≡ Some v
+        → (name : Name) × (slice_get (names_in_turn after eq s values) i ≡ Some name) × ReadsEqual eq (fold after s values) name v
+    each_reads s is [] i v at = absurd (cc)
+    each_reads s is (w ∷ values) zero v at =
+        let r = step.named s w in
+        let on = read_on (after s w) (step.telling s w is) values (interned_name eq s w) r.0 r.1 in
+        (interned_name eq s w, refl, (r.0, on, ap (λ x. eq x r.0) (sym (same_Some _ _ at)) ∙ r.2))
+    each_reads s is (w ∷ values) (suc i) v at = each_reads (after s w) (step.telling s w is) values i v at
+
+    module _ (laws : IsEquivalence eq) (s : State V) (ok : IsState eq s) (values : List V) where
+      -- what is read before is read after
+      pub in_turn_reads_on : (name : Name) (v : V) → reads s name ≡ Some v → reads (fold after s values) name ≡ Some v
+      in_turn_reads_on = read_on s (state_telling eq s ok) values
+
+      -- each name reads a value equal to its own
+      pub in_turn_reads : (i : ℕ) (v : V) → slice_get values i ≡ Some v
+          → (name : Name) × (slice_get (names_in_turn after eq s values) i ≡ Some name) × ReadsEqual eq (fold after s values) name v
+      in_turn_reads = each_reads s (state_telling eq s ok) values
+
+      -- two of the names are one exactly if their values are equal
+      pub in_turn_alike : (i j : ℕ) (v w : V) (n m : Name) → slice_get values i ≡ Some v → slice_get values j ≡ Some w
+          → slice_get (names_in_turn after eq s values) i ≡ Some n → slice_get (names_in_turn after eq s values) j ≡ Some m
+          → (n ≡ m) ↔ (eq v w ≡ true)
+      in_turn_alike i j v w n m first second named_first named_second =
+          let a = in_turn_reads i v first in
+          let b = in_turn_reads j w second in
+          let is_n = same_Some _ _ (sym a.1 ∙ named_first) in
+          let is_m = same_Some _ _ (sym b.1 ∙ named_second) in
+          let left = ap (reads (fold after s values)) (sym is_n) ∙ a.2.1 in
+          let right = ap (reads (fold after s values)) (sym is_m) ∙ b.2.1 in (
+            λ one.
+                let both = same_Some _ _ (sym left ∙ ap (reads (fold after s values)) one ∙ right) in
+                laws.congr v a.2.0 w a.2.2 ∙ laws.symm a.2.0 w ∙ ap (eq w) both ∙ b.2.2,
+            λ alike.
+                (telling_on s (state_telling eq s ok) values).apart n m a.2.0 b.2.0 left right
+                (sym (laws.congr v a.2.0 b.2.0 a.2.2) ∙ laws.congr v w b.2.0 alike ∙ b.2.2),
+          )
+
+module _ {V : Type 0} (eq : V → V → Bool) (laws : IsEquivalence eq) where
+  -- in counted mode
+  pub interning_counted : IsInterning (interned_counted eq) eq
+  interning_counted = record {
+    named = interned_counted_reads eq laws;
+    given = λ s v. interned_counted_reads_given eq s v;
+    telling = λ s v is. counted_telling eq (interned eq s v).state (interned eq s v).birth (interned_telling eq laws s v is);
+  }
+
+  -- in collected mode
+  pub interning_collected : IsInterning (λ s v. (interned eq s v).state) eq
+  interning_collected = record {
+    named = interned_reads eq laws;
+    given = λ s v. interned_reads_given eq s v;
+    telling = interned_telling eq laws;
+  }

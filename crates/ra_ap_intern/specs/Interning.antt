@@ -1,0 +1,33 @@
+-- Values that are interned in turn.
+use Rattle.std.specs.Prelude.{◌≡◌, ◌⊎◌, ⊤, ℕ, Bool, List, [], ◌∷◌, ◌++◌, Option, None}
+use Rattle.std.specs.List.{fold}
+use Rattle.intern_store.specs.Outcome.{IsWhy}
+use Rattle.intern_store.specs.State.{State, is_new, interned_name, due_interning}
+use Rattle.intern_store.specs.declared.names.Name.{Name}
+use Rattle.intern_store.specs.declared.refusal.Refusal.{Refusal}
+use Rattle.intern_store.specs.declared.refusal.Refusal.TheVariants.{OutOfMemory}
+use Rattle.intern_store.specs.declared.refusal.Refused.{Refused}
+
+module _ {V : Type 0} where
+  -- the names that values get in turn, where this is the state after each
+  abbrev pub names_in_turn : (State V → V → State V) → (V → V → Bool) → State V → List V → List Name
+  names_in_turn after eq s [] = []
+  names_in_turn after eq s (v ∷ values) = interned_name eq s v ∷ names_in_turn after eq (after s v) values
+
+  -- none of the values is due to be refused in its turn
+  abbrev pub NoneDue : (State V → V → State V) → (V → V → Bool) → (State V → ℕ → Option Refusal) → State V → List V → Type 0
+  NoneDue after eq owed s [] = ⊤
+  NoneDue after eq owed s (v ∷ values) = (due_interning eq s v (owed s) ≡ None) × NoneDue after eq owed (after s v) values
+
+  -- values were interned in turn, and their names are behind those that were listed
+  pub record Interns (after : State V → V → State V) (eq : V → V → Bool) (owed : State V → ℕ → Option Refusal)
+      (old new : State V) (values : List V) (listed names : List Name) : Type 0
+    where
+      pub due : NoneDue after eq owed old values
+      pub state : new ≡ fold after old values
+      pub named : names ≡ listed ++ names_in_turn after eq old values
+
+  -- a value is refused as interning it alone is, or since the list is full and there is no memory for it
+  abbrev pub IsOwed : (V → V → Bool) → State V → (ℕ → Option Refusal) → Type 0 → Refused V → Type 0
+  IsOwed eq s by_count is_full r = IsWhy (due_interning eq s r.back by_count) (is_new eq s r.back) r.why
+      ⊎ ((r.why ≡ OutOfMemory) × is_full)
