@@ -5,6 +5,7 @@ use crate::{Class, Method, Program};
 use ra_ap_intern::{
     GarbageCollector, InternStorage, Internable, Interned, InternedRef, Refusal, Text,
 };
+use std::alloc::Global;
 use std::test::Fail;
 
 fn store<T: Internable + Drop>(
@@ -17,6 +18,27 @@ fn store<T: Internable + Drop>(
     Ok(stored.map_err(|r| r.why)?.0)
 }
 
+// Two methods, each of the class that comes with it.
+struct Methods {
+    of_deque: (InternedRef<Class>, InternedRef<Method>),
+    of_gone: (InternedRef<Class>, InternedRef<Method>),
+}
+
+fn fill(alloc: Global, program: &mut Program) -> Result<Methods, Fail> {
+    let name = Interned::new(&mut program.names, Text::new(alloc, "a")?);
+    let name = name.map_err(|r| r.why)?.0.as_ref();
+    let classes = &mut program.code.first;
+    let methods = &mut program.code.second;
+    let base = store(classes, Class(name, Vec::new(alloc)))?;
+    let list = store(classes, Class(name, vec![in alloc; base]?))?;
+    let deque = store(classes, Class(name, vec![in alloc; list]?))?;
+    let gone = store(classes, Class(name, vec![in alloc; deque]?))?;
+    Ok(Methods {
+        of_deque: (deque, store(methods, Method(name, list))?),
+        of_gone: (gone, store(methods, Method(name, gone))?),
+    })
+}
+
 #[test]
 fn what_the_roots_declare_stays(rt: HostRuntime) -> Result<(), Fail> {
     let alloc = rt.alloc();
@@ -27,14 +49,10 @@ fn what_the_roots_declare_stays(rt: HostRuntime) -> Result<(), Fail> {
             InternStorage::new(alloc, 2),
         ),
     };
-    let name = Interned::new(&mut program.names, Text::new(alloc, "a")?);
-    let name = name.map_err(|r| r.why)?.0.as_ref();
-    let base = store(&mut program.code.first, Class(name, Vec::new(alloc)))?;
-    let list = store(&mut program.code.first, Class(name, vec![in alloc; base]?))?;
-    let deque = store(&mut program.code.first, Class(name, vec![in alloc; list]?))?;
-    let gone = store(&mut program.code.first, Class(name, vec![in alloc; deque]?))?;
-    let size = store(&mut program.code.second, Method(name, list))?;
-    let lost = store(&mut program.code.second, Method(name, gone))?;
+    let Methods {
+        of_deque: (deque, size),
+        of_gone: (gone, lost),
+    } = fill(alloc, &mut program)?;
 
     // Both roots declare one class, and that declares another.
     assert!(rt; GarbageCollector::distinct(&program.code));
