@@ -1,5 +1,6 @@
 pub mod Edits
 pub mod Heads
+pub mod Least
 pub mod Parsed
 pub mod Reading
 pub mod Runs

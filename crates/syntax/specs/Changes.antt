@@ -1,5 +1,5 @@
 -- What leads from a tree to another.
-use Rattle.std.specs.Prelude.{◌≡◌, ◌⊎◌, List, [], ◌∷◌, ◌++◌, map as list_map}
+use Rattle.std.specs.Prelude.{◌≡◌, ◌⊎◌, ℕ, suc, ◌+◌, ◌≤◌, List, [], ◌∷◌, ◌++◌, map as list_map}
 use Rattle.intern_terms.specs.Handle.{term_name}
 use Rattle.intern_terms.specs.Tree.{Tree, Trees, tree, no_more, one_more, UnfoldsTo}
 use Rattle.intern_terms.specs.declared.handle.TermRef.{TermRef}
@@ -54,3 +54,36 @@ abbrev mutual
   AllChanged s (one_more t ts) (one_more u us) changes =
       (first : List Swap) × (rest : List Swap) × (changes ≡ first ++ rest)
       × Changed s t u first × AllChanged s ts us rest
+
+abbrev mutual
+  -- how many terms a tree has in it
+  pub size : Tree → ℕ
+  size (tree head ts) = suc (sizes ts)
+
+  pub sizes : Trees → ℕ
+  sizes no_more = 0
+  sizes (one_more t ts) = size t + sizes ts
+
+-- the new parts of changes have so many terms in all
+abbrev pub Bring : Store → List Swap → ℕ → Type 0
+Bring s [] n = n ≡ 0
+Bring s (c ∷ changes) n = (new : Tree) × UnfoldsTo s c.new new
+    × (rest : ℕ) × (n ≡ size new + rest) × Bring s changes rest
+
+abbrev mutual
+  -- the second tree is the first with trees in the place of some parts, however these are chosen,
+  -- that have so many terms in all
+  pub IsMadeWith : Tree → Tree → ℕ → Type 0
+  IsMadeWith (tree head ts) (tree other us) n =
+      (n ≡ size (tree other us)) ⊎ ((head ≡ other) × AreMadeWith ts us n)
+
+  pub AreMadeWith : Trees → Trees → ℕ → Type 0
+  AreMadeWith no_more no_more n = n ≡ 0
+  AreMadeWith no_more (one_more u us) n = ⊥
+  AreMadeWith (one_more t ts) no_more n = ⊥
+  AreMadeWith (one_more t ts) (one_more u us) n =
+      (first : ℕ) × (rest : ℕ) × (n ≡ first + rest) × IsMadeWith t u first × AreMadeWith ts us rest
+
+-- no other way to make the second tree of the first brings fewer terms
+abbrev pub BringLeast : Store → Tree → Tree → List Swap → Type 0
+BringLeast s t u changes = (m n : ℕ) → Bring s changes m → IsMadeWith t u n → m ≤ n

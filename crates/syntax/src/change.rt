@@ -3,13 +3,13 @@ ghost use Rattle.std.specs.Prelude.{◌≡◌, ◌≢◌, ◌↔◌, ◌++◌, l
 ghost use Rattle.intern_terms.specs.Handle.{term_name};
 ghost use Rattle.intern_terms.specs.Tree.{Tree, tree as tree_of, Trees, UnfoldsTo};
 ghost use Rattle.ra_ap_intern.specs.Symbols.{Named};
-ghost use Rattle.syntax.specs.Changes.{Alike, Changed, HaveParts, swap, olds_of, news_of};
+ghost use Rattle.syntax.specs.Changes.{Alike, BringLeast, Changed, HaveParts, swap, olds_of, news_of};
 ghost use Rattle.syntax.specs.Parsing.{Stand};
 
 use crate::fault::Fault;
 use crate::machine::Spot;
 use crate::syntax::Syntax;
-use intern_terms::TermRef;
+use intern_terms::{TermRef, laws as trees};
 use ra_ap_intern::laws as names;
 
 /// A part of a tree, and the index of its spot.
@@ -43,10 +43,15 @@ impl Syntax {
         spots: Spots<'_>,
         most: usize,
     ) -> Result<Vec<Change>, Fault>
-        ensures { (t u : Tree) → UnfoldsTo self.now.terms (term_name whole.old.tree) t →
+        ensures changed { (t u : Tree) → UnfoldsTo self.now.terms (term_name whole.old.tree) t →
             UnfoldsTo self.now.terms (term_name whole.new.tree) u →
             IfOk result (λ changes. Changed self.now.terms t u (list_map swap changes.items)) }
+        // They bring no more terms in all than any other change of parts that makes the new tree.
+        ensures least { (t u : Tree) → UnfoldsTo self.now.terms (term_name whole.old.tree) t →
+            UnfoldsTo self.now.terms (term_name whole.new.tree) u →
+            IfOk result (λ changes. BringLeast self.now.terms t u (list_map swap changes.items)) }
     {
+        trees::each_term_has_one_tree();
         let mut changes = Vec::new(self.alloc);
         let mut pairs = Vec::new(self.alloc);
         pairs.push(whole)?;

@@ -1,6 +1,7 @@
 use Rattle.std.proofs.Common.{◌≡◌, ◌∙◌, ◌++◌, ◌∷◌, ap, map, reverse, [], rules}
 use Rattle.syntax.specs.Changes.{swap, olds_of, news_of}
 use Rattle.syntax.proofs.Edits.{leads_init, leads_end, leads_popped, leads_same, leads_inside, leads_told, leads_as, told_more, same_told}
+use Rattle.syntax.proofs.Least.{least}
 use Rattle.syntax.proofs.syntax.Syntax.changes.Goals as goal
 use Rattle.syntax.proofs.syntax.Syntax.changes.Goals.{in-Some-inside+in_ok-push_parts-in-Some-inside, in-None+in_ok-push-in-None}
 
@@ -11,11 +12,17 @@ loop-init c t u old new =
     (c.in_ok-push.ensures.items ∙ ap (λ xs. xs ++ c.args.whole ∷ []) c.new-pairs.ensures.items)
     c.new-changes.ensures.items old new
 
-pub returns-in_default : goal.returns-in_default
-returns-in_default c t u old new =
+pub returns-in_default-clause-changed : goal.returns-in_default-clause-changed
+returns-in_default-clause-changed c t u old new =
     let none : c.loop.pairs.items ≡ [] = search rules in
     leads_end c.args.self.now.terms c.loop.pairs.items c.loop.changes.items t u none
     (c.loop.invariant t u old new)
+
+pub returns-in_default-clause-least : goal.returns-in_default-clause-least
+returns-in_default-clause-least c t u old new m n =
+    let s = c.args.self.now.terms in
+    let one = c.each_term_has_one_tree.ensures.no_other s in
+    least s one t u (map swap c.loop.changes.items) m n (returns-in_default-clause-changed c t u old new)
 
 pub loop-preserved-then-same : goal.loop-preserved-then-same
 loop-preserved-then-same c t u old new =
