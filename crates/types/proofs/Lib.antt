@@ -1,2 +1,5 @@
 pub mod Environments
+pub mod Pairs
 pub mod Trees
+pub mod Underway
+pub mod Unifying

@@ -15,7 +15,7 @@ use Rattle.ra_ap_intern.proofs.CallerLemmas.{kept_reads, same_names, names_tell_
 
 module _ (s : State TypeNode) where
   -- a name has one tree
-  one_tree : (t u : Tree) (n m : Name) → n ≡ m → UnfoldsTo s n t → UnfoldsTo s m u → t ≡ u
+  pub one_tree : (t u : Tree) (n m : Name) → n ≡ m → UnfoldsTo s n t → UnfoldsTo s m u → t ≡ u
   one_tree integers integers n m is a b = cc
   one_tree integers booleans n m is a b = absurd (cc)
   one_tree integers (unknowns y) n m is a b = absurd (cc)

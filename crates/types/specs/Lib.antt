@@ -3,3 +3,4 @@ pub mod Growing
 pub mod Making
 pub mod Tree
 pub mod Types
+pub mod Unifying

@@ -1,23 +1,33 @@
 //! Unification: what makes two types equal.
+ghost use Rattle.std.specs.Prelude.{◌≡◌, IfOk, IfSome, OnOk};
+ghost use Rattle.std.specs.Bool.{OnFalse, OnTrue};
+ghost use Rattle.ra_ap_intern.specs.Handle.{ref_name};
+ghost use Rattle.types.specs.Unifying.{Binds, HaveParts, Unifies};
+
 use crate::error::TypeError;
 use crate::store::Types;
 use crate::unknowns::Unknowns;
 use crate::value::{TypeNode, TypeRef};
+use ra_ap_intern::laws;
 use std::alloc::Global;
 use std::collections::HashSet;
 
 /// How many steps one type may take.
 pub const MOST_STEPS: u64 = 10_000_000;
 
-/// Makes two types equal, by what it makes of the unknown types in them. Pairs that were met are
-/// not looked into again.
+/// Makes two types equal by what it makes of the unknown types in them, and of nothing more. Pairs
+/// that were met are not looked into again.
 pub fn unify(
     alloc: Global,
     types: &Types,
     unknowns: &mut Unknowns,
     left: TypeRef,
     right: TypeRef,
-) -> Result<(), TypeError> {
+) -> Result<(), TypeError>
+    ensures { OnOk result (Unifies types.now unknowns.old unknowns.new
+        (ref_name left) (ref_name right)) }
+{
+    laws::references_are_names::<TypeNode>();
     let mut open = Vec::new(alloc);
     let mut met = HashSet::new(alloc);
     open.push((left, right))?;
@@ -30,22 +40,55 @@ pub fn unify(
         if first == second || !met.insert((first, second))? {
             continue;
         }
-        match (types.get(first), types.get(second)) {
-            (Some(TypeNode::Unknown(number)), _) => {
-                bind(alloc, types, unknowns, (number, first), second)?;
-            }
-            (_, Some(TypeNode::Unknown(number))) => {
-                bind(alloc, types, unknowns, (number, second), first)?;
-            }
-            (Some(TypeNode::Function(a, b)), Some(TypeNode::Function(c, d)))
-            | (Some(TypeNode::Pair(a, b)), Some(TypeNode::Pair(c, d))) => {
-                open.push((b, d))?;
-                open.push((a, c))?;
-            }
-            _ => return Err(TypeError::Clash(left, right)),
+        if bind_one(alloc, types, unknowns, first, second)? {
+            continue;
         }
+        let Some(((a, b), (c, d))) = parts(types, first, second) else {
+            return Err(TypeError::Clash(left, right));
+        };
+        open.push((b, d))?;
+        open.push((a, c))?;
     }
     Err(TypeError::TooLarge)
+}
+
+// The parts of two types of one kind.
+fn parts(
+    types: &Types,
+    first: TypeRef,
+    second: TypeRef,
+) -> Option<((TypeRef, TypeRef), (TypeRef, TypeRef))>
+    ensures { IfSome result (λ r. HaveParts types.now (ref_name first) (ref_name second)
+        (ref_name r.0.0) (ref_name r.0.1) (ref_name r.1.0) (ref_name r.1.1)) }
+{
+    match (types.get(first)?, types.get(second)?) {
+        (TypeNode::Function(a, b), TypeNode::Function(c, d))
+        | (TypeNode::Pair(a, b), TypeNode::Pair(c, d)) => Some(((a, b), (c, d))),
+        _ => None,
+    }
+}
+
+// Where one of two types is unknown, it becomes the other. Whether one is.
+fn bind_one(
+    alloc: Global,
+    types: &Types,
+    unknowns: &mut Unknowns,
+    first: TypeRef,
+    second: TypeRef,
+) -> Result<bool, TypeError>
+    ensures bound { IfOk result (λ bound. OnTrue bound
+        (Unifies types.now unknowns.old unknowns.new (ref_name first) (ref_name second))) }
+    ensures same { IfOk result (λ bound. OnFalse bound (unknowns.new ≡ unknowns.old)) }
+{
+    if let Some(TypeNode::Unknown(number)) = types.get(first) {
+        bind(alloc, types, unknowns, (number, first), second)?;
+        return Ok(true);
+    }
+    if let Some(TypeNode::Unknown(number)) = types.get(second) {
+        bind(alloc, types, unknowns, (number, second), first)?;
+        return Ok(true);
+    }
+    Ok(false)
 }
 
 // An unknown type, which has a number, becomes a type that it is no part of, whose unknown types
@@ -54,10 +97,15 @@ fn bind(
     alloc: Global,
     types: &Types,
     unknowns: &mut Unknowns,
-    (number, unknown): (u64, TypeRef),
+    unknown: (u64, TypeRef),
     handle: TypeRef,
-) -> Result<(), TypeError> {
-    let level = unknowns.level(number).unwrap_or(0);
+) -> Result<(), TypeError>
+    ensures { OnOk result (Binds types.now unknowns.old unknowns.new unknown.0 (ref_name handle)) }
+{
+    let (number, unknown) = unknown;
+    let Some(level) = unknowns.level(number) else {
+        return Err(TypeError::TooLarge);
+    };
     let mut open = Vec::new(alloc);
     let mut met = HashSet::new(alloc);
     open.push(handle)?;

@@ -1,4 +1,12 @@
 //! Types that aren't known yet, and what became of them.
+ghost use Rattle.std.specs.Prelude.{◌≡◌, ◌↔◌, ℕ, Some, IfSome, IsSome, slice_get};
+ghost use Rattle.ra_ap_intern.specs.Handle.{ref_name};
+ghost use Rattle.ra_ap_intern.specs.State.{State};
+ghost use Rattle.types.specs.Tree.{Tree};
+ghost use Rattle.types.specs.Unifying.{Agree, Binds, IsOpen, Solves};
+ghost use Rattle.types.specs.declared.unknowns.Known.TheVariants as known;
+ghost use Rattle.types.specs.declared.value.TypeNode.{TypeNode as Node};
+
 use crate::store::Types;
 use crate::value::{TypeNode, TypeRef};
 use std::alloc::{AllocError, Global};
@@ -34,7 +42,9 @@ impl Unknowns {
     }
 
     /// The level of an unknown type. None when it is known.
-    pub fn level(&self, number: u64) -> Option<u64> {
+    pub fn level(&self, number: u64) -> Option<u64>
+        ensures { IsSome result ↔ IsOpen self.now number }
+    {
         match self.known.get(number as usize)? {
             Known::Nothing(level) => Some(*level),
             Known::Is(_) => None,
@@ -42,31 +52,54 @@ impl Unknowns {
     }
 
     /// An unknown type is this type from now on.
-    pub fn bind(&mut self, number: u64, handle: TypeRef) {
+    pub fn bind(&mut self, number: u64, handle: TypeRef)
+        requires { IsOpen self.old number }
+        ensures { (s : State Node) → Binds s self.old self.new number (ref_name handle) }
+    {
         if let Some(known) = self.known.get_mut(number as usize) {
             *known = Known::Is(handle);
         }
     }
 
     /// An unknown type belongs to this level, unless it belongs to a lower one.
-    pub fn lower(&mut self, number: u64, to: u64) {
-        if let Some(Known::Nothing(level)) = self.known.get_mut(number as usize) {
-            *level = (*level).min(to);
+    pub fn lower(&mut self, number: u64, to: u64)
+        ensures solved { (s : State Node) (v : ℕ → Tree) →
+            Solves s self.new v ↔ Solves s self.old v }
+        ensures free { (n : ℕ) → IsOpen self.old n → IsOpen self.new n }
+    {
+        if let Some(known) = self.known.get_mut(number as usize) {
+            if let Known::Nothing(level) = *known {
+                *known = Known::Nothing(level.min(to));
+            }
+        }
+    }
+
+    // What an unknown type is.
+    fn known_as(&self, number: u64) -> Option<TypeRef>
+        ensures { IfSome result (λ handle.
+            slice_get self.now.known.items number ≡ Some (known.Is handle)) }
+    {
+        match self.known.get(number as usize)? {
+            Known::Nothing(_) => None,
+            Known::Is(handle) => Some(*handle),
         }
     }
 
     /// What a type is, as far as it is known: where it is an unknown type, it is one of which
     /// nothing is known.
-    pub fn resolve(&self, types: &Types, handle: TypeRef) -> TypeRef {
+    pub fn resolve(&self, types: &Types, handle: TypeRef) -> TypeRef
+        ensures { (v : ℕ → Tree) → Solves types.now self.now v →
+            Agree types.now v (ref_name handle) (ref_name result) }
+    {
         let mut handle = handle;
         for _ in 0..self.known.len() {
             let Some(TypeNode::Unknown(number)) = types.get(handle) else {
                 break;
             };
-            let Some(Known::Is(next)) = self.known.get(number as usize) else {
+            let Some(next) = self.known_as(number) else {
                 break;
             };
-            handle = *next;
+            handle = next;
         }
         handle
     }

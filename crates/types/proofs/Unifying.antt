@@ -1,0 +1,100 @@
+-- What unknown types may be, and what is one then.
+use Rattle.std.proofs.Common.{◌≡◌, ◌↔◌, ℕ, suc, List, [], ◌∷◌, Some, slice_get, slice_set, zero, refl, sym, ap, subst, ◌∙◌, rules}
+use Rattle.std.specs.Option.{option_map}
+use Rattle.ra_ap_intern.specs.Handle.{ref_name}
+use Rattle.ra_ap_intern.specs.Name.{Name}
+use Rattle.ra_ap_intern.specs.State.{State, reads}
+use Rattle.ra_ap_intern.specs.declared.kind.Values.{Values}
+use Rattle.ra_ap_intern.specs.declared.storage.Ref.{Ref}
+use Rattle.types.specs.Tree.{Tree, unknowns}
+use Rattle.types.specs.Types.{unknown, shape, shape_at}
+use Rattle.types.specs.Unifying.{replaced, IsOpen, StandsFor, Solves, Agree, Unifies, Binds}
+use Rattle.types.specs.declared.unknowns.Known.{Known}
+use Rattle.types.specs.declared.unknowns.Known.TheVariants as known
+use Rattle.types.specs.declared.unknowns.Unknowns.{Unknowns}
+use Rattle.types.specs.declared.value.TypeNode.{TypeNode}
+use Rattle.types.specs.declared.value.TypeNode.TheVariants as node
+use Rattle.types.specs.declared.value.TypeNode.TheVariants.{outs-Unknown}
+use Rattle.types.proofs.Trees.{one_tree}
+
+unknown_shape : (number : ℕ) → shape (node.Unknown number) ≡ unknown number
+unknown_shape number = search (rules, outs-Unknown)
+
+-- the type that a name reads, where it is unknown
+pub unknown_at : (s : State TypeNode) (n : Name) (number : ℕ) → reads s n ≡ Some (node.Unknown number)
+    → shape_at s n ≡ Some (unknown number)
+unknown_at s n number read = ap (option_map shape) read ∙ ap Some (unknown_shape number)
+
+module _ (s : State TypeNode) (v : ℕ → Tree) where
+  stands_once : (n : Name) (t u : Tree) → StandsFor s v n t → StandsFor s v n u → t ≡ u
+  stands_once n t u a b = a.2 ∙ ap (replaced v) (one_tree s a.0 b.0 n n refl a.1 b.1) ∙ sym b.2
+
+  -- a type that isn't known is what it is taken for
+  pub unknown_stands : (n : Name) (number : ℕ) → shape_at s n ≡ Some (unknown number) → StandsFor s v n (v number)
+  unknown_stands n number at = (unknowns number, at, refl)
+
+  pub unknown_is : (n : Name) (number : ℕ) → shape_at s n ≡ Some (unknown number) → (t : Tree)
+      → StandsFor s v n t → t ≡ v number
+  unknown_is n number at t h = stands_once n t (v number) h (unknown_stands n number at)
+
+  pub agree_same : (n m : Name) → n ≡ m → Agree s v n m
+  agree_same n m is t = (subst (λ x. StandsFor s v x t) is, subst (λ x. StandsFor s v x t) (sym is))
+
+  pub agree_then : (a b c : Name) → Agree s v a b → Agree s v b c → Agree s v a c
+  agree_then a b c f g t = (λ h. (g t).0 ((f t).0 h), λ h. (f t).1 ((g t).1 h))
+
+  pub agree_back : (a b : Name) → Agree s v a b → Agree s v b a
+  agree_back a b f t = ((f t).1, (f t).0)
+
+  -- two types that are one tree agree
+  agree_at : (a b : Name) (t : Tree) → StandsFor s v a t → StandsFor s v b t → Agree s v a b
+  agree_at a b t h k u = (
+    λ g. subst (StandsFor s v b) (stands_once a t u h g) k,
+    λ g. subst (StandsFor s v a) (stands_once b t u k g) h,
+  )
+
+  pub agree_known : (u : Unknowns) → Solves s u v → (number : ℕ) (a : Name) (handle : Ref (Values TypeNode))
+      → shape_at s a ≡ Some (unknown number) → slice_get u.known.items number ≡ Some (known.Is handle)
+      → Agree s v a (ref_name handle)
+  agree_known u solves number a handle at is =
+      agree_at a (ref_name handle) (v number) (unknown_stands a number at) (solves number handle is)
+
+-- a level in place of another, or of what is known
+pub nothing_set : (l : ℕ) (xs : List Known) (i n x : ℕ) → slice_get xs n ≡ Some (known.Nothing x)
+    → (y : ℕ) × (slice_get (slice_set xs i (known.Nothing l)) n ≡ Some (known.Nothing y))
+nothing_set l [] i n x e = absurd (cc)
+nothing_set l (k ∷ xs) zero zero x e = (l, refl)
+nothing_set l (k ∷ xs) zero (suc n) x e = (x, e)
+nothing_set l (k ∷ xs) (suc i) zero x e = (x, e)
+nothing_set l (k ∷ xs) (suc i) (suc n) x e = nothing_set l xs i n x e
+
+-- nothing of these is known but what was, and nothing of one of them
+pub record StillOpen (s : State TypeNode) (old : Unknowns) (number : ℕ) (u : Unknowns) : Type 0 where
+  pub solved : (v : ℕ → Tree) → Solves s u v ↔ Solves s old v
+  pub free : IsOpen u number
+
+pub still_lowered : (s : State TypeNode) (old : Unknowns) (number : ℕ) (u w : Unknowns) → StillOpen s old number u
+    → ((v : ℕ → Tree) → Solves s w v ↔ Solves s u v) → ((n : ℕ) → IsOpen u n → IsOpen w n)
+    → StillOpen s old number w
+still_lowered s old number u w still same free = record {
+  solved = λ v. (λ h. (still.solved v).0 ((same v).0 h), λ h. (same v).1 ((still.solved v).1 h));
+  free = free number still.free;
+}
+
+-- an unknown type becomes another
+module _ (s : State TypeNode) (old new : Unknowns) (number : ℕ) (n m : Name)
+    (at : shape_at s n ≡ Some (unknown number)) (binds : Binds s old new number m) where
+  pub binds_first : Unifies s old new n m
+  binds_first = record {
+    general = λ v solves one. (binds v).1
+        (solves, subst (StandsFor s v m) (unknown_is s v n number at one.0 one.1) one.2);
+    solved = λ v solves. ((binds v).0 solves).0;
+    equal = λ v solves. agree_at s v n m (v number) (unknown_stands s v n number at) ((binds v).0 solves).1;
+  }
+
+  pub binds_second : Unifies s old new m n
+  binds_second = record {
+    general = λ v solves one. binds_first.general v solves (one.0, one.2, one.1);
+    solved = binds_first.solved;
+    equal = λ v solves. agree_back s v n m (binds_first.equal v solves);
+  }

@@ -1,0 +1,63 @@
+-- What unification comes to.
+use Rattle.std.specs.Prelude.{◌≡◌, ◌↔◌, ℕ, Bool, true, false, Some, slice_get}
+use Rattle.ra_ap_intern.specs.Handle.{ref_name}
+use Rattle.ra_ap_intern.specs.Name.{Name}
+use Rattle.ra_ap_intern.specs.State.{State}
+use Rattle.ra_ap_intern.specs.declared.kind.Values.{Values}
+use Rattle.ra_ap_intern.specs.declared.storage.Ref.{Ref}
+use Rattle.types.specs.Tree.{Tree, integers, booleans, unknowns, anything, functions, pairs, UnfoldsTo}
+use Rattle.types.specs.Types.{Shape, function, pair, shape_at}
+use Rattle.types.specs.declared.unknowns.Known.TheVariants as known
+use Rattle.types.specs.declared.unknowns.Unknowns.{Unknowns}
+use Rattle.types.specs.declared.value.TypeNode.{TypeNode}
+
+-- a tree with these in the place of unknown types
+abbrev pub replaced : (ℕ → Tree) → Tree → Tree
+replaced v integers = integers
+replaced v booleans = booleans
+replaced v (unknowns number) = v number
+replaced v (anything number) = anything number
+replaced v (functions t u) = functions (replaced v t) (replaced v u)
+replaced v (pairs t u) = pairs (replaced v t) (replaced v u)
+
+module _ (s : State TypeNode) where
+  -- the name's type is this tree, where unknown types are these
+  abbrev pub StandsFor : (ℕ → Tree) → Name → Tree → Type 0
+  StandsFor v n tree = (t : Tree) × UnfoldsTo s n t × (tree ≡ replaced v t)
+
+  -- unknown types are these by what is known of them
+  abbrev pub Solves : Unknowns → (ℕ → Tree) → Type 0
+  Solves u v = (number : ℕ) (handle : Ref (Values TypeNode)) →
+      slice_get u.known.items number ≡ Some (known.Is handle) → StandsFor v (ref_name handle) (v number)
+
+  -- two types are one tree then
+  abbrev pub AreOne : (ℕ → Tree) → Name → Name → Type 0
+  AreOne v n m = (tree : Tree) × StandsFor v n tree × StandsFor v m tree
+
+  -- the one is each tree that the other is
+  abbrev pub Agree : (ℕ → Tree) → Name → Name → Type 0
+  Agree v n m = (tree : Tree) → StandsFor v n tree ↔ StandsFor v m tree
+
+  -- the solutions are those of before by which the two types are one tree
+  pub record Unifies (old new : Unknowns) (n m : Name) : Type 0 where
+    pub general : (v : ℕ → Tree) → Solves old v → AreOne v n m → Solves new v
+    pub solved : (v : ℕ → Tree) → Solves new v → Solves old v
+    pub equal : (v : ℕ → Tree) → Solves new v → Agree v n m
+
+  -- the solutions are those of before by which an unknown type is this one
+  abbrev pub Binds : (old new : Unknowns) → ℕ → Name → Type 0
+  Binds old new number n = (v : ℕ → Tree) → Solves new v ↔ (Solves old v × StandsFor v n (v number))
+
+-- nothing is known of an unknown type
+abbrev pub IsOpen : Unknowns → ℕ → Type 0
+IsOpen u number = (level : ℕ) × (slice_get u.known.items number ≡ Some (known.Nothing level))
+
+-- a function, or a pair
+abbrev pub two : Bool → Name → Name → Shape
+two true first second = function first second
+two false first second = pair first second
+
+-- two types of one kind, with these parts
+abbrev pub HaveParts : State TypeNode → (n m a b c d : Name) → Type 0
+HaveParts s n m a b c d =
+    (kind : Bool) × (shape_at s n ≡ Some (two kind a b)) × (shape_at s m ≡ Some (two kind c d))
