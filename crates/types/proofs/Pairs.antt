@@ -76,44 +76,35 @@ module _ (s : State TypeNode) (v : ℕ → Tree) where
     first_is : StandsFor s v a first
     second_is : StandsFor s v b second
 
-  out : (kind : Bool) (n a b : Name) → shape_at s n ≡ Some (two kind a b) → (x : Tree)
-      → StandsFor s v n x → Out kind a b x
-  out kind n a b at x h = go kind h.0 at h.1 h.2
-    where
-      go : (kind : Bool) (t : Tree) → shape_at s n ≡ Some (two kind a b) → UnfoldsTo s n t → x ≡ replaced v t
-          → Out kind a b x
-      go true integers at u e = absurd (cc)
-      go true booleans at u e = absurd (cc)
-      go true (unknowns number) at u e = absurd (cc)
-      go true (anything number) at u e = absurd (cc)
-      go true (functions y z) at u e =
-          let here = u.2 in
-          let left : u.0 ≡ a = cc in
-          let right : u.1 ≡ b = cc in
-          record {
-            first = replaced v y;
-            second = replaced v z;
-            is = e;
-            first_is = (y, subst (λ m. UnfoldsTo s m y) left u.3, refl);
-            second_is = (z, subst (λ m. UnfoldsTo s m z) right u.4, refl);
-          }
-      go true (pairs y z) at u e = let here = u.2 in absurd (cc)
-      go false integers at u e = absurd (cc)
-      go false booleans at u e = absurd (cc)
-      go false (unknowns number) at u e = absurd (cc)
-      go false (anything number) at u e = absurd (cc)
-      go false (functions y z) at u e = let here = u.2 in absurd (cc)
-      go false (pairs y z) at u e =
-          let here = u.2 in
-          let left : u.0 ≡ a = cc in
-          let right : u.1 ≡ b = cc in
-          record {
-            first = replaced v y;
-            second = replaced v z;
-            is = e;
-            first_is = (y, subst (λ m. UnfoldsTo s m y) left u.3, refl);
-            second_is = (z, subst (λ m. UnfoldsTo s m z) right u.4, refl);
-          }
+  module _ (a b : Name) (x : Tree) where
+    from_parts : (kind : Bool) (m n : Name) (y z : Tree) → m ≡ a → n ≡ b → UnfoldsTo s m y → UnfoldsTo s n z
+        → x ≡ make kind (replaced v y) (replaced v z) → Out kind a b x
+    from_parts kind m n y z left right first second is = record {
+      first = replaced v y;
+      second = replaced v z;
+      is = is;
+      first_is = (y, subst (λ o. UnfoldsTo s o y) left first, refl);
+      second_is = (z, subst (λ o. UnfoldsTo s o z) right second, refl);
+    }
+
+    out_of : (n : Name) (kind : Bool) (t : Tree) → shape_at s n ≡ Some (two kind a b) → UnfoldsTo s n t → x ≡ replaced v t
+        → Out kind a b x
+    out_of n true integers at u e = absurd (cc)
+    out_of n true booleans at u e = absurd (cc)
+    out_of n true (unknowns number) at u e = absurd (cc)
+    out_of n true (anything number) at u e = absurd (cc)
+    out_of n true (functions y z) at u e = let here = u.2 in from_parts true u.0 u.1 y z (cc) (cc) u.3 u.4 e
+    out_of n true (pairs y z) at u e = let here = u.2 in absurd (cc)
+    out_of n false integers at u e = absurd (cc)
+    out_of n false booleans at u e = absurd (cc)
+    out_of n false (unknowns number) at u e = absurd (cc)
+    out_of n false (anything number) at u e = absurd (cc)
+    out_of n false (functions y z) at u e = let here = u.2 in absurd (cc)
+    out_of n false (pairs y z) at u e = let here = u.2 in from_parts false u.0 u.1 y z (cc) (cc) u.3 u.4 e
+
+  out : (kind : Bool) (n a b : Name) → shape_at s n ≡ Some (two kind a b) → (x : Tree) → StandsFor s v n x
+      → Out kind a b x
+  out kind n a b at x h = out_of a b x n kind h.0 at h.1 h.2
 
   -- the one is this tree exactly if the other is
   abbrev AgreeAt : Tree → Name → Name → Type 0

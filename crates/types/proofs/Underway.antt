@@ -1,5 +1,6 @@
 -- Unification under way.
 use Rattle.std.proofs.Common.{◌≡◌, ◌↔◌, ◌⊎◌, inl, inr, ℕ, Bool, true, false, ◌&&◌, not, List, [], ◌∷◌, ◌++◌, refl, sym, subst, ◌∙◌}
+use Rattle.std.specs.Bool.{MatchBool}
 use Rattle.std.specs.List.{list_any}
 use Rattle.std.specs.List.Sorted.{IsPermutation}
 use Rattle.std.proofs.lemmas.List.Elements.{Contains-append_cases, Contains-append_left, Contains-append_right, Contains-push}
@@ -21,23 +22,25 @@ pub record MetAlso (old new : List Both) (f s : Name) : Type 0 where
   pub here : Among new f s
   pub cases : (x y : Name) → Among new x y → Among old x y ⊎ ((f ≡ x) × (s ≡ y))
 
-pub met_also : (old new : List Both) (p : Both) → IsPermutation (p ∷ old) new
-    → MetAlso old new (ref_name p.0) (ref_name p.1)
-met_also old new p moved = record {
-  keeps = λ x y h.
-      (h.0, Contains-permutation (p ∷ old) new h.0 moved (Contains-append_right (p ∷ []) old h.0 h.1), h.2, h.3);
-  here = (
-    p,
-    Contains-permutation (p ∷ old) new p moved (Contains-append_left (p ∷ []) old p (Contains-push [] p)),
-    refl,
-    refl,
-  );
-  cases = λ x y h. elim (Contains-append_cases (p ∷ []) old h.0
-      (Contains-permutation new (p ∷ old) h.0 (IsPermutation-sym (p ∷ old) new moved) h.1)) [
-        | inl one ↦ elim (among_cases [] p x y (h.0, one, h.2, h.3)) [ inl none ↦ absurd (among_none x y none) | inr names ↦ inr names ]
-        | inr in' ↦ inl (h.0, in', h.2, h.3)
-      ];
-}
+pub met_also : (old new : List Both) (p : Both) (added : Bool) → added ≡ true
+    → MatchBool added (IsPermutation (p ∷ old) new) (new ≡ old) → MetAlso old new (ref_name p.0) (ref_name p.1)
+met_also old new p added is puts =
+    let moved = subst (λ t. MatchBool t (IsPermutation (p ∷ old) new) (new ≡ old)) is puts in
+    record {
+      keeps = λ x y h.
+          (h.0, Contains-permutation (p ∷ old) new h.0 moved (Contains-append_right (p ∷ []) old h.0 h.1), h.2, h.3);
+      here = (
+        p,
+        Contains-permutation (p ∷ old) new p moved (Contains-append_left (p ∷ []) old p (Contains-push [] p)),
+        refl,
+        refl,
+      );
+      cases = λ x y h. elim (Contains-append_cases (p ∷ []) old h.0
+          (Contains-permutation new (p ∷ old) h.0 (IsPermutation-sym (p ∷ old) new moved) h.1)) [
+            | inl one ↦ elim (among_cases [] p x y (h.0, one, h.2, h.3)) [ inl none ↦ absurd (among_none x y none) | inr names ↦ inr names ]
+            | inr in' ↦ inl (h.0, in', h.2, h.3)
+          ];
+    }
 
 -- a pair that the set finds was met
 pub met_before : (met : List Both) (eq : Handle → Handle → Bool)
@@ -72,9 +75,12 @@ module _ (st : State TypeNode) (old : Unknowns) (left right : Name) where
     equal = λ v solves. all_agree st v met left right (is.held v solves);
   }
 
-  module _ (u : Unknowns) (rest met : List Both) (p : Both) (is : Underway u (rest ++ p ∷ []) met) (f s : Name)
+  module _ (u : Unknowns) (all rest met : List Both) (p : Both) (last : all ≡ rest ++ p ∷ []) (before : Underway u all met) (f s : Name)
       (first : (v : ℕ → Tree) → Solves st u v → Agree st v (ref_name p.0) f)
       (second : (v : ℕ → Tree) → Solves st u v → Agree st v (ref_name p.1) s) where
+    is : Underway u (rest ++ p ∷ []) met
+    is = subst (λ xs. Underway u xs met) last before
+
     -- the last pair gives way to others
     step : (w : Unknowns) (next now : List Both)
         → ((v : ℕ → Tree) → Solves st u v → AreOne st v f s
@@ -196,7 +202,7 @@ module _ (st : State TypeNode) (old : Unknowns) (left right : Name) where
           from v one n m in' =
               let ones = parts_are_one st v f s a b c d parts one in
               elim (among_cases (rest ++ q ∷ []) r n m in') [
-                | inl before ↦ elim (among_cases rest q n m before) [
+                | inl earlier ↦ elim (among_cases rest q n m earlier) [
                   | inl other ↦ inl other
                   | inr names ↦ inr (subst (λ x. AreOne st v x m) names.0 (subst (λ x. AreOne st v b x) names.1 ones.1))
                 ]

@@ -103,6 +103,7 @@ fn bind(
     ensures { OnOk result (Binds types.now unknowns.old unknowns.new unknown.0 (ref_name handle)) }
 {
     let (number, unknown) = unknown;
+    // Resolved types are never known ones, so there is a level.
     let Some(level) = unknowns.level(number) else {
         return Err(TypeError::TooLarge);
     };
@@ -118,15 +119,16 @@ fn bind(
         if part == unknown {
             return Err(TypeError::Infinite(unknown, handle));
         }
-        match types.get(part) {
-            Some(TypeNode::Unknown(other)) => unknowns.lower(other, level),
-            Some(TypeNode::Function(first, second) | TypeNode::Pair(first, second)) => {
-                if met.insert(part)? {
-                    open.push(second)?;
-                    open.push(first)?;
-                }
+        let node = types.get(part);
+        if let Some(TypeNode::Unknown(other)) = node {
+            unknowns.lower(other, level);
+            continue;
+        }
+        if let Some(TypeNode::Function(first, second) | TypeNode::Pair(first, second)) = node {
+            if met.insert(part)? {
+                open.push(second)?;
+                open.push(first)?;
             }
-            _ => {}
         }
     }
     Err(TypeError::TooLarge)

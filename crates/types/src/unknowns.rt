@@ -28,7 +28,9 @@ pub struct Unknowns {
 
 impl Unknowns {
     /// No unknown type.
-    pub fn new(alloc: Global) -> Unknowns {
+    pub fn new(alloc: Global) -> Unknowns
+        ensures { (s : State Node) (v : ℕ → Tree) → Solves s result v }
+    {
         Unknowns {
             known: Vec::new(alloc),
         }
