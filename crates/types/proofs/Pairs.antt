@@ -111,28 +111,20 @@ module _ (s : State TypeNode) (v : ℕ → Tree) where
   AgreeAt x n m = StandsFor s v n x ↔ StandsFor s v m x
 
   -- types of one kind agree where their parts do on what is smaller
-  module _ (n m a b c d : Name) (parts : HaveParts s n m a b c d) (x : Tree)
-      (firsts : (t : Tree) → size t < size x → AgreeAt t a c)
-      (seconds : (t : Tree) → size t < size x → AgreeAt t b d) where
-    forth : StandsFor s v n x → StandsFor s v m x
-    forth h =
-        let o = out parts.0 n a b parts.1 x h in
-        let sizes = ap size o.is in
-        let one = first_less parts.0 o.first o.second in
-        let two = second_less parts.0 o.first o.second in
-        subst (StandsFor s v m) (sym o.is) (into parts.0 m c d parts.2 o.first o.second
-        ((firsts o.first (omega (arith, sizes, one))).0 o.first_is)
-        ((seconds o.second (omega (arith, sizes, two))).0 o.second_is))
+  forth : (n m a b c d : Name) → HaveParts s n m a b c d → (x : Tree)
+      → ((t : Tree) → size t < size x → AgreeAt t a c) → ((t : Tree) → size t < size x → AgreeAt t b d)
+      → StandsFor s v n x → StandsFor s v m x
+  forth n m a b c d parts x firsts seconds h =
+      let o = out parts.0 n a b parts.1 x h in
+      let sizes = ap size o.is in
+      let one = first_less parts.0 o.first o.second in
+      let two = second_less parts.0 o.first o.second in
+      subst (StandsFor s v m) (sym o.is) (into parts.0 m c d parts.2 o.first o.second
+      ((firsts o.first (omega (arith, sizes, one))).0 o.first_is)
+      ((seconds o.second (omega (arith, sizes, two))).0 o.second_is))
 
-    back : StandsFor s v m x → StandsFor s v n x
-    back h =
-        let o = out parts.0 m c d parts.2 x h in
-        let sizes = ap size o.is in
-        let one = first_less parts.0 o.first o.second in
-        let two = second_less parts.0 o.first o.second in
-        subst (StandsFor s v n) (sym o.is) (into parts.0 n a b parts.1 o.first o.second
-        ((firsts o.first (omega (arith, sizes, one))).1 o.first_is)
-        ((seconds o.second (omega (arith, sizes, two))).1 o.second_is))
+  other_way : (x : Tree) (n m : Name) → AgreeAt x n m → AgreeAt x m n
+  other_way x n m agree = (agree.1, agree.0)
 
   -- parts of types that are one tree are one tree each
   pub parts_are_one : (n m a b c d : Name) → HaveParts s n m a b c d → AreOne s v n m
@@ -180,7 +172,8 @@ module _ (s : State TypeNode) (v : ℕ → Tree) where
         let firsts = λ (u : Tree) (less : size u < size t). all u less j.0 j.2 j.5 in
         let seconds = λ (u : Tree) (less : size u < size t). all u less j.1 j.3 j.6 in (
           forth x y j.0 j.1 j.2 j.3 j.4 t firsts seconds,
-          back x y j.0 j.1 j.2 j.3 j.4 t firsts seconds,
+          forth y x j.2 j.3 j.0 j.1 (j.4.0, j.4.2, j.4.1) t
+              (λ u less. other_way u j.0 j.2 (firsts u less)) (λ u less. other_way u j.1 j.3 (seconds u less)),
         )
 
     -- nothing is left, so pairs that were met agree
