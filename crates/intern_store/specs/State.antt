@@ -33,6 +33,16 @@ state_code {V} code =
     })
     (λ _. refl)
 
+-- a state, and how its values are hashed
+pub record Hashed (V H : Type 0) : Type 0 where
+  pub state : State V
+  pub hasher : H
+
+abbrev pub hashed_code : {V H : Type 0} → Coded V → Coded H → Coded (Hashed V H)
+hashed_code {V} {H} v h =
+    code_by (State V × H) (coded× (state_code v) h)
+    (λ s. (s.state, s.hasher)) (λ p. record { state = p.0; hasher = p.1 }) (λ _. refl)
+
 -- every birth was given, no count is past the limit, and no two values are equal
 pub record IsState {V : Type 0} (eq : V → V → Bool) (s : State V) : Type 0 where
   pub below : (b : ℕ) → IsSome (map.get s.map b) → b < s.next

@@ -14,12 +14,18 @@ pub trait Entries: Sized {
     /// What is kept, as contracts see it.
     type Value: Eq;
 
+    /// How values are hashed.
+    type Hasher;
+
     // What is kept under each birth.
     ghost entries: { Self → map.FinMap nat_cmp (Kept Self.Value) };
 
-    /// A table with no entry.
-    fn new(alloc: Global) -> Self
-        ensures { entries result ≡ map.empty };
+    ghost hashes_by: { Self → Self.Hasher };
+
+    /// A table with no entry, which hashes by this.
+    fn new(alloc: Global, hasher: Self::Hasher) -> Self
+        ensures entries { entries result ≡ map.empty }
+        ensures hasher { hashes_by result ≡ hasher };
 
     /// How many entries there are.
     fn len(&self) -> usize
@@ -39,14 +45,16 @@ pub trait Entries: Sized {
         ensures count { result
             ≡ option_map (λ k. k.count) (map.get (entries self.old) spot.birth) }
         ensures state { entries self.new ≡ recounted (raised top)
-            (entries self.old) spot.birth (map.get (entries self.old) spot.birth) };
+            (entries self.old) spot.birth (map.get (entries self.old) spot.birth) }
+        ensures hasher { hashes_by self.new ≡ hashes_by self.old };
 
     /// Lowers the count of an entry, unless it is zero, and answers the count before.
     fn count_down(&mut self, spot: Spot) -> Option<u64>
         ensures count { result
             ≡ option_map (λ k. k.count) (map.get (entries self.old) spot.birth) }
         ensures state { entries self.new ≡ recounted (λ n. n - 1)
-            (entries self.old) spot.birth (map.get (entries self.old) spot.birth) };
+            (entries self.old) spot.birth (map.get (entries self.old) spot.birth) }
+        ensures hasher { hashes_by self.new ≡ hashes_by self.old };
 }
 
 /// A table from which single entries can be removed.
@@ -55,7 +63,8 @@ pub trait Removes: Entries {
     fn remove(&mut self, spot: Spot) -> Option<Self::Value>
         ensures value { result
             ≡ option_map (λ k. k.value) (map.get (Self.entries self.old) spot.birth) }
-        ensures removed { Self.entries self.new ≡ map.remove (Self.entries self.old) spot.birth };
+        ensures removed { Self.entries self.new ≡ map.remove (Self.entries self.old) spot.birth }
+        ensures hasher { Self.hashes_by self.new ≡ Self.hashes_by self.old };
 }
 
 /// A table in which a value is looked up by a query of this type, which names it.
@@ -64,7 +73,7 @@ pub trait Finds<Q>: Entries {
     ghost value: { Q → Self.Value };
 
     // Its hash.
-    ghost hash_of: { Q → ℕ };
+    ghost hash_of: { Self.Hasher → Q → ℕ };
 
     /// An entry whose value equals the one that is named, or else its hash. It takes no memory.
     fn find(&self, query: &Q) -> Result<Spot, u64>
@@ -73,7 +82,7 @@ pub trait Finds<Q>: Entries {
             ≡ true) }
         ensures none { OnErr result ((b : ℕ) →
             is_at Self.Value.eq (value query.now) (map.get (Self.entries self.now) b) ≡ false) }
-        ensures hash { IfErr result (λ h. h ≡ hash_of query.now) };
+        ensures hash { IfErr result (λ h. h ≡ hash_of (Self.hashes_by self.now) query.now) };
 }
 
 /// A table that takes what is offered by such a query.
@@ -82,11 +91,12 @@ pub trait Takes<O>: Finds<O> {
     /// is no memory the offer comes back.
     fn insert(&mut self, birth: u64, hash: u64, offer: O, count: u64) -> Result<usize, O>
         requires above { (b : ℕ) → IsSome (map.get (Self.entries self.old) b) → b < birth }
-        requires hash { hash ≡ Self.Finds.hash_of offer }
+        requires hash { hash ≡ Self.Finds.hash_of (Self.hashes_by self.old) offer }
         ensures ok { OnOk result (Self.entries self.new ≡ map.insert (Self.entries self.old) birth
             (record { value = Self.Finds.value offer; count = count })) }
         ensures err { OnErr result (Self.entries self.new ≡ Self.entries self.old) }
-        ensures back { IfErr result (λ back. back ≡ offer) };
+        ensures back { IfErr result (λ back. back ≡ offer) }
+        ensures hasher { Self.hashes_by self.new ≡ Self.hashes_by self.old };
 }
 
 /// A table in which what is offered is looked up and counted by one call.
@@ -105,8 +115,10 @@ pub trait Raises<O>: Takes<O> {
         ensures none { OnErr result ((b : ℕ) →
             is_at Self.Value.eq (Self.Finds.value offer.now) (map.get (Self.entries self.old) b)
             ≡ false) }
-        ensures hash { IfErr result (λ h. h ≡ Self.Finds.hash_of offer.now) }
-        ensures same { OnErr result (Self.entries self.new ≡ Self.entries self.old) };
+        ensures hash { IfErr result (λ h.
+            h ≡ Self.Finds.hash_of (Self.hashes_by self.old) offer.now) }
+        ensures same { OnErr result (Self.entries self.new ≡ Self.entries self.old) }
+        ensures hasher { Self.hashes_by self.new ≡ Self.hashes_by self.old };
 }
 
 /// Which births a sweep keeps.
@@ -123,6 +135,7 @@ pub trait Keeps {
 pub trait Sweeps<M: Keeps>: Entries {
     /// Drops every entry that isn't marked. It takes no memory.
     fn keep(&mut self, marks: &M)
-        ensures { Self.entries self.new
-            ≡ map.retain_keys (Self.entries self.old) (M.marked marks.now) };
+        ensures kept { Self.entries self.new
+            ≡ map.retain_keys (Self.entries self.old) (M.marked marks.now) }
+        ensures hasher { Self.hashes_by self.new ≡ Self.hashes_by self.old };
 }

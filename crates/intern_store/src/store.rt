@@ -13,7 +13,8 @@ use crate::refusal::{Refusal, Refused};
 use std::alloc::Global;
 use std::marker::Model;
 
-/// A table of entries, with the storage's number and limits and the next birth.
+/// A table of entries, with the storage's number and limits and the next birth. Contracts see its
+/// state, and how it hashes.
 ///
 /// Each refusal and each count is decided here, once for every kind of storage.
 #[derive(Drop)]
@@ -26,18 +27,21 @@ pub struct Store<E: Entries> {
 }
 
 impl<E: Entries> Model for Store<E> {
-    ghost use Rattle.intern_store.specs.State.{State, state_code, IsState};
+    ghost use Rattle.intern_store.specs.State.{Hashed, hashed_code, IsState};
 
-    ghost Value = { State E.Value };
+    ghost Value = { Hashed E.Value E.Hasher };
 
-    ghost coded = { state_code E.Value.code };
+    ghost coded = { hashed_code E.Value.code E.Hasher.code };
 
     ghost view = { λ a. record {
-      number = a.number;
-      next = a.next;
-      top = a.top;
-      numbers = a.numbers;
-      map = E.entries a.table;
+      state = record {
+        number = a.number;
+        next = a.next;
+        top = a.top;
+        numbers = a.numbers;
+        map = E.entries a.table;
+      };
+      hasher = E.hashes_by a.table;
     } };
 
     ghost invariant = { λ a. IsState E.Value.eq (record {
@@ -49,46 +53,52 @@ impl<E: Entries> Model for Store<E> {
     }) };
 }
 
-impl<E: Entries> Store<E> {
-    /// An empty store with the largest limits. It takes no memory.
+impl<E: Entries> Store<E>
+where
+    E::Hasher: Default,
+{
+    /// An empty store with the largest limits, which hashes by the default. It takes no memory.
     pub fn new(alloc: Global, number: u64) -> Store<E>
-        ensures { result ≡ new_state number u64.MAX u64.MAX }
+        ensures { result.state ≡ new_state number u64.MAX u64.MAX }
     {
-        Store::with_limits(alloc, number, Limits::MAX)
+        Store::with_hasher(alloc, number, Limits::MAX, E::Hasher::default())
     }
+}
 
-    /// An empty store. It takes no memory.
-    pub fn with_limits(alloc: Global, number: u64, limits: Limits) -> Store<E>
+impl<E: Entries> Store<E> {
+    /// An empty store that hashes by this. It takes no memory.
+    pub fn with_hasher(alloc: Global, number: u64, limits: Limits, hasher: E::Hasher) -> Store<E>
         requires { 0 < limits.top }
-        ensures { result ≡ new_state number limits.top limits.numbers }
+        ensures state { result.state ≡ new_state number limits.top limits.numbers }
+        ensures hasher { result.hasher ≡ hasher }
     {
         Store {
             number,
             next: 0,
             top: limits.top,
             numbers: limits.numbers,
-            table: E::new(alloc),
+            table: E::new(alloc, hasher),
         }
     }
 
     /// The storage's number.
     pub fn number(&self) -> u64
-        ensures number { result ≡ self.now.number }
-        ensures state { IsState E.Value.eq self.now }
+        ensures number { result ≡ self.now.state.number }
+        ensures state { IsState E.Value.eq self.now.state }
     {
         self.number
     }
 
     /// How many entries there are.
     pub fn len(&self) -> usize
-        ensures { result ≡ map.len self.now.map }
+        ensures { result ≡ map.len self.now.state.map }
     {
         self.table.len()
     }
 
     /// Whether there is no entry.
     pub fn is_empty(&self) -> bool
-        ensures { result ≡ (map.len self.now.map == 0) }
+        ensures { result ≡ (map.len self.now.state.map == 0) }
     {
         self.len() == 0
     }
@@ -96,9 +106,9 @@ impl<E: Entries> Store<E> {
     // Where the entry of a key is looked for. A key of another storage is refused.
     fn spot(&self, key: EntryKey) -> Result<Spot, Refusal>
         ensures own { IfOk result (λ s.
-            (key.storage ≡ self.now.number) × (s ≡ key.spot)) }
+            (key.storage ≡ self.now.state.number) × (s ≡ key.spot)) }
         ensures foreign { IfErr result (λ why.
-            (key.storage ≢ self.now.number) × (why ≡ Refusal.Foreign)) }
+            (key.storage ≢ self.now.state.number) × (why ≡ Refusal.Foreign)) }
     {
         if key.storage != self.number {
             return Err(Refusal::Foreign);
@@ -108,7 +118,7 @@ impl<E: Entries> Store<E> {
 
     /// The table.
     pub fn table(&self) -> &E
-        ensures { E.entries result.now ≡ self.now.map }
+        ensures { E.entries result.now ≡ self.now.state.map }
     {
         &self.table
     }
@@ -116,8 +126,8 @@ impl<E: Entries> Store<E> {
     /// The table, where the number is that of this storage.
     pub fn own(&self, number: u64) -> Option<&E>
         ensures own { IfSome result (λ t.
-            (number ≡ self.now.number) × (E.entries t.now ≡ self.now.map)) }
-        ensures foreign { IfNone result (number ≢ self.now.number) }
+            (number ≡ self.now.state.number) × (E.entries t.now ≡ self.now.state.map)) }
+        ensures foreign { IfNone result (number ≢ self.now.state.number) }
     {
         if number != self.number {
             return None;
@@ -127,14 +137,14 @@ impl<E: Entries> Store<E> {
 
     /// The count of the entry of a key.
     pub fn count(&self, key: EntryKey) -> Option<u64>
-        ensures { result ≡ counts self.now (key_name key) }
+        ensures { result ≡ counts self.now.state (key_name key) }
     {
         self.table.count(self.spot(key).ok()?)
     }
 
     // The key of a spot.
     fn key(&self, spot: Spot) -> EntryKey
-        ensures { key_name result ≡ name_in self.now spot.birth }
+        ensures { key_name result ≡ name_in self.now.state spot.birth }
     {
         EntryKey {
             storage: self.number,
@@ -144,8 +154,8 @@ impl<E: Entries> Store<E> {
 
     /// The key of the entry of a birth.
     pub fn entry(&self, birth: u64) -> Result<EntryKey, Refusal>
-        ensures ok { IfOk result (λ k. key_name k ≡ name_in self.now birth) }
-        ensures refused { Owes result (due_at (entry_at self.now birth) any_count) }
+        ensures ok { IfOk result (λ k. key_name k ≡ name_in self.now.state birth) }
+        ensures refused { Owes result (due_at (entry_at self.now.state birth) any_count) }
     {
         match self.table.place(birth) {
             None => Err(Refusal::Gone),
@@ -155,8 +165,8 @@ impl<E: Entries> Store<E> {
 
     /// The key of the entry of a birth, where its count isn't zero.
     pub fn counted_entry(&self, birth: u64) -> Result<EntryKey, Refusal>
-        ensures ok { IfOk result (λ k. key_name k ≡ name_in self.now birth) }
-        ensures refused { Owes result (due_at (entry_at self.now birth) zero_count) }
+        ensures ok { IfOk result (λ k. key_name k ≡ name_in self.now.state birth) }
+        ensures refused { Owes result (due_at (entry_at self.now.state birth) zero_count) }
     {
         let key = self.entry(birth)?;
         if self.table.count(key.spot) == Some(0) {
@@ -170,9 +180,9 @@ impl<E: Entries> Store<E> {
     where
         E: Finds<Q>,
         ensures birth { option_map (λ s. s.birth) (result_ok result)
-            ≡ birth_of E.Value.eq self.now (E.value query.now) }
-        ensures there { IfOk result (λ s. IsSome (entry_at self.now s.birth)) }
-        ensures hash { IfErr result (λ h. h ≡ E.hash_of query.now) }
+            ≡ birth_of E.Value.eq self.now.state (E.value query.now) }
+        ensures there { IfOk result (λ s. IsSome (entry_at self.now.state s.birth)) }
+        ensures hash { IfErr result (λ h. h ≡ E.hash_of self.now.hasher query.now) }
     {
         // A field that is read brings in the invariant, which the table alone doesn't know.
         let _next = self.next;
@@ -184,7 +194,7 @@ impl<E: Entries> Store<E> {
     where
         E: Finds<Q>,
         ensures { option_map key_name result
-            ≡ name_of_value E.Value.eq self.now (E.value query.now) }
+            ≡ name_of_value E.Value.eq self.now.state (E.value query.now) }
     {
         Some(self.key(self.search(query).ok()?))
     }
@@ -193,13 +203,14 @@ impl<E: Entries> Store<E> {
     fn add<O>(&mut self, hash: u64, offer: O, count: u64) -> Result<EntryKey, Refused<O>>
     where
         E: Takes<O>,
-        requires hash { hash ≡ E.hash_of offer }
-        requires fits { count ≤ self.old.top }
-        requires fresh { birth_of E.Value.eq self.old (E.value offer) ≡ None }
-        ensures ok { IfOk result (λ k. key_name k ≡ name_in self.old self.old.next) }
-        ensures refused { MayWantBack result (due_adding self.old) true offer }
-        ensures state { Becomes result self.old self.new
-            (added_with count self.old (E.value offer)) }
+        requires hash { hash ≡ E.hash_of self.old.hasher offer }
+        requires fits { count ≤ self.old.state.top }
+        requires fresh { birth_of E.Value.eq self.old.state (E.value offer) ≡ None }
+        ensures ok { IfOk result (λ k. key_name k ≡ name_in self.old.state self.old.state.next) }
+        ensures refused { MayWantBack result (due_adding self.old.state) true offer }
+        ensures state { Becomes result self.old.state self.new.state
+            (added_with count self.old.state (E.value offer)) }
+        ensures hasher { self.new.hasher ≡ self.old.hasher }
     {
         if self.next == self.numbers {
             return Err(Refused {
@@ -222,8 +233,9 @@ impl<E: Entries> Store<E> {
 
     // Raises the count of an entry.
     fn raise(&mut self, spot: Spot) -> Result<(), Refusal>
-        ensures refused { Owes result (due_at (entry_at self.old spot.birth) (full self.old.top)) }
-        ensures state { Becomes result self.old self.new (counted_up self.old spot.birth) }
+        ensures refused { Owes result (due_at (entry_at self.old.state spot.birth) (full self.old.state.top)) }
+        ensures state { Becomes result self.old.state self.new.state (counted_up self.old.state spot.birth) }
+        ensures hasher { self.new.hasher ≡ self.old.hasher }
     {
         match self.table.count_up(spot, self.top) {
             None => Err(Refusal::Gone),
@@ -234,9 +246,10 @@ impl<E: Entries> Store<E> {
 
     // Lowers the count of an entry, and answers the count before.
     fn lower(&mut self, spot: Spot) -> Result<u64, Refusal>
-        ensures ok { IfOk result (λ n. (0 < n) × (count_at self.old spot.birth ≡ Some n)) }
-        ensures refused { Owes result (due_at (entry_at self.old spot.birth) zero_count) }
-        ensures state { Becomes result self.old self.new (counted_down self.old spot.birth) }
+        ensures ok { IfOk result (λ n. (0 < n) × (count_at self.old.state spot.birth ≡ Some n)) }
+        ensures refused { Owes result (due_at (entry_at self.old.state spot.birth) zero_count) }
+        ensures state { Becomes result self.old.state self.new.state (counted_down self.old.state spot.birth) }
+        ensures hasher { self.new.hasher ≡ self.old.hasher }
     {
         // A field that is read brings in the invariant, which the table alone doesn't know.
         let _next = self.next;
@@ -252,14 +265,15 @@ impl<E: Entries> Store<E> {
     where
         E: Takes<O>,
         ensures name { IfOk result (λ r.
-            key_name r.0 ≡ interned_name E.Value.eq self.old (E.value offer)) }
+            key_name r.0 ≡ interned_name E.Value.eq self.old.state (E.value offer)) }
         ensures back { IfOk result (λ r.
-            r.1 ≡ given_back E.Value.eq self.old (E.value offer) offer) }
+            r.1 ≡ given_back E.Value.eq self.old.state (E.value offer) offer) }
         ensures refused { MayWantBack result
-            (due_interning E.Value.eq self.old (E.value offer) any_count)
-            (is_new E.Value.eq self.old (E.value offer)) offer }
-        ensures state { Becomes result self.old self.new
-            (interned E.Value.eq self.old (E.value offer)).state }
+            (due_interning E.Value.eq self.old.state (E.value offer) any_count)
+            (is_new E.Value.eq self.old.state (E.value offer)) offer }
+        ensures state { Becomes result self.old.state self.new.state
+            (interned E.Value.eq self.old.state (E.value offer)).state }
+        ensures hasher { self.new.hasher ≡ self.old.hasher }
     {
         match self.search(&offer) {
             Ok(spot) => Ok((self.key(spot), Some(offer))),
@@ -274,12 +288,14 @@ impl<E: Entries> Store<E> {
     where
         E: Raises<O>,
         ensures found { IfOk result (λ found. option_map key_name (result_ok found)
-            ≡ name_of_value E.Value.eq self.old (E.value offer.now)) }
-        ensures hash { IfOk result (λ found. IfErr found (λ h. h ≡ E.hash_of offer.now)) }
+            ≡ name_of_value E.Value.eq self.old.state (E.value offer.now)) }
+        ensures hash { IfOk result (λ found. IfErr found (λ h.
+            h ≡ E.hash_of self.old.hasher offer.now)) }
         ensures refused { Owes result
-            (due_found_full (birth_of E.Value.eq self.old (E.value offer.now)) self.old) }
-        ensures state { Becomes result self.old self.new
-            (found_counted (birth_of E.Value.eq self.old (E.value offer.now)) self.old) }
+            (due_found_full (birth_of E.Value.eq self.old.state (E.value offer.now)) self.old.state) }
+        ensures state { Becomes result self.old.state self.new.state
+            (found_counted (birth_of E.Value.eq self.old.state (E.value offer.now)) self.old.state) }
+        ensures hasher { self.new.hasher ≡ self.old.hasher }
     {
         // A field that is read brings in the invariant, which the table alone doesn't know.
         let top = self.top;
@@ -300,13 +316,14 @@ impl<E: Entries> Store<E> {
     pub fn add_counted<O>(&mut self, hash: u64, offer: O) -> Result<EntryKey, Refused<O>>
     where
         E: Takes<O>,
-        requires hash { hash ≡ E.hash_of offer }
-        requires fresh { birth_of E.Value.eq self.old (E.value offer) ≡ None }
+        requires hash { hash ≡ E.hash_of self.old.hasher offer }
+        requires fresh { birth_of E.Value.eq self.old.state (E.value offer) ≡ None }
         ensures name { IfOk result (λ k.
-            key_name k ≡ interned_name E.Value.eq self.old (E.value offer)) }
-        ensures refused { MayWantBack result (due_adding self.old) true offer }
-        ensures state { Becomes result self.old self.new
-            (interned_counted E.Value.eq self.old (E.value offer)) }
+            key_name k ≡ interned_name E.Value.eq self.old.state (E.value offer)) }
+        ensures refused { MayWantBack result (due_adding self.old.state) true offer }
+        ensures state { Becomes result self.old.state self.new.state
+            (interned_counted E.Value.eq self.old.state (E.value offer)) }
+        ensures hasher { self.new.hasher ≡ self.old.hasher }
     {
         // A field that is read brings in the invariant, which the call doesn't know.
         let _next = self.next;
@@ -319,14 +336,15 @@ impl<E: Entries> Store<E> {
     where
         E: Raises<O>,
         ensures name { IfOk result (λ r.
-            key_name r.0 ≡ interned_name E.Value.eq self.old (E.value offer)) }
+            key_name r.0 ≡ interned_name E.Value.eq self.old.state (E.value offer)) }
         ensures back { IfOk result (λ r.
-            r.1 ≡ given_back E.Value.eq self.old (E.value offer) offer) }
+            r.1 ≡ given_back E.Value.eq self.old.state (E.value offer) offer) }
         ensures refused { MayWantBack result
-            (due_interning E.Value.eq self.old (E.value offer) (full self.old.top))
-            (is_new E.Value.eq self.old (E.value offer)) offer }
-        ensures state { Becomes result self.old self.new
-            (interned_counted E.Value.eq self.old (E.value offer)) }
+            (due_interning E.Value.eq self.old.state (E.value offer) (full self.old.state.top))
+            (is_new E.Value.eq self.old.state (E.value offer)) offer }
+        ensures state { Becomes result self.old.state self.new.state
+            (interned_counted E.Value.eq self.old.state (E.value offer)) }
+        ensures hasher { self.new.hasher ≡ self.old.hasher }
     {
         match self.count_up_stored(&offer) {
             Ok(Ok(key)) => Ok((key, Some(offer))),
@@ -337,8 +355,9 @@ impl<E: Entries> Store<E> {
 
     /// Counts an entry once more.
     pub fn count_up(&mut self, key: EntryKey) -> Result<(), Refusal>
-        ensures refused { Owes result (due self.old (key_name key) (full self.old.top)) }
-        ensures state { Becomes result self.old self.new (counted_up self.old key.spot.birth) }
+        ensures refused { Owes result (due self.old.state (key_name key) (full self.old.state.top)) }
+        ensures state { Becomes result self.old.state self.new.state (counted_up self.old.state key.spot.birth) }
+        ensures hasher { self.new.hasher ≡ self.old.hasher }
     {
         let spot = self.spot(key)?;
         self.raise(spot)
@@ -346,8 +365,9 @@ impl<E: Entries> Store<E> {
 
     /// Counts an entry once less. It stays, also at zero.
     pub fn count_down(&mut self, key: EntryKey) -> Result<(), Refusal>
-        ensures refused { Owes result (due self.old (key_name key) zero_count) }
-        ensures state { Becomes result self.old self.new (counted_down self.old key.spot.birth) }
+        ensures refused { Owes result (due self.old.state (key_name key) zero_count) }
+        ensures state { Becomes result self.old.state self.new.state (counted_down self.old.state key.spot.birth) }
+        ensures hasher { self.new.hasher ≡ self.old.hasher }
     {
         let spot = self.spot(key)?;
         self.lower(spot)?;
@@ -358,8 +378,9 @@ impl<E: Entries> Store<E> {
 impl<E: Removes> Store<E> {
     // Removes an entry, and answers its value.
     fn take(&mut self, spot: Spot) -> Option<E::Value>
-        ensures value { result ≡ option_map (λ k. k.value) (entry_at self.old spot.birth) }
-        ensures state { self.new ≡ taken self.old spot.birth }
+        ensures value { result ≡ option_map (λ k. k.value) (entry_at self.old.state spot.birth) }
+        ensures state { self.new.state ≡ taken self.old.state spot.birth }
+        ensures hasher { self.new.hasher ≡ self.old.hasher }
     {
         self.table.remove(spot)
     }
@@ -367,10 +388,11 @@ impl<E: Removes> Store<E> {
     /// Counts an entry once less. With the last count the entry is removed and its value comes
     /// back, unless entries stay.
     pub fn release(&mut self, key: EntryKey, stays: bool) -> Result<Option<E::Value>, Refusal>
-        ensures value { IfOk result (λ v. v ≡ freed stays self.old key.spot.birth) }
-        ensures refused { Owes result (due self.old (key_name key) zero_count) }
-        ensures state { Becomes result self.old self.new
-            (released stays self.old key.spot.birth) }
+        ensures value { IfOk result (λ v. v ≡ freed stays self.old.state key.spot.birth) }
+        ensures refused { Owes result (due self.old.state (key_name key) zero_count) }
+        ensures state { Becomes result self.old.state self.new.state
+            (released stays self.old.state key.spot.birth) }
+        ensures hasher { self.new.hasher ≡ self.old.hasher }
     {
         let spot = self.spot(key)?;
         let count = self.lower(spot)?;
@@ -386,7 +408,8 @@ impl<E: Entries> Store<E> {
     pub fn keep<M: Keeps>(&mut self, marks: &M)
     where
         E: Sweeps<M>,
-        ensures { self.new ≡ kept self.old (M.marked marks.now) }
+        ensures state { self.new.state ≡ kept self.old.state (M.marked marks.now) }
+        ensures hasher { self.new.hasher ≡ self.old.hasher }
     {
         // A field that is read brings in the invariant, which the table alone doesn't know.
         let _next = self.next;

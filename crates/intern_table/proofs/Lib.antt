@@ -1,3 +1,4 @@
 mod Joins
 mod Moves
 mod Walks
+mod Tabled

@@ -4,3 +4,4 @@ pub mod Joined
 pub mod Listed
 pub mod Read
 pub mod Sliced
+pub mod Tabled

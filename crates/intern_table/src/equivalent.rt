@@ -4,27 +4,32 @@ ghost use Rattle.intern_table.specs.Hashes.{hash_of};
 
 use intern_index::{Hashes, Offer};
 use std::cmp::Eq;
-use std::hash::{FoldHasher, Hash, Hasher};
+use std::hash::{BuildHasher, BuildHasherDefault, FoldHasher, Hash};
 
-/// The hash of a value, by a seed that is fixed.
+/// The hasher of tables that are given none. Its seed is fixed: where values come from whom one
+/// doesn't trust, take a `RandomState`.
+pub type FixedState = BuildHasherDefault<FoldHasher>;
+
+/// The hash of a value.
 #[tactic(auto, unfolding(crate::specs::Hashes::hash_of))]
-pub(crate) fn hash_value<T: Hash>(value: &T) -> u64
-    ensures { result ≡ hash_of (T.hash_input value.now) }
+pub(crate) fn hash_value<T: Hash, B: BuildHasher>(hasher: &B, value: &T) -> u64
+    ensures { result ≡ hash_of B.BuildHasher B.Hasher.Hasher hasher.now (T.hash_input value.now) }
 {
-    let mut hasher = FoldHasher::default();
-    value.hash(&mut hasher);
-    hasher.finish()
+    hasher.hash_one(value)
 }
 
 /// How stored values are hashed.
-#[derive(Clone, Copy)]
-pub(crate) struct ValueHash;
+#[derive_where(Clone, Copy)]
+pub(crate) struct ValueHash<'a, B> {
+    pub(crate) hasher: &'a B,
+}
 
-impl<T: Hash, N: Copy> Hashes<T, N> for ValueHash {
-    ghost hash_of = { λ _ v _. hash_of (T.hash_input v) };
+impl<T: Hash, N: Copy, B: BuildHasher> Hashes<T, N> for ValueHash<'_, B> {
+    ghost hash_of = { λ h v _.
+        hash_of B.BuildHasher B.Hasher.Hasher h.hasher.now (T.hash_input v) };
 
     fn hash_of(&self, value: &T, _payload: N) -> u64 {
-        hash_value(value)
+        hash_value(self.hasher, value)
     }
 }
 
@@ -35,8 +40,9 @@ pub trait Equivalent<T: Hash>: Offer<T> {
         ensures { result ≡ T.eq (Self.value self.now) stored.now };
 
     /// The hash of the value that is named.
-    fn hashed(&self) -> u64
-        ensures { result ≡ hash_of (T.hash_input (Self.value self.now)) };
+    fn hashed<B: BuildHasher>(&self, hasher: &B) -> u64
+        ensures { result ≡ hash_of B.BuildHasher B.Hasher.Hasher hasher.now
+            (T.hash_input (Self.value self.now)) };
 }
 
 // A value names itself.
@@ -45,7 +51,7 @@ impl<T: Hash + Eq> Equivalent<T> for T {
         *self == *stored
     }
 
-    fn hashed(&self) -> u64 {
-        hash_value(self)
+    fn hashed<B: BuildHasher>(&self, hasher: &B) -> u64 {
+        hash_value(hasher, self)
     }
 }

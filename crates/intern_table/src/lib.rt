@@ -12,7 +12,7 @@ mod table;
 mod text;
 
 pub use counted::{Counted, Counts};
-pub use equivalent::Equivalent;
+pub use equivalent::{Equivalent, FixedState};
 pub use intern_index::Iter;
 pub use pool::SlicePayload;
 pub use slice::{HeaderSlice, HeaderWithLength, SliceValue};

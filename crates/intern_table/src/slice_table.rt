@@ -10,7 +10,7 @@ ghost use Rattle.intern_table.specs.Read.{read, shown};
 
 use crate::counted::{Counted, Counts};
 use crate::counts::{Lower, OfCount, Raise};
-use crate::equivalent::hash_value;
+use crate::equivalent::{FixedState, hash_value};
 use crate::pool::{SlicePayload, compact, part};
 use crate::slice::{HeaderSlice, HeaderWithLength, SliceValue};
 use crate::slice_iter::SliceIter;
@@ -18,7 +18,7 @@ use intern_index::{BirthOrder, Hashes, Index, Query};
 use intern_store::{Entries, Finds, Keeps, Spot, Sweeps, Takes};
 use std::alloc::Global;
 use std::cmp::Eq;
-use std::hash::Hash;
+use std::hash::{BuildHasher, Hash};
 use std::marker::Model;
 
 /// The table of slices: an index of the headers, and one vector with the items of every slice, in
@@ -29,30 +29,32 @@ use std::marker::Model;
 /// does whose place was given to another entry. Building the table anew hashes each slice. A call on
 /// a handle touches its entry, and a read its items too. Only an insertion takes memory.
 #[derive(Drop)]
-pub struct SliceTable<H: Hash + Eq, S: Hash + Eq + Copy> {
+pub struct SliceTable<H: Hash + Eq, S: Hash + Eq + Copy, B: BuildHasher = FixedState> {
     index: Index<H, SlicePayload, BirthOrder>,
     items: Vec<S>,
+    hasher: B,
 }
 
-impl<H: Hash + Eq, S: Hash + Eq + Copy> Model for SliceTable<H, S> {
-    ghost use Rattle.std.specs.FinMap as map;
-    ghost use Rattle.std.specs.Ordering.{nat_cmp};
-    ghost use Rattle.std.specs.Coded.{coded_ℕ};
-    ghost use Rattle.intern_store.specs.Kept.{Kept, kept_code};
+impl<H: Hash + Eq, S: Hash + Eq + Copy, B: BuildHasher> Model for SliceTable<H, S, B> {
     ghost use Rattle.intern_table.specs.Sliced.{Sliced, sliced_code, sliced_input};
+    ghost use Rattle.intern_table.specs.Tabled.{Tabled, tabled_code};
 
-    ghost Value = { map.FinMap nat_cmp (Kept (Sliced H S)) };
+    ghost Value = { Tabled (Sliced H S) B };
 
-    ghost coded = { map.code coded_ℕ (kept_code (sliced_code H.code S.code)) };
+    ghost coded = { tabled_code (sliced_code H.code S.code) B.code };
 
     ghost use Rattle.intern_store.specs.Maps.{map_values};
     ghost use Rattle.intern_table.specs.Joined.{sliced_entry, IsSliced};
     ghost use Rattle.intern_table.specs.Hashes.{hash_of};
 
-    ghost view = { λ a. map_values (sliced_entry a.items.items) a.index.entries };
+    ghost view = { λ a. record {
+      entries = map_values (sliced_entry a.items.items) a.index.entries;
+      hasher = a.hasher;
+    } };
 
-    ghost invariant = { λ a. IsSliced
-        (λ v. hash_of (sliced_input H.hash_input S.hash_input v)) a.index a.items.items };
+    ghost invariant = { λ a. IsSliced (λ v.
+        hash_of B.BuildHasher B.Hasher.Hasher a.hasher (sliced_input H.hash_input S.hash_input v))
+        a.index a.items.items };
 }
 
 // A header and a slice that equal those offered.
@@ -76,24 +78,26 @@ impl<H: Eq, S: Eq> Query<H, SlicePayload> for EqualSlice<'_, H, S> {
 
 // How stored headers are hashed, each with its slice.
 #[derive_where(Clone, Copy)]
-struct SliceHash<'a, S> {
+struct SliceHash<'a, S, B> {
     // Where the slices lie.
     all: &'a [S],
+    hasher: &'a B,
 }
 
-impl<H: Hash, S: Hash> Hashes<H, SlicePayload> for SliceHash<'_, S> {
-    ghost hash_of = { λ h v p. sliced_hash
-        (λ s. hash_of (sliced_input H.hash_input S.hash_input s)) h.all.now v p };
+impl<H: Hash, S: Hash, B: BuildHasher> Hashes<H, SlicePayload> for SliceHash<'_, S, B> {
+    ghost hash_of = { λ h v p. sliced_hash (λ s. hash_of B.BuildHasher B.Hasher.Hasher h.hasher.now
+        (sliced_input H.hash_input S.hash_input s)) h.all.now v p };
 
     fn hash_of(&self, header: &H, payload: SlicePayload) -> u64 {
-        hash_value(&(header, part(self.all, payload.start, payload.length)))
+        let items = part(self.all, payload.start, payload.length);
+        hash_value(self.hasher, &(header, items))
     }
 }
 
-impl<H: Hash + Eq, S: Hash + Eq + Copy> SliceTable<H, S> {
+impl<H: Hash + Eq, S: Hash + Eq + Copy, B: BuildHasher> SliceTable<H, S, B> {
     /// The header and the slice of an entry.
     pub fn get(&self, spot: Spot) -> Option<HeaderSlice<'_, H, S>>
-        ensures { option_map read result ≡ option_map shown (map.get self.now spot.birth) }
+        ensures { option_map read result ≡ option_map shown (map.get self.now.entries spot.birth) }
     {
         let (header, payload) = self.index.read(spot)?;
         Some(HeaderSlice {
@@ -107,7 +111,7 @@ impl<H: Hash + Eq, S: Hash + Eq + Copy> SliceTable<H, S> {
 
     /// The entries, in no promised order.
     pub fn iter(&self) -> SliceIter<'_, H, S>
-        ensures { IsPermutation result (listed_slices self.now) }
+        ensures { IsPermutation result (listed_slices self.now.entries) }
     {
         SliceIter {
             headers: self.index.iter(),
@@ -117,7 +121,7 @@ impl<H: Hash + Eq, S: Hash + Eq + Copy> SliceTable<H, S> {
 
     /// The entries, each with its count, in no promised order.
     pub fn counts(&self) -> Counts<'_, H, SlicePayload>
-        ensures { IsPermutation result (listed_counts self.now) }
+        ensures { IsPermutation result (listed_counts self.now.entries) }
     {
         let entries = self.index.iter();
         Counts { entries }
@@ -131,15 +135,20 @@ fn count_of(payload: Option<SlicePayload>) -> Option<u64>
     Some(payload?.count())
 }
 
-impl<H: Hash + Eq, S: Hash + Eq + Copy> Entries for SliceTable<H, S> {
+impl<H: Hash + Eq, S: Hash + Eq + Copy, B: BuildHasher> Entries for SliceTable<H, S, B> {
     type Value = SliceValue<H, S>;
 
-    ghost entries = { λ a. a };
+    type Hasher = B;
 
-    fn new(alloc: Global) -> SliceTable<H, S> {
+    ghost entries = { λ a. a.entries };
+
+    ghost hashes_by = { λ a. a.hasher };
+
+    fn new(alloc: Global, hasher: B) -> SliceTable<H, S, B> {
         SliceTable {
             index: Index::new(alloc),
             items: Vec::new(alloc),
+            hasher,
         }
     }
 
@@ -165,10 +174,11 @@ impl<H: Hash + Eq, S: Hash + Eq + Copy> Entries for SliceTable<H, S> {
 }
 
 // A header and a slice that are looked up, both borrowed.
-impl<'a, H: Hash + Eq, S: Hash + Eq + Copy> Finds<(&'a H, &'a [S])> for SliceTable<H, S> {
+impl<'a, H: Hash + Eq, S: Hash + Eq + Copy, B: BuildHasher> Finds<(&'a H, &'a [S])>
+    for SliceTable<H, S, B> {
     ghost value = { λ q. record { header = q.0.now; items = q.1.now } };
 
-    ghost hash_of = { λ q. hash_of
+    ghost hash_of = { λ b q. hash_of B.BuildHasher B.Hasher.Hasher b
         (sliced_input H.hash_input S.hash_input (record { header = q.0.now; items = q.1.now })) };
 
     fn find(&self, query: &(&'a H, &'a [S])) -> Result<Spot, u64> {
@@ -177,16 +187,17 @@ impl<'a, H: Hash + Eq, S: Hash + Eq + Copy> Finds<(&'a H, &'a [S])> for SliceTab
             items: query.1,
             all: self.items.as_slice(),
         };
-        let hash = hash_value(query);
+        let hash = hash_value(&self.hasher, query);
         self.index.find(hash, &equal).ok_or(hash)
     }
 }
 
 // The same of a header that is offered.
-impl<'a, H: Hash + Eq, S: Hash + Eq + Copy> Finds<(H, &'a [S])> for SliceTable<H, S> {
+impl<'a, H: Hash + Eq, S: Hash + Eq + Copy, B: BuildHasher> Finds<(H, &'a [S])>
+    for SliceTable<H, S, B> {
     ghost value = { λ o. record { header = o.0; items = o.1.now } };
 
-    ghost hash_of = { λ o. hash_of
+    ghost hash_of = { λ b o. hash_of B.BuildHasher B.Hasher.Hasher b
         (sliced_input H.hash_input S.hash_input (record { header = o.0; items = o.1.now })) };
 
     fn find(&self, offer: &(H, &'a [S])) -> Result<Spot, u64> {
@@ -194,7 +205,8 @@ impl<'a, H: Hash + Eq, S: Hash + Eq + Copy> Finds<(H, &'a [S])> for SliceTable<H
     }
 }
 
-impl<'a, H: Hash + Eq, S: Hash + Eq + Copy> Takes<(H, &'a [S])> for SliceTable<H, S> {
+impl<'a, H: Hash + Eq, S: Hash + Eq + Copy, B: BuildHasher> Takes<(H, &'a [S])>
+    for SliceTable<H, S, B> {
     fn insert(
         &mut self,
         birth: u64,
@@ -214,6 +226,7 @@ impl<'a, H: Hash + Eq, S: Hash + Eq + Copy> Takes<(H, &'a [S])> for SliceTable<H
         };
         let by = SliceHash {
             all: self.items.as_slice(),
+            hasher: &self.hasher,
         };
         match self.index.insert(birth, hash, header, payload, &by) {
             Ok(place) => Ok(place),
@@ -225,7 +238,8 @@ impl<'a, H: Hash + Eq, S: Hash + Eq + Copy> Takes<(H, &'a [S])> for SliceTable<H
     }
 }
 
-impl<H: Hash + Eq + Drop, S: Hash + Eq + Copy, M: Keeps> Sweeps<M> for SliceTable<H, S> {
+impl<H: Hash + Eq + Drop, S: Hash + Eq + Copy, B: BuildHasher, M: Keeps> Sweeps<M>
+    for SliceTable<H, S, B> {
     fn keep(&mut self, marks: &M) {
         self.index.keep(marks);
         compact(&mut self.index, &mut self.items);

@@ -7,12 +7,12 @@ ghost use Rattle.intern_table.specs.Listed.{listed_counts, listed_values};
 
 use crate::counted::Counts;
 use crate::counts::{Lower, Raise};
-use crate::equivalent::{Equivalent, ValueHash};
+use crate::equivalent::{Equivalent, FixedState, ValueHash};
 use intern_index::{BirthTable, Index, Iter, Query};
 use intern_store::{Entries, Finds, Keeps, Raises, Removes, Spot, Sweeps, Takes};
 use std::alloc::Global;
 use std::cmp::Eq;
-use std::hash::Hash;
+use std::hash::{BuildHasher, Hash};
 use std::marker::Model;
 
 /// The table of values: an index whose payloads are the counts.
@@ -22,28 +22,30 @@ use std::marker::Model;
 /// does whose place was given to another entry. Building the table of hashes anew hashes each value.
 /// A call on a handle touches its entry alone. Only an insertion takes memory.
 #[derive(Drop)]
-pub struct Table<T: Hash + Eq> {
+pub struct Table<T: Hash + Eq, B: BuildHasher = FixedState> {
     index: Index<T, u64, BirthTable>,
+    hasher: B,
 }
 
-impl<T: Hash + Eq> Model for Table<T> {
-    ghost use Rattle.std.specs.FinMap as map;
-    ghost use Rattle.std.specs.Ordering.{nat_cmp};
-    ghost use Rattle.std.specs.Coded.{coded_ℕ};
-    ghost use Rattle.intern_store.specs.Kept.{Kept, kept_code};
+impl<T: Hash + Eq, B: BuildHasher> Model for Table<T, B> {
+    ghost use Rattle.intern_table.specs.Tabled.{Tabled, tabled_code};
 
-    ghost Value = { map.FinMap nat_cmp (Kept T) };
+    ghost Value = { Tabled T B };
 
-    ghost coded = { map.code coded_ℕ (kept_code T.code) };
+    ghost coded = { tabled_code T.code B.code };
 
     ghost use Rattle.intern_store.specs.Maps.{map_values};
     ghost use Rattle.intern_index.specs.IndexEntry.{IsLed};
     ghost use Rattle.intern_index.specs.Seen.{kept_entry};
     ghost use Rattle.intern_table.specs.Hashes.{hash_of};
 
-    ghost view = { λ a. map_values kept_entry a.index.entries };
+    ghost view = { λ a. record {
+      entries = map_values kept_entry a.index.entries;
+      hasher = a.hasher;
+    } };
 
-    ghost invariant = { λ a. IsLed (λ v _. hash_of (T.hash_input v)) a.index };
+    ghost invariant = { λ a. IsLed (λ v _.
+        hash_of B.BuildHasher B.Hasher.Hasher a.hasher (T.hash_input v)) a.index };
 }
 
 // A value that equals the one offered.
@@ -60,38 +62,43 @@ impl<T: Hash + Eq, O: Equivalent<T>> Query<T, u64> for Equal<'_, O> {
     }
 }
 
-impl<T: Hash + Eq> Table<T> {
+impl<T: Hash + Eq, B: BuildHasher> Table<T, B> {
     /// The value of an entry.
     pub fn get(&self, spot: Spot) -> Option<&T>
-        ensures { option_copied result ≡ option_map (λ k. k.value) (map.get self.now spot.birth) }
+        ensures { option_copied result ≡ option_map (λ k. k.value) (map.get self.now.entries spot.birth) }
     {
         self.index.get(spot)
     }
 
     /// The entries, in no promised order.
     pub fn iter(&self) -> Iter<'_, T, u64>
-        ensures { IsPermutation result (listed_values self.now) }
+        ensures { IsPermutation result (listed_values self.now.entries) }
     {
         self.index.iter()
     }
 
     /// The entries, each with its count, in no promised order.
     pub fn counts(&self) -> Counts<'_, T, u64>
-        ensures { IsPermutation result (listed_counts self.now) }
+        ensures { IsPermutation result (listed_counts self.now.entries) }
     {
         let entries = self.index.iter();
         Counts { entries }
     }
 }
 
-impl<T: Hash + Eq> Entries for Table<T> {
+impl<T: Hash + Eq, B: BuildHasher> Entries for Table<T, B> {
     type Value = T;
 
-    ghost entries = { λ a. a };
+    type Hasher = B;
 
-    fn new(alloc: Global) -> Table<T> {
+    ghost entries = { λ a. a.entries };
+
+    ghost hashes_by = { λ a. a.hasher };
+
+    fn new(alloc: Global, hasher: B) -> Table<T, B> {
         Table {
             index: Index::new(alloc),
+            hasher,
         }
     }
 
@@ -116,32 +123,35 @@ impl<T: Hash + Eq> Entries for Table<T> {
     }
 }
 
-impl<T: Hash + Eq> Removes for Table<T> {
+impl<T: Hash + Eq, B: BuildHasher> Removes for Table<T, B> {
     fn remove(&mut self, spot: Spot) -> Option<T> {
         self.index.remove(spot)
     }
 }
 
-impl<T: Hash + Eq, O: Equivalent<T>> Finds<O> for Table<T> {
+impl<T: Hash + Eq, B: BuildHasher, O: Equivalent<T>> Finds<O> for Table<T, B> {
     ghost value = { O.value };
 
-    ghost hash_of = { λ o. hash_of (T.hash_input (O.value o)) };
+    ghost hash_of = { λ b o. hash_of B.BuildHasher B.Hasher.Hasher b (T.hash_input (O.value o)) };
 
     fn find(&self, offer: &O) -> Result<Spot, u64> {
-        let hash = offer.hashed();
+        let hash = offer.hashed(&self.hasher);
         self.index.find(hash, &Equal { offer }).ok_or(hash)
     }
 }
 
-impl<T: Hash + Eq, O: Equivalent<T>> Takes<O> for Table<T> {
+impl<T: Hash + Eq, B: BuildHasher, O: Equivalent<T>> Takes<O> for Table<T, B> {
     fn insert(&mut self, birth: u64, hash: u64, offer: O, count: u64) -> Result<usize, O> {
-        self.index.insert(birth, hash, offer, count, &ValueHash)
+        let by = ValueHash {
+            hasher: &self.hasher,
+        };
+        self.index.insert(birth, hash, offer, count, &by)
     }
 }
 
-impl<T: Hash + Eq, O: Equivalent<T>> Raises<O> for Table<T> {
+impl<T: Hash + Eq, B: BuildHasher, O: Equivalent<T>> Raises<O> for Table<T, B> {
     fn find_and_raise(&mut self, offer: &O, top: u64) -> Result<(Spot, u64), u64> {
-        let hash = offer.hashed();
+        let hash = offer.hashed(&self.hasher);
         let raise = Raise { top };
         self.index
             .find_and_change(hash, &Equal { offer }, &raise)
@@ -149,7 +159,7 @@ impl<T: Hash + Eq, O: Equivalent<T>> Raises<O> for Table<T> {
     }
 }
 
-impl<T: Hash + Eq + Drop, M: Keeps> Sweeps<M> for Table<T> {
+impl<T: Hash + Eq + Drop, B: BuildHasher, M: Keeps> Sweeps<M> for Table<T, B> {
     fn keep(&mut self, marks: &M) {
         self.index.keep(marks)
     }

@@ -12,7 +12,7 @@ use intern_index::Offer;
 use std::alloc::{AllocError, Global};
 use std::cmp::Eq;
 use std::fmt;
-use std::hash::{Hash, Hasher};
+use std::hash::{BuildHasher, Hash, Hasher};
 use std::marker::Model;
 
 /// How many bytes a short text has at most.
@@ -136,7 +136,7 @@ impl Equivalent<Text> for &str {
         *self == stored.as_str()
     }
 
-    fn hashed(&self) -> u64 {
-        hash_value(self)
+    fn hashed<B: BuildHasher>(&self, hasher: &B) -> u64 {
+        hash_value(hasher, self)
     }
 }

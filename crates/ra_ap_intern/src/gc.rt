@@ -29,6 +29,7 @@ pub use family::{Family, NoStorages, Numbered, Pair};
 use intern_marks::Marks;
 use intern_store::{EntryKey, Name, Spot};
 use std::alloc::{AllocError, Global};
+use std::hash::BuildHasher;
 use std::marker::Model;
 use std::ops::ControlFlow;
 pub use storages::Visits;
@@ -78,10 +79,10 @@ impl GarbageCollector {
     }
 
     /// A family with one more storage of values in collected mode.
-    pub fn add_storage<F: Family, T: Internable + GcInternedVisit>(
+    pub fn add_storage<F: Family, T: Internable + GcInternedVisit, B: BuildHasher>(
         family: F,
-        storage: InternStorage<T>,
-    ) -> Pair<F, InternStorage<T>>
+        storage: InternStorage<T, B>,
+    ) -> Pair<F, InternStorage<T, B>>
         requires { T.Internable.USE_GC ≡ true }
         ensures first { result.first ≡ family }
         ensures second { result.second ≡ storage }
@@ -93,10 +94,10 @@ impl GarbageCollector {
     }
 
     /// A family with one more storage of slices.
-    pub fn add_slice_storage<F: Family, T: GcInternedSliceVisit>(
+    pub fn add_slice_storage<F: Family, T: GcInternedSliceVisit, B: BuildHasher>(
         family: F,
-        storage: InternSliceStorage<T>,
-    ) -> Pair<F, InternSliceStorage<T>>
+        storage: InternSliceStorage<T, B>,
+    ) -> Pair<F, InternSliceStorage<T, B>>
         requires { T.SliceInternable.USE_GC ≡ true }
         ensures first { result.first ≡ family }
         ensures second { result.second ≡ storage }

@@ -18,9 +18,10 @@ use crate::kind::Values;
 use crate::storage::{Owned, Ref, Storage};
 pub use each::InternHandle;
 use intern_store::{Refusal, Refused};
+use intern_table::FixedState;
 pub use iter::Iter;
 use std::cmp::Eq;
-use std::hash::Hash;
+use std::hash::{BuildHasher, Hash};
 
 /// A type whose values a storage keeps.
 pub trait Internable: Hash + Eq {
@@ -31,8 +32,8 @@ pub trait Internable: Hash + Eq {
     ghost USE_GC: { Bool };
 }
 
-/// A storage of values, each kept once.
-pub type InternStorage<T> = Storage<Values<T>>;
+/// A storage of values, each kept once, and hashed by a hasher that `B` builds.
+pub type InternStorage<T, B = FixedState> = Storage<Values<T>, B>;
 
 /// An owned handle of a value, which counts one.
 pub type Interned<T> = Owned<Values<T>>;
@@ -40,7 +41,7 @@ pub type Interned<T> = Owned<Values<T>>;
 /// A reference to a value, which counts nothing.
 pub type InternedRef<T> = Ref<Values<T>>;
 
-impl<T: Internable> InternStorage<T> {
+impl<T: Internable, B: BuildHasher> InternStorage<T, B> {
     /// A reference to the entry whose value equals this one. None where no equal value is stored.
     /// It takes no memory.
     pub fn get(&self, obj: &T) -> Option<InternedRef<T>>
@@ -60,7 +61,7 @@ impl<T: Internable> InternStorage<T> {
     }
 }
 
-impl<'a, T: Internable> IntoIterator for &'a InternStorage<T> {
+impl<'a, T: Internable, B: BuildHasher> IntoIterator for &'a InternStorage<T, B> {
     type Item = (InternedRef<T>, &'a T);
 
     type IntoIter = Iter<'a, T>;
@@ -79,8 +80,8 @@ impl<T: Internable> Interned<T> {
     /// handle. Otherwise the value is stored, which may take memory. Refused: `CountFull` where an
     /// equal value is stored and its count is at the limit; `NumbersUsedUp` and `OutOfMemory` where
     /// none is.
-    pub fn new(
-        storage: &mut InternStorage<T>,
+    pub fn new<B: BuildHasher>(
+        storage: &mut InternStorage<T, B>,
         obj: T,
     ) -> Result<(Interned<T>, Option<T>), Refused<T>>
         requires { T.Internable.USE_GC ≡ false }
@@ -102,8 +103,8 @@ impl<T: Internable> Interned<T> {
     /// Where an equal value is stored, that one stays and the one given comes back beside the
     /// reference; this is never refused. Otherwise the value is stored with count zero, which may
     /// take memory. Refused: `NumbersUsedUp` and `OutOfMemory` where no equal value is stored.
-    pub fn new_gc(
-        storage: &mut InternStorage<T>,
+    pub fn new_gc<B: BuildHasher>(
+        storage: &mut InternStorage<T, B>,
         obj: T,
     ) -> Result<(InternedRef<T>, Option<T>), Refused<T>>
         requires { T.Internable.USE_GC ≡ true }
@@ -121,7 +122,10 @@ impl<T: Internable> Interned<T> {
     /// An owned handle of the entry of a birth. It takes over the count of a handle that was
     /// dropped without `release`, so no count changes. Refused: `Gone`; `CountZero` where there is
     /// no count to take over.
-    pub fn from_raw(storage: &InternStorage<T>, birth: u64) -> Result<Interned<T>, Refusal>
+    pub fn from_raw<B: BuildHasher>(
+        storage: &InternStorage<T, B>,
+        birth: u64,
+    ) -> Result<Interned<T>, Refusal>
         ensures ok { IfOk result (λ h. name_of h ≡ name_in storage.now birth) }
         ensures refused { Owes result (due_at (entry_at storage.now birth) zero_count) }
     {
@@ -131,7 +135,7 @@ impl<T: Internable> Interned<T> {
 
     /// The value, borrowed from the storage.
     /// None for a handle of another storage, or of an entry that is gone.
-    pub fn get<'a>(&self, storage: &'a InternStorage<T>) -> Option<&'a T>
+    pub fn get<'a, B: BuildHasher>(&self, storage: &'a InternStorage<T, B>) -> Option<&'a T>
         ensures { option_copied result ≡ reads storage.now (name_of self.now) }
     {
         self.reference.get(storage)
@@ -140,7 +144,10 @@ impl<T: Internable> Interned<T> {
     /// Gives the handle up, with its count. In counted mode the last release frees the value and
     /// gives it back; otherwise the answer is None, and in collected mode the entry always stays.
     /// Refused, with the handle back: `Foreign`, `Gone`, `CountZero`.
-    pub fn release(self, storage: &mut InternStorage<T>) -> Result<Option<T>, Refused<Interned<T>>>
+    pub fn release<B: BuildHasher>(
+        self,
+        storage: &mut InternStorage<T, B>,
+    ) -> Result<Option<T>, Refused<Interned<T>>>
         ensures value { IfOk result (λ v.
             v ≡ freed T.Internable.USE_GC storage.old (name_of self).birth) }
         ensures refused { OwesBack result (due storage.old (name_of self) zero_count) self }
@@ -156,7 +163,10 @@ impl<T: Internable> Interned<T> {
 
 impl<T: Internable> InternedRef<T> {
     /// A reference to the entry of a birth. Refused: `Gone`.
-    pub fn from_raw(storage: &InternStorage<T>, birth: u64) -> Result<InternedRef<T>, Refusal>
+    pub fn from_raw<B: BuildHasher>(
+        storage: &InternStorage<T, B>,
+        birth: u64,
+    ) -> Result<InternedRef<T>, Refusal>
         ensures ok { IfOk result (λ h. ref_name h ≡ name_in storage.now birth) }
         ensures refused { Owes result (due_at (entry_at storage.now birth) any_count) }
     {
@@ -165,7 +175,7 @@ impl<T: Internable> InternedRef<T> {
 
     /// The value, borrowed from the storage.
     /// None for a reference of another storage, or of an entry that is gone.
-    pub fn get<'a>(self, storage: &'a InternStorage<T>) -> Option<&'a T>
+    pub fn get<'a, B: BuildHasher>(self, storage: &'a InternStorage<T, B>) -> Option<&'a T>
         ensures { option_copied result ≡ reads storage.now (ref_name self) }
     {
         storage.store.own(self.key.storage)?.get(self.key.spot)

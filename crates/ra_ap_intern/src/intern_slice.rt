@@ -18,10 +18,10 @@ mod iter;
 use crate::kind::Slices;
 use crate::storage::{Owned, Ref, Storage};
 use intern_store::Refused;
-use intern_table::HeaderSlice;
+use intern_table::{FixedState, HeaderSlice};
 pub use iter::SliceIter;
 use std::cmp::Eq;
-use std::hash::Hash;
+use std::hash::{BuildHasher, Hash};
 
 /// What kind of headers and items a storage keeps.
 pub trait SliceInternable {
@@ -38,12 +38,12 @@ pub trait SliceInternable {
     ghost USE_GC: { Bool };
 }
 
-/// A storage of headers with items, each pair kept once.
+/// A storage of headers with items, each pair kept once, and hashed by a hasher that `B` builds.
 ///
 /// Two pairs are equal where their headers are, and their items one by one. An empty list is an
 /// ordinary value, and items may have size zero. Only interning a pair that isn't stored takes
 /// memory; its items are copied once.
-pub type InternSliceStorage<T> = Storage<Slices<T>>;
+pub type InternSliceStorage<T, B = FixedState> = Storage<Slices<T>, B>;
 
 /// An owned handle of a header with items, which counts one.
 pub type InternedSlice<T> = Owned<Slices<T>>;
@@ -51,7 +51,7 @@ pub type InternedSlice<T> = Owned<Slices<T>>;
 /// A reference to a header with items, which counts nothing.
 pub type InternedSliceRef<T> = Ref<Slices<T>>;
 
-impl<T: SliceInternable> InternSliceStorage<T> {
+impl<T: SliceInternable, B: BuildHasher> InternSliceStorage<T, B> {
     /// A reference to the entry with this header and these items. None where no equal pair is
     /// stored. It takes no memory.
     pub fn get(&self, header: &T::Header, slice: &[T::SliceType]) -> Option<InternedSliceRef<T>>
@@ -79,8 +79,8 @@ impl<T: SliceInternable> InternedSlice<T> {
     /// reference; this is never refused. Otherwise the header is stored and the items are copied,
     /// with count zero, which may take memory. Refused: `NumbersUsedUp` and `OutOfMemory` where no
     /// equal pair is stored.
-    pub fn from_header_and_slice(
-        storage: &mut InternSliceStorage<T>,
+    pub fn from_header_and_slice<B: BuildHasher>(
+        storage: &mut InternSliceStorage<T, B>,
         header: T::Header,
         slice: &[T::SliceType],
     ) -> Result<(InternedSliceRef<T>, Option<T::Header>), Refused<T::Header>>
@@ -104,9 +104,9 @@ impl<T: SliceInternable> InternedSlice<T> {
 
     /// The header and the items, borrowed from the storage.
     /// None for a handle of another storage, or of an entry that is gone.
-    pub fn get<'a>(
+    pub fn get<'a, B: BuildHasher>(
         &self,
-        storage: &'a InternSliceStorage<T>,
+        storage: &'a InternSliceStorage<T, B>,
     ) -> Option<HeaderSlice<'a, T::Header, T::SliceType>>
         ensures { option_map read result
             ≡ option_map sized (reads storage.now (name_of self.now)) }
@@ -116,9 +116,9 @@ impl<T: SliceInternable> InternedSlice<T> {
 
     /// Gives the handle up, with its count. The entry stays.
     /// Refused, with the handle back: `Foreign`, `Gone`, `CountZero`.
-    pub fn release(
+    pub fn release<B: BuildHasher>(
         self,
-        storage: &mut InternSliceStorage<T>,
+        storage: &mut InternSliceStorage<T, B>,
     ) -> Result<(), Refused<InternedSlice<T>>>
         ensures refused { OwesBack result (due storage.old (name_of self) zero_count) self }
         ensures state { Becomes result storage.old storage.new
@@ -134,9 +134,9 @@ impl<T: SliceInternable> InternedSlice<T> {
 impl<T: SliceInternable> InternedSliceRef<T> {
     /// The header and the items, borrowed from the storage.
     /// None for a reference of another storage, or of an entry that is gone.
-    pub fn get<'a>(
+    pub fn get<'a, B: BuildHasher>(
         self,
-        storage: &'a InternSliceStorage<T>,
+        storage: &'a InternSliceStorage<T, B>,
     ) -> Option<HeaderSlice<'a, T::Header, T::SliceType>>
         ensures { option_map read result
             ≡ option_map sized (reads storage.now (ref_name self)) }

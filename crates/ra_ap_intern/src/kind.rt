@@ -5,12 +5,14 @@ use crate::intern::Internable;
 use crate::intern_slice::SliceInternable;
 use intern_store::Entries;
 use intern_table::{SliceTable, Table};
+use std::hash::BuildHasher;
 use std::marker::PhantomData;
 
-/// What a storage keeps, and in which table: [`Values`] or [`Slices`].
-pub trait Kind {
+/// What a storage keeps, and in which table: [`Values`] or [`Slices`], hashed by a hasher that `B`
+/// builds.
+pub trait Kind<B> {
     /// The table of the entries.
-    type Table: Entries;
+    type Table: Entries<Hasher = B>;
 
     /// Whether entries stay until a collection (collected mode), or go with their last owner
     /// (counted mode).
@@ -30,16 +32,16 @@ pub struct Slices<T> {
     marker: PhantomData<*const T>,
 }
 
-impl<T: Internable> Kind for Values<T> {
-    type Table = Table<T>;
+impl<T: Internable, B: BuildHasher> Kind<B> for Values<T> {
+    type Table = Table<T, B>;
 
     const USE_GC: bool = T::USE_GC;
 
     ghost USE_GC = { T.Internable.USE_GC };
 }
 
-impl<T: SliceInternable> Kind for Slices<T> {
-    type Table = SliceTable<T::Header, T::SliceType>;
+impl<T: SliceInternable, B: BuildHasher> Kind<B> for Slices<T> {
+    type Table = SliceTable<T::Header, T::SliceType, B>;
 
     const USE_GC: bool = T::USE_GC;
 

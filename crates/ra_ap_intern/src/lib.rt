@@ -21,7 +21,7 @@ pub use intern_slice::{
     InternSliceStorage, InternedSlice, InternedSliceRef, SliceInternable, SliceIter,
 };
 pub use intern_store::{Limits, Name, Refusal, Refused};
-pub use intern_table::{HeaderSlice, HeaderWithLength, Text};
+pub use intern_table::{FixedState, HeaderSlice, HeaderWithLength, Text};
 pub use kind::{Kind, Slices, Values};
 pub use optional::{OptionalInternedRef, OptionalInternedSliceRef, OptionalRef};
 pub use owed::{Owed, OwedSlice, OwedValue};

@@ -17,6 +17,7 @@ use crate::storage::{Owned, Ref, Storage};
 use intern_store::{Name, Refusal, Refused};
 use intern_table::HeaderSlice;
 use std::fmt;
+use std::hash::BuildHasher;
 
 /// An owned handle that can't be dropped: a program that lets one go is refused as it is compiled.
 ///
@@ -55,9 +56,11 @@ impl<'a, K> From<&'a Owed<K>> for Ref<K> {
     }
 }
 
-impl<K: Kind> Owed<K> {
+impl<K> Owed<K> {
     /// A second one, which counts one more. Refused: `Foreign`, `Gone`, `CountFull`.
-    pub fn clone(&self, storage: &mut Storage<K>) -> Result<Owed<K>, Refusal>
+    pub fn clone<B>(&self, storage: &mut Storage<K, B>) -> Result<Owed<K>, Refusal>
+    where
+        K: Kind<B>,
         ensures ok { IfOk result (λ h. name_of (handle_of h) ≡ name_of (handle_of self.now)) }
         ensures refused { Owes result
             (due storage.old (name_of (handle_of self.now)) (full storage.old.top)) }
@@ -66,9 +69,7 @@ impl<K: Kind> Owed<K> {
     {
         Ok(Owed::from(self.handle.clone(storage)?))
     }
-}
 
-impl<K> Owed<K> {
     /// The handle as one that may be dropped: its count is its holder's affair again.
     pub fn into_owned(self) -> Owned<K>
         ensures { result ≡ handle_of self }
@@ -95,7 +96,7 @@ impl<K> Owed<K> {
 impl<T: Internable> OwedValue<T> {
     /// The value, borrowed from the storage.
     /// None for a handle of another storage, or of an entry that is gone.
-    pub fn get<'a>(&self, storage: &'a InternStorage<T>) -> Option<&'a T>
+    pub fn get<'a, B: BuildHasher>(&self, storage: &'a InternStorage<T, B>) -> Option<&'a T>
         ensures { option_copied result ≡ reads storage.now (name_of (handle_of self.now)) }
     {
         self.handle.get(storage)
@@ -104,7 +105,10 @@ impl<T: Internable> OwedValue<T> {
     /// Gives the handle up, with its count, as `release` of [`Owned`] does: in counted mode the
     /// last release frees the value and gives it back.
     /// Refused, with the handle back: `Foreign`, `Gone`, `CountZero`.
-    pub fn release(self, storage: &mut InternStorage<T>) -> Result<Option<T>, Refused<OwedValue<T>>>
+    pub fn release<B: BuildHasher>(
+        self,
+        storage: &mut InternStorage<T, B>,
+    ) -> Result<Option<T>, Refused<OwedValue<T>>>
         ensures value { IfOk result (λ v.
             v ≡ freed T.Internable.USE_GC storage.old (name_of (handle_of self)).birth) }
         ensures refused { OwesBack result
@@ -119,9 +123,9 @@ impl<T: Internable> OwedValue<T> {
 impl<T: SliceInternable> OwedSlice<T> {
     /// The header and the items, borrowed from the storage.
     /// None for a handle of another storage, or of an entry that is gone.
-    pub fn get<'a>(
+    pub fn get<'a, B: BuildHasher>(
         &self,
-        storage: &'a InternSliceStorage<T>,
+        storage: &'a InternSliceStorage<T, B>,
     ) -> Option<HeaderSlice<'a, T::Header, T::SliceType>>
         ensures { option_map read result
             ≡ option_map sized (reads storage.now (name_of (handle_of self.now))) }
@@ -131,7 +135,10 @@ impl<T: SliceInternable> OwedSlice<T> {
 
     /// Gives the handle up, with its count. The entry stays.
     /// Refused, with the handle back: `Foreign`, `Gone`, `CountZero`.
-    pub fn release(self, storage: &mut InternSliceStorage<T>) -> Result<(), Refused<OwedSlice<T>>>
+    pub fn release<B: BuildHasher>(
+        self,
+        storage: &mut InternSliceStorage<T, B>,
+    ) -> Result<(), Refused<OwedSlice<T>>>
         ensures refused { OwesBack result
             (due storage.old (name_of (handle_of self)) zero_count) self }
         ensures state { Becomes result storage.old storage.new

@@ -11,6 +11,7 @@ ghost use Rattle.ra_ap_intern.specs.Handle.{name_of, ref_name};
 
 use crate::kind::Kind;
 use intern_store::{EntryKey, Limits, Name, Refusal, Store};
+use intern_table::FixedState;
 use std::alloc::Global;
 use std::fmt;
 use std::marker::{Model, PhantomData};
@@ -24,18 +25,18 @@ use std::marker::{Model, PhantomData};
 /// entries that there were at once, which is constant time a call on average. Reads, counts and
 /// removals go straight to the entry; `from_raw` looks its birth up.
 #[derive(Drop)]
-pub struct Storage<K: Kind> {
+pub struct Storage<K: Kind<B>, B = FixedState> {
     pub(crate) store: Store<K::Table>,
 }
 
-impl<K: Kind> Model for Storage<K> {
+impl<K: Kind<B>, B> Model for Storage<K, B> {
     ghost use Rattle.intern_store.specs.State.{State, state_code};
 
     ghost Value = { State K.Table.Value };
 
     ghost coded = { state_code K.Table.Value.code };
 
-    ghost view = { λ a. a.store };
+    ghost view = { λ a. a.store.state };
 }
 
 /// An owned handle, which counts one: an `Interned` or an `InternedSlice`.
@@ -71,7 +72,7 @@ impl<K> fmt::Debug for Ref<K> {
     }
 }
 
-impl<K: Kind> Storage<K> {
+impl<K: Kind<FixedState>> Storage<K> {
     /// An empty storage with the largest limits. It takes no memory.
     ///
     /// Handles tell storages apart by their numbers alone: give each storage one of its own.
@@ -88,8 +89,22 @@ impl<K: Kind> Storage<K> {
         requires { 0 < limits.top }
         ensures { result ≡ new_state number limits.top limits.numbers }
     {
+        Storage::with_hasher(alloc, number, limits, FixedState::new())
+    }
+}
+
+impl<K: Kind<B>, B> Storage<K, B> {
+    /// An empty storage with limits of its own, which hashes values by what `hasher` builds. It takes
+    /// no memory.
+    ///
+    /// The seed of [`FixedState`] is known, so that whoever chooses the values can let all of them
+    /// share a bucket. Give a storage of such values `RandomState::new(&rt)?`.
+    pub fn with_hasher(alloc: Global, number: u64, limits: Limits, hasher: B) -> Self
+        requires { 0 < limits.top }
+        ensures { result ≡ new_state number limits.top limits.numbers }
+    {
         Storage {
-            store: Store::with_limits(alloc, number, limits),
+            store: Store::with_hasher(alloc, number, limits, hasher),
         }
     }
 
@@ -131,9 +146,11 @@ impl<K: Kind> Storage<K> {
     }
 }
 
-impl<K: Kind> Owned<K> {
+impl<K> Owned<K> {
     /// A second owned handle, which counts one more. Refused: `Foreign`, `Gone`, `CountFull`.
-    pub fn clone(&self, storage: &mut Storage<K>) -> Result<Owned<K>, Refusal>
+    pub fn clone<B>(&self, storage: &mut Storage<K, B>) -> Result<Owned<K>, Refusal>
+    where
+        K: Kind<B>,
         ensures ok { IfOk result (λ h. name_of h ≡ name_of self.now) }
         ensures refused { Owes result
             (due storage.old (name_of self.now) (full storage.old.top)) }
@@ -142,9 +159,7 @@ impl<K: Kind> Owned<K> {
     {
         self.reference.to_owned(storage)
     }
-}
 
-impl<K> Owned<K> {
     /// A reference to the same entry.
     pub fn as_ref(&self) -> Ref<K>
         ensures { ref_name result ≡ name_of self.now }
@@ -168,10 +183,12 @@ impl<'a, K> From<&'a Owned<K>> for Ref<K> {
     }
 }
 
-impl<K: Kind> Ref<K> {
+impl<K> Ref<K> {
     /// An owned handle of the entry, which counts one more, also from zero.
     /// Refused: `Foreign`, `Gone`, `CountFull`.
-    pub fn to_owned(self, storage: &mut Storage<K>) -> Result<Owned<K>, Refusal>
+    pub fn to_owned<B>(self, storage: &mut Storage<K, B>) -> Result<Owned<K>, Refusal>
+    where
+        K: Kind<B>,
         ensures ok { IfOk result (λ h. name_of h ≡ ref_name self) }
         ensures refused { Owes result (due storage.old (ref_name self) (full storage.old.top)) }
         ensures state { Becomes result storage.old storage.new
@@ -183,16 +200,16 @@ impl<K: Kind> Ref<K> {
 
     /// Takes back the count of a handle that was dropped without `release`. The entry stays, also
     /// at zero and in counted mode. Refused: `Foreign`, `Gone`, `CountZero`.
-    pub fn decrement_refcount(self, storage: &mut Storage<K>) -> Result<(), Refusal>
+    pub fn decrement_refcount<B>(self, storage: &mut Storage<K, B>) -> Result<(), Refusal>
+    where
+        K: Kind<B>,
         ensures refused { Owes result (due storage.old (ref_name self) zero_count) }
         ensures state { Becomes result storage.old storage.new
             (counted_down storage.old (ref_name self).birth) }
     {
         storage.store.count_down(self.key)
     }
-}
 
-impl<K> Ref<K> {
     // The reference of a key.
     pub(crate) fn new(key: EntryKey) -> Ref<K>
         ensures { ref_name result ≡ key_name key }

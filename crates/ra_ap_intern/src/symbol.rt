@@ -20,20 +20,22 @@ pub mod symbols;
 
 pub use display::SymbolDisplay;
 use intern_store::{EntryKey, Limits, Name, Refusal, Refused, Store};
-use intern_table::{Table, Text};
+use intern_table::{FixedState, Table, Text};
 pub use iter::SymbolIter;
 use std::alloc::Global;
+use std::hash::BuildHasher;
 use std::marker::Model;
 
-/// A table of texts, each kept once, and only while it is counted. The presets are in no table.
+/// A table of texts, each kept once, and only while it is counted. The presets are in no table. Texts
+/// are hashed by a hasher that `B` builds.
 ///
 /// Only interning a text that is neither stored nor a preset takes memory.
 #[derive(Drop)]
-pub struct SymbolTable {
-    store: Store<Table<Text>>,
+pub struct SymbolTable<B: BuildHasher = FixedState> {
+    store: Store<Table<Text, B>>,
 }
 
-impl Model for SymbolTable {
+impl<B: BuildHasher> Model for SymbolTable<B> {
     ghost use Rattle.std.specs.Prelude.{List, ℕ};
     ghost use Rattle.std.specs.Coded.{coded_list, coded_ℕ};
     ghost use Rattle.intern_store.specs.State.{State, state_code};
@@ -43,9 +45,9 @@ impl Model for SymbolTable {
 
     ghost coded = { state_code (coded_list coded_ℕ) };
 
-    ghost view = { λ a. a.store };
+    ghost view = { λ a. a.store.state };
 
-    ghost invariant = { λ a. IsTable a.store };
+    ghost invariant = { λ a. IsTable a.store.state };
 }
 
 /// A symbol: a preset, or a handle of a text in a table, which counts one.
@@ -85,8 +87,22 @@ impl SymbolTable {
         requires { 0 < limits.top }
         ensures { result ≡ new_state number limits.top limits.numbers }
     {
+        SymbolTable::with_hasher(alloc, number, limits, FixedState::new())
+    }
+}
+
+impl<B: BuildHasher> SymbolTable<B> {
+    /// An empty table with limits of its own, which hashes texts by what `hasher` builds. It takes no
+    /// memory.
+    ///
+    /// The seed of [`FixedState`] is known, so that whoever chooses the texts can let all of them
+    /// share a bucket. Give a table of such texts `RandomState::new(&rt)?`.
+    pub fn with_hasher(alloc: Global, number: u64, limits: Limits, hasher: B) -> Self
+        requires { 0 < limits.top }
+        ensures { result ≡ new_state number limits.top limits.numbers }
+    {
         SymbolTable {
-            store: Store::with_limits(alloc, number, limits),
+            store: Store::with_hasher(alloc, number, limits, hasher),
         }
     }
 
@@ -155,7 +171,7 @@ impl Symbol {
     ///
     /// Refused, never for a preset: `CountFull` where the text is stored and its count is at the
     /// limit; `NumbersUsedUp` and `OutOfMemory` where it isn't stored.
-    pub fn intern(table: &mut SymbolTable, text: &str) -> Result<Symbol, Refusal>
+    pub fn intern<B: BuildHasher>(table: &mut SymbolTable<B>, text: &str) -> Result<Symbol, Refusal>
         ensures ok { IfOk result (λ s. symbol_name s ≡ (symbol_in table.old text.now).symbol) }
         ensures refused { MayWant result (due_symbol table.old text.now)
             (is_new_text table.old text.now) }
@@ -200,20 +216,20 @@ impl Symbol {
 
     /// The text: a preset's, whatever the table, or else the one that the table keeps.
     /// None for a symbol of another table, and for one whose text is gone.
-    pub fn as_str<'a>(&self, table: &'a SymbolTable) -> Option<&'a str>
+    pub fn as_str<'a, B: BuildHasher>(&self, table: &'a SymbolTable<B>) -> Option<&'a str>
         ensures { option_map (λ t. t.now) result ≡ text_of table.now (symbol_name self.now) }
     {
         self.as_ref().as_str(table)
     }
 
     /// The symbol as it is written by `{}`: its text, or its name where that can't be read.
-    pub fn display<'a>(&self, table: &'a SymbolTable) -> SymbolDisplay<'a> {
+    pub fn display<'a, B: BuildHasher>(&self, table: &'a SymbolTable<B>) -> SymbolDisplay<'a, B> {
         self.as_ref().display(table)
     }
 
     /// A second symbol of the same text, which counts one more unless it is a preset.
     /// Refused, never for a preset: `Foreign`, `Gone`, `CountFull`.
-    pub fn clone(&self, table: &mut SymbolTable) -> Result<Symbol, Refusal>
+    pub fn clone<B: BuildHasher>(&self, table: &mut SymbolTable<B>) -> Result<Symbol, Refusal>
         ensures ok { IfOk result (λ s. symbol_name s ≡ symbol_name self.now) }
         ensures refused { Owes result
             (due_of table.old (symbol_name self.now) (full table.old.top)) }
@@ -225,7 +241,7 @@ impl Symbol {
 
     /// Gives the symbol up, with its count. With the last one the text goes. A preset stays.
     /// Refused, with the symbol back and never for a preset: `Foreign`, `Gone`.
-    pub fn release(self, table: &mut SymbolTable) -> Result<(), Refused<Symbol>>
+    pub fn release<B: BuildHasher>(self, table: &mut SymbolTable<B>) -> Result<(), Refused<Symbol>>
         ensures refused { OwesBack result (due_of table.old (symbol_name self) any_count) self }
         ensures state { Becomes result table.old table.new
             (at_entry (released false) table.old (symbol_name self)) }
@@ -238,7 +254,10 @@ impl Symbol {
     /// Takes back the count of a symbol that was dropped without `release`. With the last count the
     /// text goes. This symbol stays as it is, and so does a preset.
     /// Refused, never for a preset: `Foreign`, `Gone`.
-    pub fn decrease_refcount(&mut self, table: &mut SymbolTable) -> Result<(), Refusal>
+    pub fn decrease_refcount<B: BuildHasher>(
+        &mut self,
+        table: &mut SymbolTable<B>,
+    ) -> Result<(), Refusal>
         ensures refused { Owes result (due_of table.old (symbol_name self.old) any_count) }
         ensures symbol { self.new ≡ self.old }
         ensures state { Becomes result table.old table.new
@@ -269,7 +288,7 @@ impl SymbolRef {
 
     /// The text: a preset's, whatever the table, or else the one that the table keeps.
     /// None for a symbol of another table, and for one whose text is gone.
-    pub fn as_str<'a>(self, table: &'a SymbolTable) -> Option<&'a str>
+    pub fn as_str<'a, B: BuildHasher>(self, table: &'a SymbolTable<B>) -> Option<&'a str>
         ensures { option_map (λ t. t.now) result ≡ text_of table.now (symbol_ref_name self) }
     {
         match self.0 {
@@ -282,7 +301,7 @@ impl SymbolRef {
     }
 
     /// The symbol as it is written by `{}`: its text, or its name where that can't be read.
-    pub fn display(self, table: &SymbolTable) -> SymbolDisplay<'_> {
+    pub fn display<B: BuildHasher>(self, table: &SymbolTable<B>) -> SymbolDisplay<'_, B> {
         SymbolDisplay {
             symbol: self,
             table,
@@ -291,7 +310,7 @@ impl SymbolRef {
 
     /// A symbol of the same text, which counts one more unless it is a preset.
     /// Refused, never for a preset: `Foreign`, `Gone`, `CountFull`.
-    pub fn to_owned(self, table: &mut SymbolTable) -> Result<Symbol, Refusal>
+    pub fn to_owned<B: BuildHasher>(self, table: &mut SymbolTable<B>) -> Result<Symbol, Refusal>
         ensures ok { IfOk result (λ s. symbol_name s ≡ symbol_ref_name self) }
         ensures refused { Owes result
             (due_of table.old (symbol_ref_name self) (full table.old.top)) }
@@ -310,7 +329,10 @@ impl SymbolRef {
     /// Gives a count of the text up, which a symbol had that was dropped without `release`, also as
     /// a part of a value that a collection removed. With the last count the text goes. A preset stays.
     /// Refused, never for a preset: `Foreign`, `Gone`.
-    pub fn decrease_refcount(self, table: &mut SymbolTable) -> Result<(), Refusal>
+    pub fn decrease_refcount<B: BuildHasher>(
+        self,
+        table: &mut SymbolTable<B>,
+    ) -> Result<(), Refusal>
         ensures refused { Owes result (due_of table.old (symbol_ref_name self) any_count) }
         ensures state { Becomes result table.old table.new
             (at_entry (released false) table.old (symbol_ref_name self)) }

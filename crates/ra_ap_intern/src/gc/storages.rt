@@ -19,10 +19,11 @@ use intern_marks::Marks;
 use intern_store::{EntryKey, Keeps};
 use intern_table::{Counted, Counts, SlicePayload};
 use std::alloc::AllocError;
+use std::hash::BuildHasher;
 
 /// A kind whose values declare which entries they need. Users implement [`GcInternedVisit`] or
 /// [`GcInternedSliceVisit`]; a collection makes these calls.
-pub trait Visits: Kind {
+pub trait Visits<B>: Kind<B> {
     ghost use Rattle.std.specs.Prelude.{List};
     ghost use Rattle.intern_store.specs.declared.names.Name.{Name};
 
@@ -40,17 +41,17 @@ pub trait Visits: Kind {
         ensures { IsPermutation result (listed_counts (Self.Table.entries table.now)) };
 
     /// Visits the entry of a key, if it is there, and says whether it is.
-    fn visit_entry(storage: &Storage<Self>, key: EntryKey, gc: &mut GarbageCollector) -> bool
+    fn visit_entry(storage: &Storage<Self, B>, key: EntryKey, gc: &mut GarbageCollector) -> bool
         ensures found { result ≡ is_entry (entries_of children storage.now) (key_name key) }
         ensures marks { gc.new
             ≡ marks gc.old (children_in (entries_of children storage.now) (key_name key)) };
 
     /// Drops every entry that isn't marked. It takes no memory.
-    fn keep<M: Keeps>(storage: &mut Storage<Self>, marks: &M)
+    fn keep<M: Keeps>(storage: &mut Storage<Self, B>, marks: &M)
         ensures { storage.new ≡ kept storage.old (M.marked marks.now) };
 }
 
-impl<T: Internable + GcInternedVisit + Drop> Visits for Values<T> {
+impl<T: Internable + GcInternedVisit + Drop, B: BuildHasher> Visits<B> for Values<T> {
     type Stored = T;
 
     type Payload = u64;
@@ -61,7 +62,11 @@ impl<T: Internable + GcInternedVisit + Drop> Visits for Values<T> {
         table.counts()
     }
 
-    fn visit_entry(storage: &Storage<Values<T>>, key: EntryKey, gc: &mut GarbageCollector) -> bool {
+    fn visit_entry(
+        storage: &Storage<Values<T>, B>,
+        key: EntryKey,
+        gc: &mut GarbageCollector,
+    ) -> bool {
         let Some(value) = InternedRef::new(key).get(storage) else {
             return false;
         };
@@ -69,12 +74,12 @@ impl<T: Internable + GcInternedVisit + Drop> Visits for Values<T> {
         true
     }
 
-    fn keep<M: Keeps>(storage: &mut Storage<Values<T>>, marks: &M) {
+    fn keep<M: Keeps>(storage: &mut Storage<Values<T>, B>, marks: &M) {
         storage.store.keep(marks);
     }
 }
 
-impl<T: GcInternedSliceVisit> Visits for Slices<T>
+impl<T: GcInternedSliceVisit, B: BuildHasher> Visits<B> for Slices<T>
 where
     T::Header: Drop,
 {
@@ -90,7 +95,11 @@ where
         table.counts()
     }
 
-    fn visit_entry(storage: &Storage<Slices<T>>, key: EntryKey, gc: &mut GarbageCollector) -> bool {
+    fn visit_entry(
+        storage: &Storage<Slices<T>, B>,
+        key: EntryKey,
+        gc: &mut GarbageCollector,
+    ) -> bool {
         let Some(value) = InternedSliceRef::new(key).get(storage) else {
             return false;
         };
@@ -99,12 +108,12 @@ where
         true
     }
 
-    fn keep<M: Keeps>(storage: &mut Storage<Slices<T>>, marks: &M) {
+    fn keep<M: Keeps>(storage: &mut Storage<Slices<T>, B>, marks: &M) {
         storage.store.keep(marks);
     }
 }
 
-impl<K: Kind> Numbered for Storage<K> {
+impl<K: Kind<B>, B> Numbered for Storage<K, B> {
     ghost use Rattle.std.specs.Prelude.{[], ◌∷◌};
 
     ghost numbers = { λ s. s.number ∷ [] };
@@ -114,7 +123,7 @@ impl<K: Kind> Numbered for Storage<K> {
     }
 }
 
-impl<K: Visits> Family for Storage<K> {
+impl<K: Visits<B>, B> Family for Storage<K, B> {
     ghost use Rattle.std.specs.Prelude.{[], ◌∷◌, refl};
     ghost use Rattle.ra_ap_intern.specs.Families.{entries_of, kept_named};
     ghost use Rattle.ra_ap_intern.specs.StorageLaws.{entries_kept, whole_kept, entry_numbered};

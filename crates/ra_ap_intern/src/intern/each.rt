@@ -8,6 +8,7 @@ ghost use Rattle.ra_ap_intern.specs.Interning.{Interns, IsOwed};
 
 use super::{InternStorage, Internable, Interned, InternedRef};
 use intern_store::{Refusal, Refused};
+use std::hash::BuildHasher;
 use std::vec::IntoIter;
 
 /// A handle that interning a value gives: an [`Interned`] in counted mode, an [`InternedRef`] in
@@ -30,7 +31,10 @@ pub trait InternHandle<T: Internable>: Sized {
     ghost owed: { State T → ℕ → Option Why };
 
     /// The handle of a value, as [`Interned::new`] and [`Interned::new_gc`] give it.
-    fn intern(storage: &mut InternStorage<T>, value: T) -> Result<(Self, Option<T>), Refused<T>>
+    fn intern<B: BuildHasher>(
+        storage: &mut InternStorage<T, B>,
+        value: T,
+    ) -> Result<(Self, Option<T>), Refused<T>>
         requires { T.Internable.USE_GC ≡ USE_GC }
         ensures name { IfOk result (λ r. name r.0 ≡ interned_name T.eq storage.old value) }
         ensures refused { MayWantBack result
@@ -52,7 +56,10 @@ impl<T: Internable + Drop> InternHandle<T> for Interned<T> {
 
     ghost owed = { λ s. full s.top };
 
-    fn intern(storage: &mut InternStorage<T>, value: T) -> Result<(Self, Option<T>), Refused<T>> {
+    fn intern<B: BuildHasher>(
+        storage: &mut InternStorage<T, B>,
+        value: T,
+    ) -> Result<(Self, Option<T>), Refused<T>> {
         Interned::new(storage, value)
     }
 }
@@ -70,12 +77,15 @@ impl<T: Internable + Drop> InternHandle<T> for InternedRef<T> {
 
     ghost owed = { λ _. any_count };
 
-    fn intern(storage: &mut InternStorage<T>, value: T) -> Result<(Self, Option<T>), Refused<T>> {
+    fn intern<B: BuildHasher>(
+        storage: &mut InternStorage<T, B>,
+        value: T,
+    ) -> Result<(Self, Option<T>), Refused<T>> {
         Interned::new_gc(storage, value)
     }
 }
 
-impl<T: Internable + Drop> InternStorage<T> {
+impl<T: Internable + Drop, B: BuildHasher> InternStorage<T, B> {
     /// Interns values in turn, and adds their handles to a list: owned ones in counted mode,
     /// references in collected mode. A value is dropped where an equal one is stored.
     ///

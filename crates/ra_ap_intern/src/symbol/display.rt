@@ -1,16 +1,18 @@
 //! Symbols as they are written.
 use super::{Symbol, SymbolRef, SymbolTable};
+use intern_table::FixedState;
 use std::fmt;
+use std::hash::BuildHasher;
 
 /// A symbol with the table that reads it. It is written as its text, or as its name (`#3.5`) where
 /// the text is gone or is another table's.
-#[derive(Clone, Copy)]
-pub struct SymbolDisplay<'a> {
+#[derive_where(Clone, Copy)]
+pub struct SymbolDisplay<'a, B: BuildHasher = FixedState> {
     pub(super) symbol: SymbolRef,
-    pub(super) table: &'a SymbolTable,
+    pub(super) table: &'a SymbolTable<B>,
 }
 
-impl<'a> fmt::Display for SymbolDisplay<'a> {
+impl<B: BuildHasher> fmt::Display for SymbolDisplay<'_, B> {
     fn fmt<W: fmt::Write>(&self, f: &mut fmt::Formatter<W>) -> fmt::Result {
         match (self.symbol.as_str(self.table), self.symbol.name()) {
             (None, Some(name)) => fmt::Display::fmt(&name, f),

@@ -8,6 +8,7 @@ ghost use Rattle.ra_ap_intern.specs.Symbols.{symbol_name, text_of, symbol_in, du
 use super::{Symbol, SymbolTable};
 use intern_presets::{digits, generated, number};
 use intern_store::Refusal;
+use std::hash::BuildHasher;
 
 /// The symbols of numbers.
 pub enum Integer {}
@@ -18,7 +19,7 @@ impl Integer {
     ///
     /// Refused above 255: `CountFull` where the digits are stored and their count is at the limit;
     /// `NumbersUsedUp` and `OutOfMemory` where they are not stored.
-    pub fn get(table: &mut SymbolTable, n: usize) -> Result<Symbol, Refusal>
+    pub fn get<B: BuildHasher>(table: &mut SymbolTable<B>, n: usize) -> Result<Symbol, Refusal>
         ensures ok { IfOk result (λ s.
             symbol_name s ≡ (symbol_in table.old (decimal n)).symbol) }
         ensures refused { MayWant result (due_symbol table.old (decimal n))
@@ -32,7 +33,7 @@ impl Integer {
     /// The number that a symbol's text writes, as std's parse as `usize` reads it: an optional `+`,
     /// and then decimal digits of a number below 2^64. None for any other text, and for a symbol
     /// that can't be read. It takes no memory.
-    pub fn as_uint(symbol: &Symbol, table: &SymbolTable) -> Option<usize>
+    pub fn as_uint<B: BuildHasher>(symbol: &Symbol, table: &SymbolTable<B>) -> Option<usize>
         ensures { result
             ≡ option_and_then number_value (text_of table.now (symbol_name symbol.now)) }
     {
@@ -49,7 +50,7 @@ impl RaGeneratedName {
     ///
     /// Refused above 255: `CountFull` where the name is stored and its count is at the limit;
     /// `NumbersUsedUp` and `OutOfMemory` where it is not stored.
-    pub fn get(table: &mut SymbolTable, n: usize) -> Result<Symbol, Refusal>
+    pub fn get<B: BuildHasher>(table: &mut SymbolTable<B>, n: usize) -> Result<Symbol, Refusal>
         ensures ok { IfOk result (λ s.
             symbol_name s ≡ (symbol_in table.old (generated_text n)).symbol) }
         ensures refused { MayWant result (due_symbol table.old (generated_text n))

@@ -1,7 +1,7 @@
 use Rattle.std.proofs.Common.{◌-◌, ap, refl, ◌∙◌, arith}
 use Rattle.std.proofs.lemmas.Option.{same_Some}
 use Rattle.intern_store.specs.State.{counted_down}
-use Rattle.intern_store.proofs.States.{changed_state, changed_count, same_count}
+use Rattle.intern_store.proofs.States.{changed_state, changed_count, same_count, seen_state}
 use Rattle.intern_store.proofs.store.Store.lower.Goals as goal
 use Rattle.intern_store.proofs.store.Store.lower.Goals.{in-None, in-Some-eq0, in-Some}
 
@@ -14,11 +14,11 @@ returns-clause-state g c =
     elim c.match-count_down.branch [
       | in-None w ↦ rw w.result-is (
           same_count (λ n. n - 1) _ c.args.spot.birth _ c.count_down.ensures.state (λ n is. let none = w.in-None.ensures.count in absurd (cc))
-          ∙ c.self.view_is)
+          ∙ (seen_state c.self.view_is))
       | in-Some-eq0 w ↦ rw w.result-is (
           same_count (λ n. n - 1) _ c.args.spot.birth _ c.count_down.ensures.state (λ n is. let same = same_Some _ _ (w.in-Some-eq0.ensures.count ∙ is) in omega arith)
-          ∙ c.self.view_is)
+          ∙ (seen_state c.self.view_is))
       | in-Some w ↦ rw w.result-is (
           changed_count (λ n. n - 1) (λ n. n - 1) _ c.args.spot.birth _ c.count_down.ensures.state (λ n is. refl)
-          ∙ ap (λ s. counted_down s c.args.spot.birth) c.self.view_is)
+          ∙ ap (λ s. counted_down s c.args.spot.birth) (seen_state c.self.view_is))
     ]

@@ -10,13 +10,13 @@ returns-then-not-stays-clause-value g c =
     let b = c.in_ok-spot.spot.birth in
     c.take.ensures.value
     ∙ ap (λ t. option_map (λ k. k.value) (entry_at t b)) c.in_ok-count.ensures.state
-    ∙ last_freed c.args.stays c.args.self.now b c.if-not-stays.true (c.in_ok-count.ensures.ok.1 ∙ ap Some c.if-count-eq1.true)
-    ∙ ap (λ (s : Spot). freed c.args.stays c.args.self.now s.birth) c.in_ok-spot.ensures.own.1
+    ∙ last_freed c.args.stays c.args.self.now.state b c.if-not-stays.true (c.in_ok-count.ensures.ok.1 ∙ ap Some c.if-count-eq1.true)
+    ∙ ap (λ (s : Spot). freed c.args.stays c.args.self.now.state s.birth) c.in_ok-spot.ensures.own.1
 
 pub returns-then-not-stays-clause-state : goal.returns-then-not-stays-clause-state
 returns-then-not-stays-clause-state g c =
     let b = c.in_ok-spot.spot.birth in
     c.take.ensures.state
     ∙ ap (λ t. taken t b) c.in_ok-count.ensures.state
-    ∙ last_released c.args.stays c.args.self.now b c.if-not-stays.true (c.in_ok-count.ensures.ok.1 ∙ ap Some c.if-count-eq1.true)
-    ∙ ap (λ (s : Spot). released c.args.stays c.args.self.now s.birth) c.in_ok-spot.ensures.own.1
+    ∙ last_released c.args.stays c.args.self.now.state b c.if-not-stays.true (c.in_ok-count.ensures.ok.1 ∙ ap Some c.if-count-eq1.true)
+    ∙ ap (λ (s : Spot). released c.args.stays c.args.self.now.state s.birth) c.in_ok-spot.ensures.own.1

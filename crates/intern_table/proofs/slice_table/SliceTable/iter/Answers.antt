@@ -8,6 +8,7 @@ use Rattle.intern_store.proofs.Maps.{listed_through}
 use Rattle.intern_table.specs.Joined.{sliced_entry}
 use Rattle.intern_table.specs.Listed.{slice_among}
 use Rattle.intern_table.specs.Read.{shown}
+use Rattle.intern_table.proofs.Tabled.{seen_entries}
 use Rattle.intern_table.proofs.slice_table.SliceTable.iter.Goals as goal
 
 pub returns : goal.returns
@@ -16,5 +17,5 @@ returns g c =
     rw c.as_slice.ensures.value (
     subst (IsPermutation (list_map (slice_among xs) c.iter.result))
     (map-map (slice_among xs) listed_of (entries c.self.inside.index.entries)
-    ∙ listed_through (sliced_entry xs) (λ e. slice_among xs (listed_of e)) (λ e. (e.0, shown e.1)) (λ e. refl) _ _ c.self.view_is)
+    ∙ listed_through (sliced_entry xs) (λ e. slice_among xs (listed_of e)) (λ e. (e.0, shown e.1)) (λ e. refl) _ _ (seen_entries c.self.view_is))
     (IsPermutation-map (slice_among xs) _ _ c.iter.ensures))

@@ -4,6 +4,7 @@ use Rattle.intern_table.specs.Joined.{sliced_entry, sliced_hash}
 use Rattle.intern_table.specs.Sliced.{Sliced, sliced_eq, sliced_input}
 use Rattle.intern_index.proofs.Seen.{finds, finds_none}
 use Rattle.intern_table.proofs.Joins.{sliced_input-same}
+use Rattle.intern_table.proofs.Tabled.{seen_entries}
 use Rattle.intern_table.proofs.slice_table.SliceTableFindsTuple2RefRefSlice.find.Goals as goal
 
 pub returns-clause-found : goal.returns-clause-found
@@ -12,7 +13,7 @@ returns-clause-found g c =
     let v : Sliced g.row.H.Denot g.row.S.Denot = record { header = c.args.query.now.0.now; items = c.args.query.now.1.now } in
     rw c.ok_or.ensures.value (finds (sliced_entry c.self.inside.items.items) _ eq v
     (λ r. ap (λ xs. eq v (record { header = r.value; items = take r.payload.length (drop r.payload.start xs) })) c.as_slice.ensures.value)
-    c.self.inside.index _ c.self.view_is (λ s. s.birth) c.find.result c.hash_value-hash.result c.find.ensures.found)
+    c.self.inside.index _ (seen_entries c.self.view_is) (λ s. s.birth) c.find.result c.hash_value-hash.result c.find.ensures.found)
 
 pub returns-clause-none : goal.returns-clause-none
 returns-clause-none g c =
@@ -21,6 +22,6 @@ returns-clause-none g c =
     let v : Sliced g.row.H.Denot g.row.S.Denot = record { header = c.args.query.now.0.now; items = c.args.query.now.1.now } in
     rw c.ok_or.ensures.value (finds_none (sliced_entry c.self.inside.items.items) _ eq v
     (λ r. ap (λ xs. eq v (record { header = r.value; items = take r.payload.length (drop r.payload.start xs) })) c.as_slice.ensures.value)
-    c.self.inside.index _ c.self.view_is (λ v. hash_of (input v))
-    (λ w e. ap (hash_of) (sliced_input-same g.H.Hash.hash_input g.S.Hash.hash_input g.H.PartialEq.eq g.S.PartialEq.eq g.met.H.Hash.respects_eq g.met.S.Hash.respects_eq v w e))
-    (sliced_hash (λ v. hash_of (input v)) c.self.inside.items.items) (λ r. refl) c.self.invariant.led c.find.result c.hash_value-hash.result c.hash_value-hash.ensures c.find.ensures.none)
+    c.self.inside.index _ (seen_entries c.self.view_is) (λ v. hash_of g.B.BuildHasher g.B.Hasher.Hasher c.self.inside.hasher (input v))
+    (λ w e. ap (hash_of g.B.BuildHasher g.B.Hasher.Hasher c.self.inside.hasher) (sliced_input-same g.H.Hash.hash_input g.S.Hash.hash_input g.H.PartialEq.eq g.S.PartialEq.eq g.met.H.Hash.respects_eq g.met.S.Hash.respects_eq v w e))
+    (sliced_hash (λ v. hash_of g.B.BuildHasher g.B.Hasher.Hasher c.self.inside.hasher (input v)) c.self.inside.items.items) (λ r. refl) c.self.invariant.led c.find.result c.hash_value-hash.result c.hash_value-hash.ensures c.find.ensures.none)

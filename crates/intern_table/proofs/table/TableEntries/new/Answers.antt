@@ -6,5 +6,5 @@ use Rattle.intern_table.proofs.table.TableEntries.new.Goals as goal
 pub invariant_of-result : goal.invariant_of-result
 invariant_of-result g c = empty_led _ _ c.new.ensures
 
-pub returns : goal.returns
-returns g c = map_values-empty kept_entry _ c.new.ensures
+pub returns-clause-entries : goal.returns-clause-entries
+returns-clause-entries g c = map_values-empty kept_entry _ c.new.ensures

@@ -2,4 +2,4 @@ use Rattle.ra_ap_intern.proofs.Tables.{up_table, either_table}
 use Rattle.ra_ap_intern.proofs.symbol.SymbolRef.to_owned.Goals as goal
 
 pub invariant_of-table-in-Runtime : goal.invariant_of-table-in-Runtime
-invariant_of-table-in-Runtime c = either_table _ _ _ _ c.count_up.ensures.state (up_table c.table.inside.store c.in-Runtime.key.spot.birth c.table.invariant) c.table.invariant
+invariant_of-table-in-Runtime g c = either_table _ _ _ _ c.count_up.ensures.state (up_table c.table.inside.store.state c.in-Runtime.key.spot.birth c.table.invariant) c.table.invariant

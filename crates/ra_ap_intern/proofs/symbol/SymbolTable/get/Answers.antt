@@ -6,6 +6,6 @@ use Rattle.ra_ap_intern.proofs.Tables.{found_named}
 use Rattle.ra_ap_intern.proofs.symbol.SymbolTable.get.Goals as goal
 
 pub returns-in-Some : goal.returns-in-Some
-returns-in-Some c =
-    sym (found_named c.self.inside.store c.args.text.now c.self.invariant (key_name c.in-Some.key) c.in-Some.ensures)
+returns-in-Some g c =
+    sym (found_named c.self.inside.store.state c.args.text.now c.self.invariant (key_name c.in-Some.key) c.in-Some.ensures)
     ∙ ap (λ (s : State (List ℕ)). named_in s c.args.text.now) c.self.view_is

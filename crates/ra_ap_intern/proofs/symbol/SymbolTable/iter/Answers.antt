@@ -3,6 +3,6 @@ use Rattle.ra_ap_intern.proofs.Listings.{named_entries}
 use Rattle.ra_ap_intern.proofs.symbol.SymbolTable.iter.Goals as goal
 
 pub returns : goal.returns
-returns c =
+returns g c =
     named_entries text_with_name (λ e. (e.0, (e.1.value, e.1.count)))
     _ _ c.self.view_is _ c.table.ensures _ c.number.ensures.number c.iter.result c.iter.ensures

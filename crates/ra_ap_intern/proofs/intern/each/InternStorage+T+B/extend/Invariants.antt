@@ -1,7 +1,7 @@
 use Rattle.std.proofs.Common.{◌≡◌, ◌++◌, List, map as list_map, vec_len, vec_capacity, ◌+◌, ◌≤◌}
 use Rattle.std.specs.Vec.Iter.{into_iter_items, into_iter_len}
 use Rattle.ra_ap_intern.specs.Interning.{Interns}
-use Rattle.ra_ap_intern.proofs.intern.each.InternStorage+T.extend.Given as goal
+use Rattle.ra_ap_intern.proofs.intern.each.InternStorage+T+B.extend.Given as goal
 
 -- the values before those that are left were interned in turn, and there is room for the others' handles
 abbrev pub invariant-loop-value : goal.invariant-loop-value

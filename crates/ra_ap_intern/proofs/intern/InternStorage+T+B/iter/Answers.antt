@@ -1,6 +1,6 @@
 use Rattle.ra_ap_intern.specs.Handle.{with_name}
 use Rattle.ra_ap_intern.proofs.Listings.{named_entries}
-use Rattle.ra_ap_intern.proofs.intern.InternStorage+T.iter.Goals as goal
+use Rattle.ra_ap_intern.proofs.intern.InternStorage+T+B.iter.Goals as goal
 
 pub returns : goal.returns
 returns g c =

@@ -1,12 +1,12 @@
-use Rattle.std.proofs.Common.{◌≡◌, ◌++◌, ◌∷◌, [], List, map as list_map, sym, ap, ◌∙◌, append_assoc, arith}
-use Rattle.std.proofs.lemmas.List.{map-append}
+use Rattle.std.proofs.Common.{◌≡◌, ◌++◌, ◌∷◌, [], List, map as list_map, refl, sym, ap, ◌∙◌, append_assoc, rules, arith}
+use Rattle.std.proofs.lemmas.List.{append-nil, map-append}
 use Rattle.std.specs.Vec.Iter.{into_iter_items}
 use Rattle.intern_store.specs.State.{interned_name}
 use Rattle.ra_ap_intern.specs.Interning.{Interns}
 use Rattle.ra_ap_intern.proofs.InTurn.{interns_more}
-use Rattle.ra_ap_intern.proofs.intern.each.InternStorage+T.extend.Given.{Over}
-use Rattle.ra_ap_intern.proofs.intern.each.InternStorage+T.extend.Goals as goal
-use Rattle.ra_ap_intern.proofs.intern.each.InternStorage+T.extend.Goals.{After-push_reserved}
+use Rattle.ra_ap_intern.proofs.intern.each.InternStorage+T+B.extend.Given.{Over}
+use Rattle.ra_ap_intern.proofs.intern.each.InternStorage+T+B.extend.Goals as goal
+use Rattle.ra_ap_intern.proofs.intern.each.InternStorage+T+B.extend.Goals.{After-push_reserved}
 
 -- a value more was interned, and its handle is in the list
 module _ (g : Over) (c : After-push_reserved g) where
@@ -31,6 +31,16 @@ module _ (g : Over) (c : After-push_reserved g) where
       let more = interns_more g.H.InternHandle.after g.T.PartialEq.eq g.H.InternHandle.owed c.args.self.now c.loop-value.self done _ _ c.in-Some-next.value
       c.loop-value.invariant.turn c.in_ok-handle.ensures.refused in
       record { due = more.due; state = c.in_ok-handle.ensures.state ∙ more.state; named = named ∙ more.named }
+
+-- no value was interned yet
+pub loop-value-init : goal.loop-value-init
+loop-value-init g c =
+    record {
+      done = [];
+      values = refl;
+      turn = record { due = tt; state = refl; named = ap (list_map g.H.InternHandle.name) c.reserve.ensures.items ∙ sym (append-nil _) };
+      room = search rules;
+    }
 
 pub loop-value-preserved-in_ok-handle : goal.loop-value-preserved-in_ok-handle
 loop-value-preserved-in_ok-handle g c =
