@@ -20,6 +20,7 @@ pub trait Entries: Sized {
     // What is kept under each birth.
     ghost entries: { Self → map.FinMap nat_cmp (Kept Self.Value) };
 
+    // What hashes the values: no call changes it.
     ghost hashes_by: { Self → Self.Hasher };
 
     /// A table with no entry, which hashes by this.

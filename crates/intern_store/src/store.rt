@@ -233,8 +233,10 @@ impl<E: Entries> Store<E> {
 
     // Raises the count of an entry.
     fn raise(&mut self, spot: Spot) -> Result<(), Refusal>
-        ensures refused { Owes result (due_at (entry_at self.old.state spot.birth) (full self.old.state.top)) }
-        ensures state { Becomes result self.old.state self.new.state (counted_up self.old.state spot.birth) }
+        ensures refused { Owes result
+            (due_at (entry_at self.old.state spot.birth) (full self.old.state.top)) }
+        ensures state { Becomes result self.old.state self.new.state
+            (counted_up self.old.state spot.birth) }
         ensures hasher { self.new.hasher ≡ self.old.hasher }
     {
         match self.table.count_up(spot, self.top) {
@@ -248,7 +250,8 @@ impl<E: Entries> Store<E> {
     fn lower(&mut self, spot: Spot) -> Result<u64, Refusal>
         ensures ok { IfOk result (λ n. (0 < n) × (count_at self.old.state spot.birth ≡ Some n)) }
         ensures refused { Owes result (due_at (entry_at self.old.state spot.birth) zero_count) }
-        ensures state { Becomes result self.old.state self.new.state (counted_down self.old.state spot.birth) }
+        ensures state { Becomes result self.old.state self.new.state
+            (counted_down self.old.state spot.birth) }
         ensures hasher { self.new.hasher ≡ self.old.hasher }
     {
         // A field that is read brings in the invariant, which the table alone doesn't know.
@@ -292,9 +295,11 @@ impl<E: Entries> Store<E> {
         ensures hash { IfOk result (λ found. IfErr found (λ h.
             h ≡ E.hash_of self.old.hasher offer.now)) }
         ensures refused { Owes result
-            (due_found_full (birth_of E.Value.eq self.old.state (E.value offer.now)) self.old.state) }
+            (due_found_full (birth_of E.Value.eq self.old.state (E.value offer.now))
+            self.old.state) }
         ensures state { Becomes result self.old.state self.new.state
-            (found_counted (birth_of E.Value.eq self.old.state (E.value offer.now)) self.old.state) }
+            (found_counted (birth_of E.Value.eq self.old.state (E.value offer.now))
+            self.old.state) }
         ensures hasher { self.new.hasher ≡ self.old.hasher }
     {
         // A field that is read brings in the invariant, which the table alone doesn't know.
@@ -355,8 +360,10 @@ impl<E: Entries> Store<E> {
 
     /// Counts an entry once more.
     pub fn count_up(&mut self, key: EntryKey) -> Result<(), Refusal>
-        ensures refused { Owes result (due self.old.state (key_name key) (full self.old.state.top)) }
-        ensures state { Becomes result self.old.state self.new.state (counted_up self.old.state key.spot.birth) }
+        ensures refused { Owes result
+            (due self.old.state (key_name key) (full self.old.state.top)) }
+        ensures state { Becomes result self.old.state self.new.state
+            (counted_up self.old.state key.spot.birth) }
         ensures hasher { self.new.hasher ≡ self.old.hasher }
     {
         let spot = self.spot(key)?;
@@ -366,7 +373,8 @@ impl<E: Entries> Store<E> {
     /// Counts an entry once less. It stays, also at zero.
     pub fn count_down(&mut self, key: EntryKey) -> Result<(), Refusal>
         ensures refused { Owes result (due self.old.state (key_name key) zero_count) }
-        ensures state { Becomes result self.old.state self.new.state (counted_down self.old.state key.spot.birth) }
+        ensures state { Becomes result self.old.state self.new.state
+            (counted_down self.old.state key.spot.birth) }
         ensures hasher { self.new.hasher ≡ self.old.hasher }
     {
         let spot = self.spot(key)?;

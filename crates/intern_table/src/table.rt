@@ -65,7 +65,8 @@ impl<T: Hash + Eq, O: Equivalent<T>> Query<T, u64> for Equal<'_, O> {
 impl<T: Hash + Eq, B: BuildHasher> Table<T, B> {
     /// The value of an entry.
     pub fn get(&self, spot: Spot) -> Option<&T>
-        ensures { option_copied result ≡ option_map (λ k. k.value) (map.get self.now.entries spot.birth) }
+        ensures { option_copied result
+            ≡ option_map (λ k. k.value) (map.get self.now.entries spot.birth) }
     {
         self.index.get(spot)
     }

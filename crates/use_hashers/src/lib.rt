@@ -44,7 +44,8 @@ pub fn intern<B: BuildHasher>(
     text: Text,
 ) -> Result<Interned<Text>, Refused<Text>>
     ensures name { IfOk result (λ h. name_of h ≡ interned_name bytes_eq texts.old text) }
-    ensures refused { MayWantBack result (due_interning bytes_eq texts.old text (full texts.old.top))
+    ensures refused { MayWantBack result
+        (due_interning bytes_eq texts.old text (full texts.old.top))
         (is_new bytes_eq texts.old text) text }
     ensures state { Becomes result texts.old texts.new (interned_counted bytes_eq texts.old text) }
     ensures reads { IfOk result (λ h. reads texts.new (name_of h) ≡ Some text) }
