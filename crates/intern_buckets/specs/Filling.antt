@@ -20,6 +20,10 @@ full_of t = full_count t.buckets.items
 abbrev pub capacity_of : Buckets → ℕ
 capacity_of t = vec_capacity t.buckets
 
+-- how many more buckets there is room for
+abbrev pub spare_of : Buckets → ℕ
+spare_of t = capacity_of t - vec_len t.buckets
+
 -- there is room for one more bucket
 abbrev pub HasRoom : Buckets → Type 0
-HasRoom t = vec_len t.buckets < capacity_of t
+HasRoom t = 0 < spare_of t

@@ -59,7 +59,7 @@ impl Bucket {
 }
 
 impl Buckets {
-    ghost use Rattle.intern_buckets.specs.Filling.{homes_of, homes_for, full_of, capacity_of, HasRoom};
+    ghost use Rattle.intern_buckets.specs.Filling.{homes_of, homes_for, full_of, capacity_of, spare_of, HasRoom};
     ghost use Rattle.intern_buckets.specs.Leading.{leads, probe_sequence};
 
     /// A table without a bucket. It takes no memory.
@@ -107,15 +107,17 @@ impl Buckets {
         self.buckets.len() < self.buckets.capacity()
     }
 
-    /// Makes room for one more bucket. Where there is no memory, the table leads where it did.
-    pub fn reserve(&mut self) -> Result<(), AllocError>
+    /// Makes room for this many more buckets. Where there is no memory, the table leads where it
+    /// did.
+    pub fn reserve(&mut self, additional: usize) -> Result<(), AllocError>
         ensures homes { homes_of self.new ≡ homes_of self.old }
         ensures full { full_of self.new ≡ full_of self.old }
         ensures led { (h p : ℕ) → leads self.new h p ≡ leads self.old h p }
-        ensures ok { OnOk result (HasRoom self.new) }
-        ensures succeeds { HasRoom self.old → IsOk result }
+        ensures ok { OnOk result (additional ≤ spare_of self.new) }
+        ensures spare { spare_of self.old ≤ spare_of self.new }
+        ensures succeeds { additional ≤ spare_of self.old → IsOk result }
     {
-        self.buckets.reserve(1)
+        self.buckets.reserve(additional)
     }
 
     /// Enters a place under a hash, in room that was made before. It takes no memory.
@@ -124,6 +126,7 @@ impl Buckets {
         requires room { HasRoom self.old }
         ensures homes { homes_of self.new ≡ homes_of self.old }
         ensures capacity { capacity_of self.new ≡ capacity_of self.old }
+        ensures spare { spare_of self.old ≤ spare_of self.new + 1 }
         ensures full { full_of self.new ≡ full_of self.old + 1 }
         ensures entered { leads self.new hash place ≡ true }
         ensures still { (h p : ℕ) →

@@ -1,13 +1,16 @@
 -- What a change of the slab does to the map of its births, and to what ties it to its tables.
-use Rattle.std.proofs.Common.{◌≡◌, ◌≢◌, ◌⊎◌, inl, inr, ℕ, ◌+◌, ◌<◌, ◌^◌, Bool, true, false, cond, Option, Some, None, is_some, nat_eq, refl, sym, ap, subst, ◌∙◌, arith}
+use Rattle.std.proofs.Common.{◌≡◌, ◌≢◌, ◌⊎◌, inl, inr, ℕ, ◌+◌, ◌-◌, min, ◌<◌, ◌^◌, Bool, true, false, cond, Option, Some, None, is_some, nat_eq, refl, sym, ap, subst, ◌∙◌, arith}
 use Rattle.std.specs.Option.{option_map}
 use Rattle.std.specs.Ordering.{nat_cmp}
 use Rattle.std.specs.Cmp.{nat_cmp_total}
 use Rattle.std.specs.FinMap.{FinMap, insert, remove, get as map_get, same_map, nat_cmp-IsAntisymmetric}
 use Rattle.std.proofs.lemmas.Bool.{cases_eq, eqb-true}
 use Rattle.std.proofs.lemmas.Option.{same_Some}
-use Rattle.slab.specs.Slab.{Slab, get, Updates}
+use Rattle.std.proofs.lemmas.List.Sums.{sum_by-set}
+use Rattle.slab.specs.Slab.{Slab, get, slab_len, with_value, Updates}
+use Rattle.slab.proofs.SlabLemmas.{ContainsKey-within}
 use Rattle.intern_store.proofs.Compared.{get-inserted, get-removed}
+use Rattle.intern_index.specs.Room.{placed, room_of}
 use Rattle.intern_index.specs.IndexEntry.{IndexEntry, with_payload}
 use Rattle.intern_index.specs.Entries.{seen, held, birth_at, IsTied}
 use Rattle.intern_index.specs.declared.entry.Entry.{Entry}
@@ -117,6 +120,20 @@ unremoved {X} m b none = same_map nat_cmp_total nat_cmp-IsAntisymmetric m (remov
     go : (q : ℕ) (t : Bool) → nat_eq q b ≡ t → cond t None (map_get m q) ≡ map_get m q
     go q true t = sym (ap (map_get m) (eqb-true q b t) ∙ none)
     go q false t = refl
+
+-- a write at a place that has an entry leaves as many
+pub len-written : {X : Type 0} (s : Slab X) (key : ℕ) (x : X) → is_some (get s key) ≡ true → slab_len (with_value s key x) ≡ slab_len s
+len-written {X} s key x there =
+    let same = sum_by-set (λ (o : Option X). cond (is_some o) 1 0) s.slots key (Some x) None (ContainsKey-within s key there) in
+    go (is_some (get s key)) there same
+  where
+    go : (t : Bool) → t ≡ true → slab_len (with_value s key x) + cond t 1 0 ≡ slab_len s + 1 → slab_len (with_value s key x) ≡ slab_len s
+    go true is same = omega arith
+    go false is same = absurd (cc)
+
+-- so there is as much room
+pub room_written : {X : Type 0} (s : Slab X) (key : ℕ) (x : X) (hashes : ℕ) (births : ℕ → ℕ) → is_some (get s key) ≡ true → room_of (with_value s key x) hashes (births (slab_len (with_value s key x))) ≡ room_of s hashes (births (slab_len s))
+room_written s key x hashes births there = ap (λ n. min (placed s.capacity - n) (min hashes (births n))) (len-written s key x there)
 
 -- room for more changes no place: an entry that is put where there is room
 pub put_roomy : {X : Type 0} (s roomy new : Slab X) (key place : ℕ) (o : Option X) → roomy ≡ record s { capacity = roomy.capacity } → key ≡ roomy.vacant_key → place ≡ s.vacant_key → Updates roomy new key o → Updates s new place o

@@ -21,12 +21,12 @@ module _ {T N : Type 0} (key : T → N → ℕ) where
 
   module _ (s : Slab (Entry T N)) (t : Buckets) (IsFor : (ℕ → Option ℕ) → Type 0) (tied : IsTied s IsFor) where
     -- what leads to each entry under its birth leads to it at its place
-    pub keyed_slots : IsLed key (record { entries = held s.slots; buckets = t }) → IsKeyed t entered s
-    keyed_slots is p e there = is.led e.birth (seen p e) (read_there s tied.apart p e there)
+    pub keyed_slots : (n : ℕ) → IsLed key (record { entries = held s.slots; buckets = t; room = n }) → IsKeyed t entered s
+    keyed_slots n is p e there = is.led e.birth (seen p e) (read_there s tied.apart p e there)
 
   -- and the other way round
-  pub led_slots : (s : Slab (Entry T N)) (t : Buckets) → IsKeyed t entered s → IsLed key (record { entries = held s.slots; buckets = t })
-  led_slots s t keyed = record { led = λ b r at. go b r at (in_or_out s.slots b) }
+  pub led_slots : (s : Slab (Entry T N)) (t : Buckets) (n : ℕ) → IsKeyed t entered s → IsLed key (record { entries = held s.slots; buckets = t; room = n })
+  led_slots s t n keyed = record { led = λ b r at. go b r at (in_or_out s.slots b) }
     where
       go : (b : ℕ) (r : IndexEntry T N) → map_get (held s.slots) b ≡ Some r → IsIn 0 s.slots b ⊎ IsOut 0 s.slots b → leads t (key r.value r.payload) r.place ≡ true
       go b r at (inl is) =
@@ -60,11 +60,11 @@ module _ {T N : Type 0} (fits : T → N → Bool) (s : Slab (Entry T N)) (IsFor 
           ap (is_sought fits) is.read ∙ sym (ap (λ o. option_map_or passes o false) is.there) ∙ none is.place (told_there s tied.told is.place is.entry is.there) led
 
   -- where no place that a hash leads to passes, none of that hash fits
-  pub none_fits : (t : Buckets) (h : ℕ) → ((p : ℕ) → p + 1 < 2 ^ 48 → leads t h p ≡ true → passes_at passes s p ≡ false) → (i : Indexed T N) → record { entries = held s.slots; buckets = t } ≡ i → (key : T → N → ℕ) → IsLed key i → (b : ℕ)
+  pub none_fits : (t : Buckets) (h : ℕ) → ((p : ℕ) → p + 1 < 2 ^ 48 → leads t h p ≡ true → passes_at passes s p ≡ false) → (n : ℕ) (i : Indexed T N) → record { entries = held s.slots; buckets = t; room = n } ≡ i → (key : T → N → ℕ) → IsLed key i → (b : ℕ)
       → has_hash key h (map_get i.entries b) ≡ true → is_sought fits (map_get i.entries b) ≡ false
-  none_fits t h none i view key led b =
+  none_fits t h none n i view key led b =
       subst (λ (i : Indexed T N). has_hash key h (map_get i.entries b) ≡ true → is_sought fits (map_get i.entries b) ≡ false) view
-      (fits_nowhere t h none key (keyed_slots key s t IsFor tied (subst (IsLed key) (sym view) led)) b)
+      (fits_nowhere t h none key (keyed_slots key s t IsFor tied n (subst (IsLed key) (sym view) led)) b)
 
   module _ (m : FinMap nat_cmp (IndexEntry T N)) (view : held s.slots ≡ m) (p : ℕ) (e : Entry T N) (there : get s p ≡ Some e) where
     there_seen : map_get m e.birth ≡ Some (seen p e)

@@ -222,9 +222,13 @@ module _ {T N : Type 0} where
       ap (λ o. option_map (λ (e : IndexEntry T N). e.place) (option_map (seen p) o)) (sym w.1) ∙ ap (option_map (λ (e : IndexEntry T N). e.place)) (seen_at s m view apart p b found)
 
   -- the map that is seen beside a table of buckets
-  pub entries_seen : (m : FinMap nat_cmp (IndexEntry T N)) (t : Buckets) (i : Indexed T N) → record { entries = m; buckets = t } ≡ i → m ≡ i.entries
-  entries_seen m t i view = ap (λ (i : Indexed T N). i.entries) view
+  pub entries_seen : (m : FinMap nat_cmp (IndexEntry T N)) (t : Buckets) (n : ℕ) (i : Indexed T N) → record { entries = m; buckets = t; room = n } ≡ i → m ≡ i.entries
+  entries_seen m t n i view = ap (λ (i : Indexed T N). i.entries) view
 
   -- what is seen once the map has changed, and the table hasn't
-  pub changed_seen : (m : FinMap nat_cmp (IndexEntry T N)) (t : Buckets) (i : Indexed T N) → record { entries = m; buckets = t } ≡ i → (new other : FinMap nat_cmp (IndexEntry T N)) → new ≡ other → record { entries = new; buckets = t } ≡ record i { entries = other }
-  changed_seen m t i view new other same = ap (λ n. record { entries = n; buckets = t }) same ∙ ap (λ (i : Indexed T N). record i { entries = other }) view
+  pub changed_seen : (m : FinMap nat_cmp (IndexEntry T N)) (t : Buckets) (n : ℕ) (i : Indexed T N) → record { entries = m; buckets = t; room = n } ≡ i → (new other : FinMap nat_cmp (IndexEntry T N)) (k : ℕ) → new ≡ other → record { entries = new; buckets = t; room = k } ≡ record i { entries = other; room = k }
+  changed_seen m t n i view new other k same = ap (λ e. record { entries = e; buckets = t; room = k }) same ∙ ap (λ (i : Indexed T N). record i { entries = other; room = k }) view
+
+  -- the same where there is as much room as before
+  pub changed_alike : (m : FinMap nat_cmp (IndexEntry T N)) (t : Buckets) (n : ℕ) (i : Indexed T N) → record { entries = m; buckets = t; room = n } ≡ i → (new other : FinMap nat_cmp (IndexEntry T N)) (k : ℕ) → new ≡ other → k ≡ n → record { entries = new; buckets = t; room = k } ≡ record i { entries = other }
+  changed_alike m t n i view new other k same alike = changed_seen m t n i view new other k same ∙ ap (λ r. record i { entries = other; room = r }) (alike ∙ ap (λ (i : Indexed T N). i.room) view)

@@ -33,14 +33,14 @@ module _ {T N : Type 0} (key : T → N → ℕ) where
   less_led : (i n : Indexed T N) → IsLed key i → n.buckets ≡ i.buckets → ((b : ℕ) (e : IndexEntry T N) → get n.entries b ≡ Some e → get i.entries b ≡ Some e) → IsLed key n
   less_led i n is same was = record { led = λ b e at. ap (λ t. leads t (key e.value e.payload) e.place) same ∙ is.led b e (was b e at) }
 
-  pub removed_led : (i n : Indexed T N) (b : ℕ) → IsLed key i → n ≡ record i { entries = remove i.entries b } → IsLed key n
+  pub removed_led : (i n : Indexed T N) (b : ℕ) → IsLed key i → n ≡ record i { entries = remove i.entries b; room = n.room } → IsLed key n
   removed_led i n b is removed = less_led i n is (ap (λ (n : Indexed T N). n.buckets) removed) (λ q e at. go (nat_eq q b) q e (sym (ap (λ (n : Indexed T N). get n.entries q) removed ∙ get-removed i.entries b q) ∙ at))
     where
       go : (t : Bool) (q : ℕ) (e : IndexEntry T N) → cond t None (get i.entries q) ≡ Some e → get i.entries q ≡ Some e
       go true q e at = absurd (cc)
       go false q e at = at
 
-  pub retained_led : (i n : Indexed T N) (marked : ℕ → Bool) → IsLed key i → n ≡ record i { entries = retain_keys i.entries marked } → IsLed key n
+  pub retained_led : (i n : Indexed T N) (marked : ℕ → Bool) → IsLed key i → n ≡ record i { entries = retain_keys i.entries marked; room = n.room } → IsLed key n
   retained_led i n marked is retained = less_led i n is (ap (λ (n : Indexed T N). n.buckets) retained) (λ q e at. go (marked q) q e (sym (ap (λ (n : Indexed T N). get n.entries q) retained ∙ get-retained i.entries marked q) ∙ at))
     where
       go : (t : Bool) (q : ℕ) (e : IndexEntry T N) → cond t (get i.entries q) None ≡ Some e → get i.entries q ≡ Some e

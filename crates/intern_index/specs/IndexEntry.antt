@@ -22,16 +22,19 @@ index_entry_code {T} {N} value payload =
     (λ e. (e.place, (e.value, e.payload)))
     (λ p. record { place = p.0; value = p.1.0; payload = p.1.1 }) (λ _. refl)
 
--- the entries under their births, and the table of their places by hashes
+-- the entries under their births, the table of their places by hashes, and how many more entries
+-- are taken with no request for memory
 pub record Indexed (T N : Type 0) : Type 0 where
   pub entries : FinMap nat_cmp (IndexEntry T N)
   pub buckets : Buckets
+  pub room : ℕ
 
 abbrev pub indexed_code : {T N : Type 0} → Coded T → Coded N → Coded Buckets → Coded (Indexed T N)
 indexed_code {T} {N} value payload buckets =
-    code_by (FinMap nat_cmp (IndexEntry T N) × Buckets)
-    (coded× (map_code coded_ℕ (index_entry_code value payload)) buckets)
-    (λ i. (i.entries, i.buckets)) (λ p. record { entries = p.0; buckets = p.1 }) (λ _. refl)
+    code_by (FinMap nat_cmp (IndexEntry T N) × (Buckets × ℕ))
+    (coded× (map_code coded_ℕ (index_entry_code value payload)) (coded× buckets coded_ℕ))
+    (λ i. (i.entries, (i.buckets, i.room)))
+    (λ p. record { entries = p.0; buckets = p.1.0; room = p.1.1 }) (λ _. refl)
 
 module _ {T N : Type 0} where
   -- the probe sequence of its hash leads to each entry

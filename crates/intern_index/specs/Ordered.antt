@@ -31,6 +31,12 @@ abbrev pub HasRoomFor : Option Row → ℕ → ℕ → ℕ → ℕ → Type 0
 HasRoomFor (Some row) len capacity b p = p + row.shift ≡ b
 HasRoomFor None len capacity b p = len < capacity
 
+-- how many more births can be entered with no request for memory, once there are so many
+-- entries: a list takes them all as the row is broken
+abbrev pub free_places : Option Row → ℕ → ℕ → ℕ → ℕ
+free_places (Some row) entries len capacity = capacity - entries
+free_places None entries len capacity = capacity - len
+
 -- the place of the rank before one, if there is one
 abbrev pub place_before : List ℕ → ℕ → Option ℕ
 place_before places zero = None

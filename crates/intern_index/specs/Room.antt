@@ -1,6 +1,17 @@
--- For how many entries tables are built.
-use Rattle.std.specs.Prelude.{ℕ, ◌*◌, ◌-◌, ◌^◌, ◌==◌, min, max, if◌then◌else◌}
+-- For how many entries there is room.
+use Rattle.std.specs.Prelude.{ℕ, ◌*◌, ◌-◌, ◌^◌, ◌==◌, nat_lt, min, max, if◌then◌else◌}
 use Rattle.slab.specs.Slab.{Slab, slab_len}
+use Rattle.intern_buckets.specs.Filling.{spare_of}
+use Rattle.intern_buckets.specs.declared.buckets.Buckets.{Buckets}
+
+-- how many more a table takes with no request for memory: these before it is built anew, and as
+-- many buckets as there is room for
+abbrev pub free_in : ℕ → Buckets → ℕ
+free_in left t = min left (spare_of t)
+
+-- how many places there are in this many slots: none where buckets can't tell all of them apart
+abbrev pub placed : ℕ → ℕ
+placed slots = if nat_lt slots (2 ^ 48) then slots else 0
 
 module _ {X : Type 0} where
   -- for twice as many as there are, at least 64, and at least as many as there is room for
@@ -14,3 +25,7 @@ module _ {X : Type 0} where
   -- how many may be entered once there is room for one: tables are built anew where none may be
   abbrev pub left_then : ℕ → Slab X → ℕ
   left_then left s = if left == 0 then left_for s else left
+
+  -- how many more entries are taken with no request for memory, where two tables take this many
+  abbrev pub room_of : Slab X → ℕ → ℕ → ℕ
+  room_of s hashes births = min (placed s.capacity - slab_len s) (min hashes births)

@@ -1,10 +1,10 @@
 //! Births in row, or places in the order of their births.
-ghost use Rattle.std.specs.Prelude.{◌≡◌, ℕ, ◌+◌, ◌≤◌, ◌<◌, None, IsSome, IfSome, IfNone, IfOk, vec_len, vec_capacity, map as list_map};
+ghost use Rattle.std.specs.Prelude.{◌≡◌, ℕ, ◌+◌, ◌≤◌, ◌<◌, None, IsSome, IfSome, IfNone, IsOk, OnOk, vec_len, vec_capacity, map as list_map};
 ghost use Rattle.std.specs.List.{filter, slice_get};
-ghost use Rattle.slab.specs.Slab.{get, entries as slab_entries};
+ghost use Rattle.slab.specs.Slab.{get, slab_len, entries as slab_entries};
 ghost use Rattle.intern_index.specs.Entries.{birth_at, AreTold};
 ghost use Rattle.std.specs.Option.{option_map};
-ghost use Rattle.intern_index.specs.Ordered.{IsOrdered, HasRoomFor, IsPlaced, birth_or_zero, is_occupied, place_after};
+ghost use Rattle.intern_index.specs.Ordered.{IsOrdered, HasRoomFor, free_places, IsPlaced, birth_or_zero, is_occupied, place_after};
 
 use crate::births::Births;
 use crate::entry::Entry;
@@ -75,18 +75,27 @@ fn next_occupied<T, N: Copy>(slots: &Slab<Entry<T, N>>, from: usize) -> Option<u
     None
 }
 
-// The places that have an entry.
-fn occupied_places<T, N: Copy>(
-    alloc: Global,
+// Lists the places that have an entry, in room for one more.
+fn list_occupied<T, N: Copy>(
+    places: &mut Vec<usize>,
     slots: &Slab<Entry<T, N>>,
-) -> Result<Vec<usize>, AllocError>
-    ensures { IfOk result (λ places. places.items ≡ list_map (λ e. e.0) (slab_entries slots.now)) }
+) -> Result<(), AllocError>
+    ensures places { OnOk result (places.new.items
+        ≡ list_map (λ e. e.0) (slab_entries slots.now)) }
+    ensures len { OnOk result (vec_len places.new ≡ slab_len slots.now) }
+    ensures room { OnOk result (vec_len places.new < vec_capacity places.new) }
+    ensures capacity { vec_capacity places.old ≤ vec_capacity places.new }
+    ensures succeeds { slab_len slots.now < vec_capacity places.old → IsOk result }
 {
-    let mut places = Vec::with_capacity(alloc, slots.len().saturating_add(1))?;
+    places.clear();
+    let Some(room) = slots.len().checked_add(1) else {
+        return Err(AllocError);
+    };
+    places.reserve(room)?;
     for (place, _) in slots.iter() {
-        places.push(place)?;
+        places.push_reserved(place);
     }
-    Ok(places)
+    Ok(())
 }
 
 impl BirthOrder {
@@ -119,6 +128,7 @@ impl BirthOrder {
     fn next_row<T, N: Copy>(slots: &Slab<Entry<T, N>>, birth: u64, place: usize) -> Option<Row>
         ensures row { IfSome result (λ r. place + r.shift ≡ birth) }
         ensures none { IfSome result (λ _. (p : ℕ) → get slots.now p ≡ None) }
+        ensures empty { IfSome result (λ _. slab_len slots.now ≡ 0) }
     {
         if !slots.is_empty() {
             return None;
@@ -138,6 +148,8 @@ impl Births for BirthOrder {
     ghost IsFor = { λ t at. IsOrdered t.row t.places.items at };
 
     ghost HasRoom = { λ t b p. HasRoomFor t.row (vec_len t.places) (vec_capacity t.places) b p };
+
+    ghost free = { λ t n. free_places t.row n (vec_len t.places) (vec_capacity t.places) };
 
     fn new(alloc: Global) -> BirthOrder {
         BirthOrder {
@@ -162,7 +174,7 @@ impl Births for BirthOrder {
 
     fn make_room<T, N: Copy>(
         &mut self,
-        alloc: Global,
+        _alloc: Global,
         slots: &Slab<Entry<T, N>>,
         birth: u64,
         place: usize,
@@ -174,11 +186,23 @@ impl Births for BirthOrder {
         match self.row {
             Some(row) if row.has(birth, place) => Ok(()),
             Some(_) => {
-                self.places = occupied_places(alloc, slots)?;
+                list_occupied(&mut self.places, slots)?;
                 self.row = None;
-                self.places.reserve(1)
+                Ok(())
             }
             None => self.places.reserve(1),
+        }
+    }
+
+    fn reserve<T, N: Copy>(
+        &mut self,
+        _alloc: Global,
+        slots: &Slab<Entry<T, N>>,
+        additional: usize,
+    ) -> Result<(), AllocError> {
+        match self.row {
+            Some(_) => self.places.reserve(slots.capacity()),
+            None => self.places.reserve(additional),
         }
     }
 

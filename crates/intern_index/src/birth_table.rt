@@ -1,7 +1,9 @@
 //! Births in row, and a table of the others.
-ghost use Rattle.std.specs.Prelude.{◌≡◌, ◌==◌, ◌+◌, ◌<◌, IfSome, OnOk};
+ghost use Rattle.std.specs.Prelude.{◌≡◌, ◌==◌, ◌+◌, ◌<◌, IfSome, OnOk, IsOk};
+ghost use Rattle.slab.specs.Slab.{slab_len};
 ghost use Rattle.intern_buckets.specs.Filling.{HasRoom as HasBucket};
 ghost use Rattle.intern_index.specs.Entries.{birth_at, passes_at, AreTold};
+ghost use Rattle.intern_index.specs.Room.{free_in};
 ghost use Rattle.intern_index.specs.Row.{row_key, AreFound};
 
 use crate::births::Births;
@@ -49,7 +51,8 @@ impl BirthTable {
         birth: u64,
         place: usize,
     ) -> Option<Row>
-        ensures { IfSome result (λ r. place + r.shift ≡ birth) }
+        ensures row { IfSome result (λ r. place + r.shift ≡ birth) }
+        ensures when { IfSome result (λ _. 0 < self.now.others.left → slab_len slots.now ≡ 0) }
     {
         if slots.is_empty() || (self.others.is_full() && place == slots.len()) {
             let shift = birth.checked_sub(place as u64)?;
@@ -69,6 +72,8 @@ impl BirthTable {
         requires told { AreTold slots.now }
         ensures finds { AreFound self.new.row.shift self.new.others.buckets (birth_at slots.now) }
         ensures row { OnOk result (self.new.row ≡ row) }
+        ensures others { slab_len slots.now ≡ 0 → self.new.others ≡ self.old.others }
+        ensures succeeds { slab_len slots.now ≡ 0 → IsOk result }
     {
         if !slots.is_empty() {
             self.others.rebuild(alloc, slots, &row)?;
@@ -89,6 +94,8 @@ impl Births for BirthTable {
 
     ghost HasRoom = { λ t b p. IfSome (row_key t.row.shift p b)
         (λ _. HasBucket t.others.buckets × (0 < t.others.left)) };
+
+    ghost free = { λ t n. free_in t.others.left t.others.buckets };
 
     fn new(alloc: Global) -> BirthTable {
         BirthTable {
@@ -119,6 +126,15 @@ impl Births for BirthTable {
             Some(row) => self.begin(alloc, slots, row),
             None => self.others.make_room(alloc, slots, &self.row),
         }
+    }
+
+    fn reserve<T, N: Copy>(
+        &mut self,
+        alloc: Global,
+        slots: &Slab<Entry<T, N>>,
+        additional: usize,
+    ) -> Result<(), AllocError> {
+        self.others.reserve(alloc, slots, additional, &self.row)
     }
 
     fn enter(&mut self, birth: u64, place: usize) {

@@ -1,6 +1,7 @@
 //! How the place of a birth is found.
-ghost use Rattle.std.specs.Prelude.{◌≡◌, ◌≢◌, ℕ, ◌+◌, ◌<◌, ◌^◌};
-ghost use Rattle.std.specs.Prelude.{Some, None, Option, IfSome, IfNone, OnOk};
+ghost use Rattle.std.specs.Prelude.{◌≡◌, ◌≢◌, ℕ, ◌+◌, ◌<◌, ◌≤◌, ◌^◌};
+ghost use Rattle.std.specs.Prelude.{Some, None, Option, IfSome, IfNone, OnOk, IsOk};
+ghost use Rattle.slab.specs.Slab.{HasRoomFor, slab_len};
 ghost use Rattle.intern_index.specs.Entries.{birth_at, AreTold};
 
 use crate::entry::Entry;
@@ -14,6 +15,10 @@ pub trait Births: Sized {
 
     // Whether a birth can be entered with a place.
     ghost HasRoom: { Self → ℕ → ℕ → Type 0 };
+
+    // How many more births can be entered with no request for memory, once there are so many
+    // entries.
+    ghost free: { Self → ℕ → ℕ };
 
     /// One that knows no birth. It takes no memory.
     fn new(alloc: Global) -> Self
@@ -37,16 +42,32 @@ pub trait Births: Sized {
         requires known { IsFor self.old (birth_at slots.now) }
         requires told { AreTold slots.now }
         ensures finds { IsFor self.new (birth_at slots.now) }
-        ensures room { OnOk result (HasRoom self.new birth place) };
+        ensures room { OnOk result (HasRoom self.new birth place) }
+        ensures free { free self.old (slab_len slots.now) ≤ free self.new (slab_len slots.now) }
+        ensures succeeds { 0 < free self.old (slab_len slots.now) → IsOk result };
+
+    /// Makes room for this many more births, for which the slab has it.
+    fn reserve<T, N: Copy>(
+        &mut self,
+        alloc: Global,
+        slots: &Slab<Entry<T, N>>,
+        additional: usize,
+    ) -> Result<(), AllocError>
+        requires known { IsFor self.old (birth_at slots.now) }
+        requires told { AreTold slots.now }
+        requires room { HasRoomFor slots.now additional }
+        ensures finds { IsFor self.new (birth_at slots.now) }
+        ensures free { OnOk result (additional ≤ free self.new (slab_len slots.now)) };
 
     /// Enters a birth above all others.
     fn enter(&mut self, birth: u64, place: usize)
         requires room { HasRoom self.old birth place }
         requires small { place + 1 < 2 ^ 48 }
-        ensures { (old new : ℕ → Option ℕ) → IsFor self.old old
+        ensures entered { (old new : ℕ → Option ℕ) → IsFor self.old old
             → old place ≡ None → ((p b : ℕ) → old p ≡ Some b → b < birth)
             → new place ≡ Some birth → ((p : ℕ) → p ≢ place → new p ≡ old p)
-            → IsFor self.new new };
+            → IsFor self.new new }
+        ensures free { (n : ℕ) → free self.old n ≤ free self.new (n + 1) + 1 };
 
     /// Forgets the births that are gone. It takes no memory.
     fn forget<T, N: Copy>(&mut self, slots: &Slab<Entry<T, N>>)

@@ -1,11 +1,12 @@
 //! Values with payloads, each under a birth, found by their hashes too.
 ghost use Rattle.std.specs.Prelude.{◌≡◌, ℕ, ◌<◌, ◌≤◌, option_copied, IsSome, is_some, Some, None};
-ghost use Rattle.std.specs.Prelude.{IsPermutation, IfOk, OnErr, IfErr, IfSome, IfNone, true, false};
+ghost use Rattle.std.specs.Prelude.{◌+◌, IsPermutation, IsOk, IfOk, OnOk, OnErr, IfErr, IfSome, IfNone, true, false};
 ghost use Rattle.std.specs.Option.{option_map};
 ghost use Rattle.std.specs.FinMap as map;
 ghost use Rattle.intern_index.specs.Entries.{seen};
 ghost use Rattle.intern_index.specs.IndexEntry.{IndexEntry, Indexed, IsLed, has_hash, is_sought, repaid, spot_at, spot_before};
 ghost use Rattle.intern_index.specs.Listed.{listed};
+ghost use Rattle.intern_store.specs.Outcome.{Spends};
 
 use crate::birth_order::BirthOrder;
 use crate::births::Births;
@@ -19,7 +20,7 @@ use crate::table::{Key, Table};
 use intern_buckets::{PLACES, search};
 use intern_store::{Keeps, Spot};
 use slab::Slab;
-use std::alloc::Global;
+use std::alloc::{AllocError, Global};
 use std::marker::Model;
 
 /// Entries in a slab, a hash table of their places, and what finds their places by births. The
@@ -56,9 +57,16 @@ impl<T, N: Copy, B: Births> Model for Index<T, N, B> {
 
     ghost coded = { indexed_code T.code N.code buckets.the_row.coded };
 
+    ghost use Rattle.slab.specs.Slab.{slab_len};
     ghost use Rattle.intern_index.specs.Entries.{held, IsTied};
+    ghost use Rattle.intern_index.specs.Room.{free_in, room_of};
 
-    ghost view = { λ a. record { entries = held a.slots.slots; buckets = a.by_hash.buckets } };
+    ghost view = { λ a. record {
+      entries = held a.slots.slots;
+      buckets = a.by_hash.buckets;
+      room = room_of a.slots (free_in a.by_hash.left a.by_hash.buckets)
+          (B.free a.births (slab_len a.slots));
+    } };
 
     ghost invariant = { λ a. IsTied a.slots (B.IsFor a.births) };
 }
@@ -150,6 +158,7 @@ impl<T, N: Copy, B: Births> Index<T, N, B> {
         ensures value { result ≡ option_map (λ e. e.value) (map.get self.old.entries spot.birth) }
         ensures removed { self.new ≡ record self.old {
           entries = map.remove self.old.entries spot.birth;
+          room = self.new.room;
         } }
     {
         let (place, _) = self.entry(spot)?;
@@ -157,6 +166,23 @@ impl<T, N: Copy, B: Births> Index<T, N, B> {
         self.births.forget(&self.slots);
         let Entry { value, .. } = entry;
         Some(value)
+    }
+
+    /// Makes room for this many more entries. Where the table of hashes is built anew, all entries
+    /// are hashed.
+    pub fn reserve<K: Hashes<T, N>>(&mut self, additional: usize, by: &K) -> Result<(), AllocError>
+        requires led { IsLed (K.hash_of by.now) self.old }
+        ensures entries { self.new.entries ≡ self.old.entries }
+        ensures room { OnOk result (additional ≤ self.new.room) }
+        ensures led { IsLed (K.hash_of by.now) self.new }
+    {
+        self.slots.reserve(additional)?;
+        if self.slots.capacity() >= PLACES {
+            return Err(AllocError);
+        }
+        self.by_hash
+            .reserve(self.alloc, &self.slots, additional, &ByHash { by })?;
+        self.births.reserve(self.alloc, &self.slots, additional)
     }
 
     /// Adds an entry under a birth above all others, and tells its place. Where there is no memory
@@ -179,11 +205,10 @@ impl<T, N: Copy, B: Births> Index<T, N, B> {
         ensures err { OnErr result (self.new.entries ≡ self.old.entries) }
         ensures back { IfErr result (λ back. back ≡ offer) }
         ensures led { IsLed (K.hash_of by.now) self.new }
+        ensures room { Spends result self.old.room self.new.room 1 }
+        ensures succeeds { 0 < self.old.room → O.outside offer ≡ 0 → IsOk result }
     {
         let place = self.slots.vacant_key();
-        if place >= PLACES - 1 {
-            return Err(offer);
-        }
         let (Ok(()), Ok(()), Ok(())) = (
             self.by_hash
                 .make_room(self.alloc, &self.slots, &ByHash { by }),
@@ -192,6 +217,9 @@ impl<T, N: Copy, B: Births> Index<T, N, B> {
         ) else {
             return Err(offer);
         };
+        if self.slots.capacity() >= PLACES {
+            return Err(offer);
+        }
         match offer.into_value(self.alloc) {
             Ok(value) => {
                 self.slots.insert_reserved(Entry {
@@ -276,6 +304,7 @@ impl<T, N: Copy, B: Births> Index<T, N, B> {
         T: Drop,
         ensures { self.new ≡ record self.old {
           entries = map.retain_keys self.old.entries (M.marked marks.now);
+          room = self.new.room;
         } }
     {
         keep_marked(&mut self.slots, marks);

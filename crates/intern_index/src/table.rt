@@ -1,11 +1,11 @@
 //! A table of buckets that is built from the entries.
-ghost use Rattle.std.specs.Prelude.{◌≡◌, ◌==◌, ◌≤◌, ◌<◌, ◌+◌, ◌^◌, ℕ, true, Option, Some, IfOk, OnOk, OnErr};
-ghost use Rattle.slab.specs.Slab.{slab_len};
+ghost use Rattle.std.specs.Prelude.{◌≡◌, ◌==◌, ◌≤◌, ◌<◌, ◌+◌, ◌^◌, ℕ, true, Option, Some, IsOk, IfOk, OnOk, OnErr};
+ghost use Rattle.slab.specs.Slab.{slab_len, HasRoomFor};
 ghost use Rattle.intern_buckets.specs.Filling.{homes_of, homes_for, full_of, HasRoom};
 ghost use Rattle.intern_buckets.specs.Leading.{leads};
 ghost use Rattle.intern_index.specs.Entries.{AreTold};
 ghost use Rattle.intern_index.specs.Keyed.{IsKeyed};
-ghost use Rattle.intern_index.specs.Room.{left_for, left_then};
+ghost use Rattle.intern_index.specs.Room.{left_for, left_then, free_in};
 ghost use Rattle.intern_index.specs.declared.entry.Entry.{Entry as Kept};
 
 use crate::entry::Entry;
@@ -50,7 +50,7 @@ fn buckets_of<T, N: Copy, K: Key<T, N>>(
     let mut buckets = Buckets::with_room(alloc, room)?;
     for (place, entry) in slots.iter() {
         if let Some(key) = by.key(place, entry) {
-            buckets.reserve()?;
+            buckets.reserve(1)?;
             buckets.enter(key, place);
         }
     }
@@ -111,11 +111,34 @@ impl Table {
         ensures room { OnOk result (HasRoom self.new.buckets) }
         ensures left { OnOk result (self.new.left ≡ left_then self.old.left slots.now) }
         ensures some { OnOk result (0 < self.new.left) }
+        ensures free { free_in self.old.left self.old.buckets
+            ≤ free_in self.new.left self.new.buckets }
+        ensures succeeds { 0 < free_in self.old.left self.old.buckets → IsOk result }
     {
         if self.left == 0 {
             self.rebuild(alloc, slots, by)?;
         }
-        self.buckets.reserve()
+        self.buckets.reserve(1)
+    }
+
+    /// Makes room for this many more entries, for which the slab has it.
+    pub(crate) fn reserve<T, N: Copy, K: Key<T, N>>(
+        &mut self,
+        alloc: Global,
+        slots: &Slab<Entry<T, N>>,
+        additional: usize,
+        by: &K,
+    ) -> Result<(), AllocError>
+        requires told { AreTold slots.now }
+        requires keyed { IsKeyed self.old.buckets (K.key by.now) slots.now }
+        requires room { HasRoomFor slots.now additional }
+        ensures keyed { IsKeyed self.new.buckets (K.key by.now) slots.now }
+        ensures free { OnOk result (additional ≤ free_in self.new.left self.new.buckets) }
+    {
+        if self.left < additional {
+            self.rebuild(alloc, slots, by)?;
+        }
+        self.buckets.reserve(additional)
     }
 
     /// Enters a place under a hash, in room that was made before. It takes no memory.
@@ -127,6 +150,8 @@ impl Table {
         ensures still { (h p : ℕ) →
             leads self.old.buckets h p ≡ true → leads self.new.buckets h p ≡ true }
         ensures left { self.new.left + 1 ≡ self.old.left }
+        ensures free { free_in self.old.left self.old.buckets
+            ≤ free_in self.new.left self.new.buckets + 1 }
     {
         self.buckets.enter(hash, place);
         self.left -= 1;

@@ -17,6 +17,8 @@ struct Number(u64);
 impl Offer<u64> for Number {
     ghost value = { λ n. n.0 };
 
+    ghost outside = { λ _. 0 };
+
     fn into_value(self, _alloc: Global) -> Result<u64, Number> {
         Ok(self.0)
     }

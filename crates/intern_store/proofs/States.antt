@@ -9,13 +9,13 @@ use Rattle.std.specs.FinMap.{FinMap, get-empty, same_map, nat_cmp-IsAntisymmetri
 use Rattle.std.proofs.lemmas.Bool.{cases_eq, cases_lt, eq-eqb, ne_eqb, lt-ltb, le-ltb}
 use Rattle.std.proofs.lemmas.Option.{same_Some}
 use Rattle.intern_store.specs.Kept.{Kept, is_at, raised, recount, recounted}
-use Rattle.intern_store.specs.State.{State, Hashed, IsState, entry_at, count_at, is_last, freed, released, with_count, added, added_with, taken, counted_up, counted_down, birth_of, or_added, interned_counted, due_found, due_interning, full}
+use Rattle.intern_store.specs.State.{State, Stocked, IsState, entry_at, count_at, is_last, freed, released, with_count, added, added_with, taken, counted_up, counted_down, birth_of, or_added, interned_counted, due_found, due_interning, full}
 use Rattle.intern_store.specs.declared.refusal.Refusal.{Refusal}
 use Rattle.intern_store.specs.declared.refusal.Refusal.TheVariants.{CountFull}
 use Rattle.intern_store.proofs.Compared.{get-inserted, get-removed, get-retained, get-modified}
 
 -- the state of what is seen as another
-pub seen_state : {V H : Type 0} {s t : Hashed V H} → s ≡ t → s.state ≡ t.state
+pub seen_state : {V H : Type 0} {s t : Stocked V H} → s ≡ t → s.state ≡ t.state
 seen_state view = ap (λ s. s.state) view
 
 module _ {T : Type 0} (eq : T → T → Bool) where

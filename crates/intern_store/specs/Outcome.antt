@@ -1,5 +1,5 @@
 -- What a call answers: when it is refused, and the state that it leaves.
-use Rattle.std.specs.Prelude.{◌≡◌, ℕ, Bool, Option, Some, None, IsTrue, Result, Ok, Err}
+use Rattle.std.specs.Prelude.{◌≡◌, ℕ, ◌+◌, ◌≤◌, Bool, Option, Some, None, IsTrue, Result, Ok, Err}
 use Rattle.intern_store.specs.State.{State}
 use Rattle.intern_store.specs.declared.refusal.Refusal.{Refusal}
 use Rattle.intern_store.specs.declared.refusal.Refusal.TheVariants.{Foreign, Gone, CountZero, CountFull, NumbersUsedUp, OutOfMemory}
@@ -35,6 +35,11 @@ MayWantBack (Err refused) due needs given = IsWhy due needs refused.why × (refu
 abbrev pub Becomes : {A E V : Type 0} → Result A E → State V → State V → State V → Type 0
 Becomes (Ok _) old new next = new ≡ next
 Becomes (Err _) old new next = new ≡ old
+
+-- of a number a call takes at most so many, and none where it is refused
+abbrev pub Spends : {A E : Type 0} → Result A E → ℕ → ℕ → ℕ → Type 0
+Spends (Ok _) old new most = old ≤ new + most
+Spends (Err _) old new most = old ≤ new
 
 -- the rank of a refusal in their order
 abbrev pub refusal_number : Refusal → ℕ

@@ -33,15 +33,23 @@ state_code {V} code =
     })
     (λ _. refl)
 
--- a state, and how its values are hashed
-pub record Hashed (V H : Type 0) : Type 0 where
+-- a state, how its values are hashed, how many more entries are taken with no request for memory,
+-- and how much that lies outside of these
+pub record Stocked (V H : Type 0) : Type 0 where
   pub state : State V
   pub hasher : H
+  pub room : ℕ
+  pub spare : ℕ
 
-abbrev pub hashed_code : {V H : Type 0} → Coded V → Coded H → Coded (Hashed V H)
-hashed_code {V} {H} v h =
-    code_by (State V × H) (coded× (state_code v) h)
-    (λ s. (s.state, s.hasher)) (λ p. record { state = p.0; hasher = p.1 }) (λ _. refl)
+abbrev pub stocked_code : {V H : Type 0} → Coded V → Coded H → Coded (Stocked V H)
+stocked_code {V} {H} v h =
+    code_by (State V × (H × (ℕ × ℕ))) (coded× (state_code v) (coded× h (coded× coded_ℕ coded_ℕ)))
+    (λ s. (s.state, (s.hasher, (s.room, s.spare))))
+    (λ p. record { state = p.0; hasher = p.1.0; room = p.1.1.0; spare = p.1.1.1 }) (λ _. refl)
+
+-- there is room for one more entry, with so much outside of it
+abbrev pub HasRoom : {V H : Type 0} → Stocked V H → ℕ → Type 0
+HasRoom s outside = (0 < s.room) × (outside ≤ s.spare)
 
 -- every birth was given, no count is past the limit, and no two values are equal
 pub record IsState {V : Type 0} (eq : V → V → Bool) (s : State V) : Type 0 where

@@ -1,15 +1,17 @@
 //! What a store asks of the table that keeps its entries.
-ghost use Rattle.std.specs.Prelude.{◌≡◌, ℕ, ◌<◌, ◌-◌, Bool, IsSome, is_some, Some, None, OnOk, OnErr, IfOk, IfErr, true, false};
+ghost use Rattle.std.specs.Prelude.{◌≡◌, ℕ, ◌<◌, ◌≤◌, ◌-◌, Bool, IsSome, is_some, Some, None, IsOk, OnOk, OnErr, IfOk, IfErr, true, false};
 ghost use Rattle.std.specs.Option.{option_map};
 ghost use Rattle.std.specs.FinMap as map;
 ghost use Rattle.std.specs.Ordering.{nat_cmp};
 ghost use Rattle.intern_store.specs.Kept.{Kept, is_at, raised, recounted};
+ghost use Rattle.intern_store.specs.Outcome.{Spends};
 
 use crate::names::Spot;
-use std::alloc::Global;
+use std::alloc::{AllocError, Global};
 use std::cmp::Eq;
 
-/// Values with counts, each under a birth. Only an insertion takes memory.
+/// Values with counts, each under a birth. Only an insertion, and what makes room for some, takes
+/// memory.
 pub trait Entries: Sized {
     /// What is kept, as contracts see it.
     type Value: Eq;
@@ -23,10 +25,22 @@ pub trait Entries: Sized {
     // What hashes the values: no call changes it.
     ghost hashes_by: { Self → Self.Hasher };
 
+    // How many more entries are taken with no request for memory.
+    ghost room: { Self → ℕ };
+
+    // And how much that lies outside of them, as the items of slices do.
+    ghost spare: { Self → ℕ };
+
     /// A table with no entry, which hashes by this.
     fn new(alloc: Global, hasher: Self::Hasher) -> Self
         ensures entries { entries result ≡ map.empty }
         ensures hasher { hashes_by result ≡ hasher };
+
+    /// Makes room for this many more entries.
+    fn reserve(&mut self, additional: usize) -> Result<(), AllocError>
+        ensures entries { entries self.new ≡ entries self.old }
+        ensures hasher { hashes_by self.new ≡ hashes_by self.old }
+        ensures room { OnOk result (additional ≤ room self.new) };
 
     /// How many entries there are.
     fn len(&self) -> usize
@@ -56,6 +70,16 @@ pub trait Entries: Sized {
         ensures state { entries self.new ≡ recounted (λ n. n - 1)
             (entries self.old) spot.birth (map.get (entries self.old) spot.birth) }
         ensures hasher { hashes_by self.new ≡ hashes_by self.old };
+}
+
+/// A table that keeps a part of each value outside of its entry.
+pub trait Pools: Entries {
+    /// Makes room for this much more outside of the entries.
+    fn reserve_outside(&mut self, additional: usize) -> Result<(), AllocError>
+        ensures entries { Self.entries self.new ≡ Self.entries self.old }
+        ensures hasher { Self.hashes_by self.new ≡ Self.hashes_by self.old }
+        ensures room { Self.room self.new ≡ Self.room self.old }
+        ensures spare { OnOk result (additional ≤ Self.spare self.new) };
 }
 
 /// A table from which single entries can be removed.
@@ -88,6 +112,9 @@ pub trait Finds<Q>: Entries {
 
 /// A table that takes what is offered by such a query.
 pub trait Takes<O>: Finds<O> {
+    // How much of an offer would lie outside of its entry.
+    ghost outside: { O → ℕ };
+
     /// Adds an entry under its hash and a birth above all others, and tells its place. Where there
     /// is no memory the offer comes back.
     fn insert(&mut self, birth: u64, hash: u64, offer: O, count: u64) -> Result<usize, O>
@@ -97,7 +124,11 @@ pub trait Takes<O>: Finds<O> {
             (record { value = Self.Finds.value offer; count = count })) }
         ensures err { OnErr result (Self.entries self.new ≡ Self.entries self.old) }
         ensures back { IfErr result (λ back. back ≡ offer) }
-        ensures hasher { Self.hashes_by self.new ≡ Self.hashes_by self.old };
+        ensures hasher { Self.hashes_by self.new ≡ Self.hashes_by self.old }
+        ensures room { Spends result (Self.room self.old) (Self.room self.new) 1 }
+        ensures spare { Spends result (Self.spare self.old) (Self.spare self.new) (outside offer) }
+        ensures succeeds { 0 < Self.room self.old → outside offer ≤ Self.spare self.old
+            → IsOk result };
 }
 
 /// A table in which what is offered is looked up and counted by one call.
@@ -119,7 +150,9 @@ pub trait Raises<O>: Takes<O> {
         ensures hash { IfErr result (λ h.
             h ≡ Self.Finds.hash_of (Self.hashes_by self.old) offer.now) }
         ensures same { OnErr result (Self.entries self.new ≡ Self.entries self.old) }
-        ensures hasher { Self.hashes_by self.new ≡ Self.hashes_by self.old };
+        ensures hasher { Self.hashes_by self.new ≡ Self.hashes_by self.old }
+        ensures room { Self.room self.new ≡ Self.room self.old }
+        ensures spare { Self.spare self.new ≡ Self.spare self.old };
 }
 
 /// Which births a sweep keeps.

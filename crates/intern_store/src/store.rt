@@ -1,20 +1,20 @@
 //! What all storages share: a table with the storage's number, its limits and the next birth.
-ghost use Rattle.std.specs.Prelude.{◌≡◌, ◌<◌, ◌≤◌, ◌==◌, true, Some, None, IsSome, IfSome, IfNone, ◌≢◌, IfOk, IfErr};
+ghost use Rattle.std.specs.Prelude.{◌≡◌, ◌<◌, ◌≤◌, ◌==◌, if◌then◌else◌, OnOk, true, Some, None, IsSome, IfSome, IfNone, ◌≢◌, IfOk, IfErr};
 ghost use Rattle.std.specs.Result.{result_ok};
 ghost use Rattle.std.specs.FinMap as map;
 ghost use Rattle.std.specs.Option.{option_map};
 ghost use Rattle.intern_store.specs.Named.{key_name};
-ghost use Rattle.intern_store.specs.Outcome.{Owes, MayWantBack, Becomes};
-ghost use Rattle.intern_store.specs.State.{IsState, new_state, name_in, entry_at, count_at, counts, counted_up, counted_down, taken, added_with, birth_of, is_new, interned, interned_name, interned_counted, given_back, name_of_value, due, due_at, due_adding, due_interning, due_found_full, found_counted, full, zero_count, any_count, freed, released, kept};
+ghost use Rattle.intern_store.specs.Outcome.{Owes, OwesBack, MayWant, MayWantBack, Becomes, Spends};
+ghost use Rattle.intern_store.specs.State.{HasRoom, IsState, new_state, name_in, entry_at, count_at, counts, counted_up, counted_down, taken, added_with, birth_of, is_new, interned, interned_name, interned_counted, given_back, name_of_value, due, due_at, due_adding, due_interning, due_found_full, found_counted, full, zero_count, any_count, freed, released, kept};
 
-use crate::entries::{Entries, Finds, Keeps, Raises, Removes, Sweeps, Takes};
+use crate::entries::{Entries, Finds, Keeps, Pools, Raises, Removes, Sweeps, Takes};
 use crate::names::{EntryKey, Limits, Spot};
 use crate::refusal::{Refusal, Refused};
 use std::alloc::Global;
 use std::marker::Model;
 
 /// A table of entries, with the storage's number and limits and the next birth. Contracts see its
-/// state, and how it hashes.
+/// state, how it hashes, and the room for more.
 ///
 /// Each refusal and each count is decided here, once for every kind of storage.
 #[derive(Drop)]
@@ -27,11 +27,11 @@ pub struct Store<E: Entries> {
 }
 
 impl<E: Entries> Model for Store<E> {
-    ghost use Rattle.intern_store.specs.State.{Hashed, hashed_code, IsState};
+    ghost use Rattle.intern_store.specs.State.{Stocked, stocked_code, IsState};
 
-    ghost Value = { Hashed E.Value E.Hasher };
+    ghost Value = { Stocked E.Value E.Hasher };
 
-    ghost coded = { hashed_code E.Value.code E.Hasher.code };
+    ghost coded = { stocked_code E.Value.code E.Hasher.code };
 
     ghost view = { λ a. record {
       state = record {
@@ -42,6 +42,8 @@ impl<E: Entries> Model for Store<E> {
         map = E.entries a.table;
       };
       hasher = E.hashes_by a.table;
+      room = E.room a.table;
+      spare = E.spare a.table;
     } };
 
     ghost invariant = { λ a. IsState E.Value.eq (record {
@@ -78,6 +80,19 @@ impl<E: Entries> Store<E> {
             top: limits.top,
             numbers: limits.numbers,
             table: E::new(alloc, hasher),
+        }
+    }
+
+    /// Makes room for this many more entries. Refused: `OutOfMemory`.
+    pub fn reserve(&mut self, additional: usize) -> Result<(), Refusal>
+        ensures refused { MayWant result None true }
+        ensures state { self.new.state ≡ self.old.state }
+        ensures hasher { self.new.hasher ≡ self.old.hasher }
+        ensures room { OnOk result (additional ≤ self.new.room) }
+    {
+        match self.table.reserve(additional) {
+            Ok(()) => Ok(()),
+            Err(_) => Err(Refusal::OutOfMemory),
         }
     }
 
@@ -211,6 +226,10 @@ impl<E: Entries> Store<E> {
         ensures state { Becomes result self.old.state self.new.state
             (added_with count self.old.state (E.value offer)) }
         ensures hasher { self.new.hasher ≡ self.old.hasher }
+        ensures room { Spends result self.old.room self.new.room 1 }
+        ensures spare { Spends result self.old.spare self.new.spare (E.outside offer) }
+        ensures roomy { HasRoom self.old (E.outside offer) →
+            OwesBack result (due_adding self.old.state) offer }
     {
         if self.next == self.numbers {
             return Err(Refused {
@@ -277,6 +296,12 @@ impl<E: Entries> Store<E> {
         ensures state { Becomes result self.old.state self.new.state
             (interned E.Value.eq self.old.state (E.value offer)).state }
         ensures hasher { self.new.hasher ≡ self.old.hasher }
+        ensures room { Spends result self.old.room self.new.room
+            (if is_new E.Value.eq self.old.state (E.value offer) then 1 else 0) }
+        ensures spare { Spends result self.old.spare self.new.spare
+            (if is_new E.Value.eq self.old.state (E.value offer) then E.outside offer else 0) }
+        ensures roomy { HasRoom self.old (E.outside offer) → OwesBack result
+            (due_interning E.Value.eq self.old.state (E.value offer) any_count) offer }
     {
         match self.search(&offer) {
             Ok(spot) => Ok((self.key(spot), Some(offer))),
@@ -301,6 +326,8 @@ impl<E: Entries> Store<E> {
             (found_counted (birth_of E.Value.eq self.old.state (E.value offer.now))
             self.old.state) }
         ensures hasher { self.new.hasher ≡ self.old.hasher }
+        ensures room { self.new.room ≡ self.old.room }
+        ensures spare { self.new.spare ≡ self.old.spare }
     {
         // A field that is read brings in the invariant, which the table alone doesn't know.
         let top = self.top;
@@ -329,6 +356,10 @@ impl<E: Entries> Store<E> {
         ensures state { Becomes result self.old.state self.new.state
             (interned_counted E.Value.eq self.old.state (E.value offer)) }
         ensures hasher { self.new.hasher ≡ self.old.hasher }
+        ensures room { Spends result self.old.room self.new.room 1 }
+        ensures spare { Spends result self.old.spare self.new.spare (E.outside offer) }
+        ensures roomy { HasRoom self.old (E.outside offer) →
+            OwesBack result (due_adding self.old.state) offer }
     {
         // A field that is read brings in the invariant, which the call doesn't know.
         let _next = self.next;
@@ -350,6 +381,13 @@ impl<E: Entries> Store<E> {
         ensures state { Becomes result self.old.state self.new.state
             (interned_counted E.Value.eq self.old.state (E.value offer)) }
         ensures hasher { self.new.hasher ≡ self.old.hasher }
+        ensures room { Spends result self.old.room self.new.room
+            (if is_new E.Value.eq self.old.state (E.value offer) then 1 else 0) }
+        ensures spare { Spends result self.old.spare self.new.spare
+            (if is_new E.Value.eq self.old.state (E.value offer) then E.outside offer else 0) }
+        ensures roomy { HasRoom self.old (E.outside offer) → OwesBack result
+            (due_interning E.Value.eq self.old.state (E.value offer) (full self.old.state.top))
+            offer }
     {
         match self.count_up_stored(&offer) {
             Ok(Ok(key)) => Ok((key, Some(offer))),
@@ -380,6 +418,22 @@ impl<E: Entries> Store<E> {
         let spot = self.spot(key)?;
         self.lower(spot)?;
         Ok(())
+    }
+}
+
+impl<E: Pools> Store<E> {
+    /// Makes room for this much more outside of the entries. Refused: `OutOfMemory`.
+    pub fn reserve_outside(&mut self, additional: usize) -> Result<(), Refusal>
+        ensures refused { MayWant result None true }
+        ensures state { self.new.state ≡ self.old.state }
+        ensures hasher { self.new.hasher ≡ self.old.hasher }
+        ensures room { self.new.room ≡ self.old.room }
+        ensures spare { OnOk result (additional ≤ self.new.spare) }
+    {
+        match self.table.reserve_outside(additional) {
+            Ok(()) => Ok(()),
+            Err(_) => Err(Refusal::OutOfMemory),
+        }
     }
 }
 

@@ -1,5 +1,5 @@
 //! Headers with slices of items and counts, each stored once under a birth.
-ghost use Rattle.std.specs.Prelude.{◌≡◌, IsPermutation, take, drop};
+ghost use Rattle.std.specs.Prelude.{◌≡◌, IsPermutation, length, take, drop};
 ghost use Rattle.std.specs.Option.{option_map};
 ghost use Rattle.std.specs.FinMap as map;
 ghost use Rattle.intern_table.specs.Sliced.{sliced_eq, sliced_input};
@@ -15,8 +15,8 @@ use crate::pool::{SlicePayload, compact, part};
 use crate::slice::{HeaderSlice, HeaderWithLength, SliceValue};
 use crate::slice_iter::SliceIter;
 use intern_index::{BirthOrder, Hashes, Index, Query};
-use intern_store::{Entries, Finds, Keeps, Spot, Sweeps, Takes};
-use std::alloc::Global;
+use intern_store::{Entries, Finds, Keeps, Pools, Spot, Sweeps, Takes};
+use std::alloc::{AllocError, Global};
 use std::cmp::Eq;
 use std::hash::{BuildHasher, Hash};
 use std::marker::Model;
@@ -43,6 +43,7 @@ impl<H: Hash + Eq, S: Hash + Eq + Copy, B: BuildHasher> Model for SliceTable<H, 
 
     ghost coded = { tabled_code (sliced_code H.code S.code) B.code };
 
+    ghost use Rattle.std.specs.Prelude.{◌-◌, vec_len, vec_capacity};
     ghost use Rattle.intern_store.specs.Maps.{map_values};
     ghost use Rattle.intern_table.specs.Joined.{sliced_entry, IsSliced};
     ghost use Rattle.intern_table.specs.Hashes.{hash_of};
@@ -50,6 +51,8 @@ impl<H: Hash + Eq, S: Hash + Eq + Copy, B: BuildHasher> Model for SliceTable<H, 
     ghost view = { λ a. record {
       entries = map_values (sliced_entry a.items.items) a.index.entries;
       hasher = a.hasher;
+      room = a.index.room;
+      spare = vec_capacity a.items - vec_len a.items;
     } };
 
     ghost invariant = { λ a. IsSliced (λ v.
@@ -144,12 +147,24 @@ impl<H: Hash + Eq, S: Hash + Eq + Copy, B: BuildHasher> Entries for SliceTable<H
 
     ghost hashes_by = { λ a. a.hasher };
 
+    ghost room = { λ a. a.room };
+
+    ghost spare = { λ a. a.spare };
+
     fn new(alloc: Global, hasher: B) -> SliceTable<H, S, B> {
         SliceTable {
             index: Index::new(alloc),
             items: Vec::new(alloc),
             hasher,
         }
+    }
+
+    fn reserve(&mut self, additional: usize) -> Result<(), AllocError> {
+        let by = SliceHash {
+            all: self.items.as_slice(),
+            hasher: &self.hasher,
+        };
+        self.index.reserve(additional, &by)
     }
 
     fn len(&self) -> usize {
@@ -170,6 +185,12 @@ impl<H: Hash + Eq, S: Hash + Eq + Copy, B: BuildHasher> Entries for SliceTable<H
 
     fn count_down(&mut self, spot: Spot) -> Option<u64> {
         count_of(self.index.change(spot, &OfCount(Lower)))
+    }
+}
+
+impl<H: Hash + Eq, S: Hash + Eq + Copy, B: BuildHasher> Pools for SliceTable<H, S, B> {
+    fn reserve_outside(&mut self, additional: usize) -> Result<(), AllocError> {
+        self.items.reserve(additional)
     }
 }
 
@@ -207,6 +228,8 @@ impl<'a, H: Hash + Eq, S: Hash + Eq + Copy, B: BuildHasher> Finds<(H, &'a [S])>
 
 impl<'a, H: Hash + Eq, S: Hash + Eq + Copy, B: BuildHasher> Takes<(H, &'a [S])>
     for SliceTable<H, S, B> {
+    ghost outside = { λ o. length o.1.now };
+
     fn insert(
         &mut self,
         birth: u64,

@@ -10,7 +10,7 @@ use crate::counts::{Lower, Raise};
 use crate::equivalent::{Equivalent, FixedState, ValueHash};
 use intern_index::{BirthTable, Index, Iter, Query};
 use intern_store::{Entries, Finds, Keeps, Raises, Removes, Spot, Sweeps, Takes};
-use std::alloc::Global;
+use std::alloc::{AllocError, Global};
 use std::cmp::Eq;
 use std::hash::{BuildHasher, Hash};
 use std::marker::Model;
@@ -42,6 +42,8 @@ impl<T: Hash + Eq, B: BuildHasher> Model for Table<T, B> {
     ghost view = { λ a. record {
       entries = map_values kept_entry a.index.entries;
       hasher = a.hasher;
+      room = a.index.room;
+      spare = 0;
     } };
 
     ghost invariant = { λ a. IsLed (λ v _.
@@ -96,11 +98,22 @@ impl<T: Hash + Eq, B: BuildHasher> Entries for Table<T, B> {
 
     ghost hashes_by = { λ a. a.hasher };
 
+    ghost room = { λ a. a.room };
+
+    ghost spare = { λ a. a.spare };
+
     fn new(alloc: Global, hasher: B) -> Table<T, B> {
         Table {
             index: Index::new(alloc),
             hasher,
         }
+    }
+
+    fn reserve(&mut self, additional: usize) -> Result<(), AllocError> {
+        let by = ValueHash {
+            hasher: &self.hasher,
+        };
+        self.index.reserve(additional, &by)
     }
 
     fn len(&self) -> usize {
@@ -142,6 +155,8 @@ impl<T: Hash + Eq, B: BuildHasher, O: Equivalent<T>> Finds<O> for Table<T, B> {
 }
 
 impl<T: Hash + Eq, B: BuildHasher, O: Equivalent<T>> Takes<O> for Table<T, B> {
+    ghost outside = { O.outside };
+
     fn insert(&mut self, birth: u64, hash: u64, offer: O, count: u64) -> Result<usize, O> {
         let by = ValueHash {
             hasher: &self.hasher,

@@ -1,5 +1,5 @@
 //! The texts that a table keeps.
-ghost use Rattle.std.specs.Prelude.{◌≡◌, ◌≤◌, length, IfOk, IsOk, nat_eq, string_bytes};
+ghost use Rattle.std.specs.Prelude.{◌≡◌, ◌≤◌, ◌-◌, length, IfOk, IsOk, nat_eq, string_bytes};
 ghost use Rattle.std.specs.Cmp.Lexicographic.{pointwise};
 ghost use Rattle.std.specs.Cmp.Rules.{comparing, hashing};
 ghost use Rattle.std.specs.Hash as fed;
@@ -122,9 +122,12 @@ impl Text {
     }
 }
 
-// What is borrowed is copied once it is stored.
+// What is borrowed is copied once it is stored. A text of more than 24 bytes lies outside of its
+// entry.
 impl<'a> Offer<Text> for &'a str {
     ghost value = { λ s. s.now };
+
+    ghost outside = { λ s. length s.now - 24 };
 
     fn into_value(self, alloc: Global) -> Result<Text, &'a str> {
         Text::new(alloc, self).map_err(|_| self)

@@ -3,6 +3,7 @@ pub mod Families
 pub mod Handle
 pub mod Interning
 pub mod PairLaws
+pub mod Reserved
 pub mod Slices
 pub mod StorageLaws
 pub mod Symbols

@@ -5,9 +5,9 @@
 //! works with [`InternedRef`]s, which count nothing.
 //!
 //! A handle that is dropped without `release` keeps its count.
-ghost use Rattle.std.specs.Prelude.{◌≡◌, true, false, Bool, IsPermutation, IfOk, option_copied};
+ghost use Rattle.std.specs.Prelude.{◌≡◌, ◌<◌, if◌then◌else◌, true, false, Bool, IsPermutation, IfOk, option_copied};
 ghost use Rattle.std.specs.Option.{option_map};
-ghost use Rattle.intern_store.specs.Outcome.{Owes, OwesBack, MayWantBack, Becomes};
+ghost use Rattle.intern_store.specs.Outcome.{Owes, OwesBack, MayWantBack, Becomes, Spends};
 ghost use Rattle.intern_store.specs.State.{name_in, entry_at, reads, is_new, interned, interned_name, interned_counted, given_back, name_of_value, named_values, due, due_at, due_interning, full, zero_count, any_count, freed, released};
 ghost use Rattle.ra_ap_intern.specs.Handle.{name_of, ref_name};
 
@@ -15,7 +15,7 @@ mod each;
 mod iter;
 
 use crate::kind::Values;
-use crate::storage::{Owned, Ref, Storage};
+use crate::storage::{Owned, Ref, Reserved, Storage};
 pub use each::InternHandle;
 use intern_store::{Refusal, Refused};
 use intern_table::FixedState;
@@ -47,7 +47,7 @@ impl<T: Internable, B: BuildHasher> InternStorage<T, B> {
     pub fn get(&self, obj: &T) -> Option<InternedRef<T>>
         ensures { option_map ref_name result ≡ name_of_value T.eq self.now obj.now }
     {
-        Some(Ref::new(self.store.find(obj)?))
+        Some(Ref::new(self.inner.store.find(obj)?))
     }
 
     /// The entries, each with a reference to it, in no promised order. It takes no memory.
@@ -55,9 +55,54 @@ impl<T: Internable, B: BuildHasher> InternStorage<T, B> {
         ensures { IsPermutation result (named_values self.now) }
     {
         Iter {
-            number: self.store.number(),
-            entries: self.store.table().iter(),
+            number: self.inner.store.number(),
+            entries: self.inner.store.table().iter(),
         }
+    }
+}
+
+impl<T: Internable, B: BuildHasher> Reserved<Values<T>, B> {
+    /// Counted mode: what [`Interned::new`] does. Where there is room, a value that isn't stored
+    /// takes of it, and is not refused with `OutOfMemory`.
+    pub fn intern(&mut self, obj: T) -> Result<(Interned<T>, Option<T>), Refused<T>>
+        requires { T.Internable.USE_GC ≡ false }
+        ensures name { IfOk result (λ r.
+            name_of r.0 ≡ interned_name T.eq self.old.store.state obj) }
+        ensures back { IfOk result (λ r. r.1 ≡ given_back T.eq self.old.store.state obj obj) }
+        ensures refused { MayWantBack result
+            (due_interning T.eq self.old.store.state obj (full self.old.store.state.top))
+            (is_new T.eq self.old.store.state obj) obj }
+        ensures roomy { 0 < self.old.store.room → OwesBack result
+            (due_interning T.eq self.old.store.state obj (full self.old.store.state.top)) obj }
+        ensures room { Spends result self.old.store.room self.new.store.room
+            (if is_new T.eq self.old.store.state obj then 1 else 0) }
+        ensures state { Becomes result self.old.store.state self.new.store.state
+            (interned_counted T.eq self.old.store.state obj) }
+    {
+        let (key, back) = self.store.intern_counted(obj)?;
+        let reference = Ref::new(key);
+        Ok((Owned { reference }, back))
+    }
+
+    /// Collected mode: what [`Interned::new_gc`] does. Where there is room, a value that isn't
+    /// stored takes of it, and is not refused with `OutOfMemory`.
+    pub fn intern_gc(&mut self, obj: T) -> Result<(InternedRef<T>, Option<T>), Refused<T>>
+        requires { T.Internable.USE_GC ≡ true }
+        ensures name { IfOk result (λ r.
+            ref_name r.0 ≡ interned_name T.eq self.old.store.state obj) }
+        ensures back { IfOk result (λ r. r.1 ≡ given_back T.eq self.old.store.state obj obj) }
+        ensures refused { MayWantBack result
+            (due_interning T.eq self.old.store.state obj any_count)
+            (is_new T.eq self.old.store.state obj) obj }
+        ensures roomy { 0 < self.old.store.room → OwesBack result
+            (due_interning T.eq self.old.store.state obj any_count) obj }
+        ensures room { Spends result self.old.store.room self.new.store.room
+            (if is_new T.eq self.old.store.state obj then 1 else 0) }
+        ensures state { Becomes result self.old.store.state self.new.store.state
+            (interned T.eq self.old.store.state obj).state }
+    {
+        let (key, back) = self.store.intern(obj)?;
+        Ok((Ref::new(key), back))
     }
 }
 
@@ -93,9 +138,7 @@ impl<T: Internable> Interned<T> {
         ensures state { Becomes result storage.old storage.new
             (interned_counted T.eq storage.old obj) }
     {
-        let (key, back) = storage.store.intern_counted(obj)?;
-        let reference = Ref::new(key);
-        Ok((Owned { reference }, back))
+        storage.inner.intern(obj)
     }
 
     /// Collected mode: a reference to the value, which counts nothing.
@@ -115,8 +158,7 @@ impl<T: Internable> Interned<T> {
         ensures state { Becomes result storage.old storage.new
             (interned T.eq storage.old obj).state }
     {
-        let (key, back) = storage.store.intern(obj)?;
-        Ok((Ref::new(key), back))
+        storage.inner.intern_gc(obj)
     }
 
     /// An owned handle of the entry of a birth. It takes over the count of a handle that was
@@ -129,7 +171,7 @@ impl<T: Internable> Interned<T> {
         ensures ok { IfOk result (λ h. name_of h ≡ name_in storage.now birth) }
         ensures refused { Owes result (due_at (entry_at storage.now birth) zero_count) }
     {
-        let reference = Ref::new(storage.store.counted_entry(birth)?);
+        let reference = Ref::new(storage.inner.store.counted_entry(birth)?);
         Ok(Owned { reference })
     }
 
@@ -155,6 +197,7 @@ impl<T: Internable> Interned<T> {
             (released T.Internable.USE_GC storage.old (name_of self).birth) }
     {
         storage
+            .inner
             .store
             .release(self.reference.key, T::USE_GC)
             .map_err(|why| Refused { why, back: self })
@@ -170,7 +213,7 @@ impl<T: Internable> InternedRef<T> {
         ensures ok { IfOk result (λ h. ref_name h ≡ name_in storage.now birth) }
         ensures refused { Owes result (due_at (entry_at storage.now birth) any_count) }
     {
-        Ok(Ref::new(storage.store.entry(birth)?))
+        Ok(Ref::new(storage.inner.store.entry(birth)?))
     }
 
     /// The value, borrowed from the storage.
@@ -178,7 +221,11 @@ impl<T: Internable> InternedRef<T> {
     pub fn get<'a, B: BuildHasher>(self, storage: &'a InternStorage<T, B>) -> Option<&'a T>
         ensures { option_copied result ≡ reads storage.now (ref_name self) }
     {
-        storage.store.own(self.key.storage)?.get(self.key.spot)
+        storage
+            .inner
+            .store
+            .own(self.key.storage)?
+            .get(self.key.spot)
     }
 }
 

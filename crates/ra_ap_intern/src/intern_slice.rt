@@ -4,10 +4,10 @@
 //! entries stay until a collection. The items of all entries lie in one vector.
 //!
 //! A handle that is dropped without `release` keeps its count.
-ghost use Rattle.std.specs.Prelude.{◌≡◌, true, Bool, IsPermutation, IfOk};
+ghost use Rattle.std.specs.Prelude.{◌≡◌, ◌≤◌, if◌then◌else◌, None, OnOk, length, true, Bool, IsPermutation, IfOk};
 ghost use Rattle.std.specs.Option.{option_map};
-ghost use Rattle.intern_store.specs.Outcome.{OwesBack, MayWantBack, Becomes};
-ghost use Rattle.intern_store.specs.State.{name_of_value, reads, counted_down, due, zero_count};
+ghost use Rattle.intern_store.specs.Outcome.{OwesBack, MayWant, MayWantBack, Becomes, Spends};
+ghost use Rattle.intern_store.specs.State.{HasRoom, name_of_value, reads, counted_down, due, zero_count};
 ghost use Rattle.intern_table.specs.Read.{read};
 ghost use Rattle.intern_table.specs.Sliced.{sliced_eq};
 ghost use Rattle.ra_ap_intern.specs.Handle.{name_of, ref_name};
@@ -16,8 +16,8 @@ ghost use Rattle.ra_ap_intern.specs.Slices.{slice_of, sized, named_slices, slice
 mod iter;
 
 use crate::kind::Slices;
-use crate::storage::{Owned, Ref, Storage};
-use intern_store::Refused;
+use crate::storage::{Owned, Ref, Reserved, Storage};
+use intern_store::{Refusal, Refused};
 use intern_table::{FixedState, HeaderSlice};
 pub use iter::SliceIter;
 use std::cmp::Eq;
@@ -58,7 +58,7 @@ impl<T: SliceInternable, B: BuildHasher> InternSliceStorage<T, B> {
         ensures { let eq = sliced_eq T.Header.eq T.SliceType.eq in option_map ref_name result
             ≡ name_of_value eq self.now (slice_of header.now slice.now) }
     {
-        Some(Ref::new(self.store.find(&(header, slice))?))
+        Some(Ref::new(self.inner.store.find(&(header, slice))?))
     }
 
     /// The entries, each with a reference to it, in no promised order. It takes no memory.
@@ -66,8 +66,55 @@ impl<T: SliceInternable, B: BuildHasher> InternSliceStorage<T, B> {
         ensures { IsPermutation result (named_slices self.now) }
     {
         SliceIter {
-            number: self.store.number(),
-            entries: self.store.table().iter(),
+            number: self.inner.store.number(),
+            entries: self.inner.store.table().iter(),
+        }
+    }
+}
+
+impl<T: SliceInternable, B: BuildHasher> Reserved<Slices<T>, B> {
+    /// Makes room for this many more items, of all slices together. Refused: `OutOfMemory`.
+    pub fn reserve_items(&mut self, additional: usize) -> Result<(), Refusal>
+        ensures refused { MayWant result None true }
+        ensures state { self.new.store.state ≡ self.old.store.state }
+        ensures room { self.new.store.room ≡ self.old.store.room }
+        ensures items { OnOk result (additional ≤ self.new.store.spare) }
+    {
+        self.store.reserve_outside(additional)
+    }
+
+    /// What [`InternedSlice::from_header_and_slice`] does. Where there is room for an entry and for
+    /// its items, a pair that isn't stored takes of it, and is not refused with `OutOfMemory`.
+    pub fn intern(
+        &mut self,
+        header: T::Header,
+        slice: &[T::SliceType],
+    ) -> Result<(InternedSliceRef<T>, Option<T::Header>), Refused<T::Header>>
+        requires { T.SliceInternable.USE_GC ≡ true }
+        ensures name { let eq = sliced_eq T.Header.eq T.SliceType.eq in IfOk result (λ r.
+            ref_name r.0 ≡ slice_name_in eq self.old.store.state header slice.now) }
+        ensures back { let eq = sliced_eq T.Header.eq T.SliceType.eq in IfOk result (λ r.
+            r.1 ≡ slice_back eq self.old.store.state header slice.now) }
+        ensures refused { let eq = sliced_eq T.Header.eq T.SliceType.eq in
+            MayWantBack result (due_slice eq self.old.store.state header slice.now)
+            (is_new_slice eq self.old.store.state header slice.now) header }
+        ensures roomy { let eq = sliced_eq T.Header.eq T.SliceType.eq in
+            HasRoom self.old.store (length slice.now) →
+            OwesBack result (due_slice eq self.old.store.state header slice.now) header }
+        ensures room { let eq = sliced_eq T.Header.eq T.SliceType.eq in
+            Spends result self.old.store.room self.new.store.room
+            (if is_new_slice eq self.old.store.state header slice.now then 1 else 0) }
+        ensures items { let eq = sliced_eq T.Header.eq T.SliceType.eq in
+            Spends result self.old.store.spare self.new.store.spare
+            (if is_new_slice eq self.old.store.state header slice.now
+            then length slice.now else 0) }
+        ensures state { let eq = sliced_eq T.Header.eq T.SliceType.eq in
+            Becomes result self.old.store.state self.new.store.state
+            (slice_in eq self.old.store.state header slice.now).state }
+    {
+        match self.store.intern((header, slice)) {
+            Ok((key, back)) => Ok((Ref::new(key), back.map(|pair| pair.0))),
+            Err(Refused { why, back }) => Err(Refused { why, back: back.0 }),
         }
     }
 }
@@ -96,10 +143,7 @@ impl<T: SliceInternable> InternedSlice<T> {
             Becomes result storage.old storage.new
             (slice_in eq storage.old header slice.now).state }
     {
-        match storage.store.intern((header, slice)) {
-            Ok((key, back)) => Ok((Ref::new(key), back.map(|pair| pair.0))),
-            Err(Refused { why, back }) => Err(Refused { why, back: back.0 }),
-        }
+        storage.inner.intern(header, slice)
     }
 
     /// The header and the items, borrowed from the storage.
@@ -125,6 +169,7 @@ impl<T: SliceInternable> InternedSlice<T> {
             (counted_down storage.old (name_of self).birth) }
     {
         storage
+            .inner
             .store
             .count_down(self.reference.key)
             .map_err(|why| Refused { why, back: self })
@@ -141,6 +186,10 @@ impl<T: SliceInternable> InternedSliceRef<T> {
         ensures { option_map read result
             ≡ option_map sized (reads storage.now (ref_name self)) }
     {
-        storage.store.own(self.key.storage)?.get(self.key.spot)
+        storage
+            .inner
+            .store
+            .own(self.key.storage)?
+            .get(self.key.spot)
     }
 }

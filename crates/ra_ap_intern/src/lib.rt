@@ -25,5 +25,7 @@ pub use intern_table::{FixedState, HeaderSlice, HeaderWithLength, Text};
 pub use kind::{Kind, Slices, Values};
 pub use optional::{OptionalInternedRef, OptionalInternedSliceRef, OptionalRef};
 pub use owed::{Owed, OwedSlice, OwedValue};
-pub use storage::{Owned, Ref, Storage};
-pub use symbol::{Symbol, SymbolDisplay, SymbolIter, SymbolRef, SymbolTable, symbols as sym};
+pub use storage::{Owned, Ref, Reserved, Storage};
+pub use symbol::{
+    ReservedTexts, Symbol, SymbolDisplay, SymbolIter, SymbolRef, SymbolTable, symbols as sym,
+};

@@ -2,10 +2,11 @@
 //!
 //! What differs by kind, which is reading, interning and what a release gives back, is in `intern`
 //! and `intern_slice`.
-ghost use Rattle.std.specs.Prelude.{◌≡◌, ◌<◌, ◌==◌, is_some, IfOk};
+ghost use Rattle.std.specs.Prelude.{◌≡◌, ◌<◌, ◌≤◌, ◌==◌, None, true, is_some, IfOk};
+ghost use Rattle.std.specs.Borrow.{sem};
 ghost use Rattle.std.specs.FinMap as map;
 ghost use Rattle.intern_store.specs.Named.{key_name};
-ghost use Rattle.intern_store.specs.Outcome.{Owes, Becomes};
+ghost use Rattle.intern_store.specs.Outcome.{Owes, MayWant, Becomes};
 ghost use Rattle.intern_store.specs.State.{IsState, new_state, reads, counts, counted_up, counted_down, due, full, zero_count};
 ghost use Rattle.ra_ap_intern.specs.Handle.{name_of, ref_name};
 
@@ -26,7 +27,7 @@ use std::marker::{Model, PhantomData};
 /// removals go straight to the entry; `from_raw` looks its birth up.
 #[derive(Drop)]
 pub struct Storage<K: Kind<B>, B = FixedState> {
-    pub(crate) store: Store<K::Table>,
+    pub(crate) inner: Reserved<K, B>,
 }
 
 impl<K: Kind<B>, B> Model for Storage<K, B> {
@@ -36,7 +37,15 @@ impl<K: Kind<B>, B> Model for Storage<K, B> {
 
     ghost coded = { state_code K.Table.Value.code };
 
-    ghost view = { λ a. a.store.state };
+    ghost view = { λ a. a.inner.store.state };
+}
+
+/// The entries of a storage, and the room that is left for more: what [`Storage::reserve`] lends.
+///
+/// While there is room, interning takes no memory, and so is refused for no want of it.
+#[derive(Drop)]
+pub struct Reserved<K: Kind<B>, B = FixedState> {
+    pub(crate) store: Store<K::Table>,
 }
 
 /// An owned handle, which counts one: an `Interned` or an `InternedSlice`.
@@ -80,7 +89,9 @@ impl<K: Kind<FixedState>> Storage<K> {
         ensures { result ≡ new_state number u64.MAX u64.MAX }
     {
         Storage {
-            store: Store::new(alloc, number),
+            inner: Reserved {
+                store: Store::new(alloc, number),
+            },
         }
     }
 
@@ -94,6 +105,8 @@ impl<K: Kind<FixedState>> Storage<K> {
 }
 
 impl<K: Kind<B>, B> Storage<K, B> {
+    ghost use Rattle.ra_ap_intern.specs.Reserved.{LendsEntries};
+
     /// An empty storage with limits of its own, which hashes values by what `hasher` builds. It takes
     /// no memory.
     ///
@@ -104,8 +117,27 @@ impl<K: Kind<B>, B> Storage<K, B> {
         ensures { result ≡ new_state number limits.top limits.numbers }
     {
         Storage {
-            store: Store::with_hasher(alloc, number, limits, hasher),
+            inner: Reserved {
+                store: Store::with_hasher(alloc, number, limits, hasher),
+            },
         }
+    }
+
+    /// Lends the storage with room for this many more entries: until the loan ends, the next so many
+    /// values that aren't stored yet are refused for no want of memory. Refused: `OutOfMemory`.
+    ///
+    /// The room stays when the loan ends. It takes what so many entries may need at most, whichever
+    /// slots they use: more than interning them one by one does. Where the hash tables are built
+    /// anew, each stored value is hashed again.
+    pub fn reserve(&mut self, additional: usize) -> Result<&mut Reserved<K, B>, Refusal>
+        ensures* lends { sem 𝓛 (LendsEntries K.row B.row K.Table.row K.Table.Value.row
+            K.Kind K.Table.Entries K.Table.Value.PartialEq self.entry result) }
+        ensures refused { MayWant result None true }
+        ensures state { IfOk result (λ r. r.now.store.state ≡ self.old) }
+        ensures room { IfOk result (λ r. additional ≤ r.now.store.room) }
+    {
+        self.inner.store.reserve(additional)?;
+        Ok(&mut self.inner)
     }
 
     /// The storage's number.
@@ -113,21 +145,21 @@ impl<K: Kind<B>, B> Storage<K, B> {
         ensures number { result ≡ self.now.number }
         ensures state { IsState K.Table.Value.eq self.now }
     {
-        self.store.number()
+        self.inner.store.number()
     }
 
     /// How many entries there are.
     pub fn len(&self) -> usize
         ensures { result ≡ map.len self.now.map }
     {
-        self.store.len()
+        self.inner.store.len()
     }
 
     /// Whether there is no entry.
     pub fn is_empty(&self) -> bool
         ensures { result ≡ (map.len self.now.map == 0) }
     {
-        self.store.is_empty()
+        self.inner.store.is_empty()
     }
 
     /// The count of the entry that a reference names: how many owners it has.
@@ -135,7 +167,7 @@ impl<K: Kind<B>, B> Storage<K, B> {
     pub fn count(&self, reference: Ref<K>) -> Option<u64>
         ensures { result ≡ counts self.now (ref_name reference) }
     {
-        self.store.count(reference.key)
+        self.inner.store.count(reference.key)
     }
 
     /// Whether the entry that a reference names is here.
@@ -194,7 +226,7 @@ impl<K> Ref<K> {
         ensures state { Becomes result storage.old storage.new
             (counted_up storage.old (ref_name self).birth) }
     {
-        storage.store.count_up(self.key)?;
+        storage.inner.store.count_up(self.key)?;
         Ok(Owned { reference: self })
     }
 
@@ -207,7 +239,7 @@ impl<K> Ref<K> {
         ensures state { Becomes result storage.old storage.new
             (counted_down storage.old (ref_name self).birth) }
     {
-        storage.store.count_down(self.key)
+        storage.inner.store.count_down(self.key)
     }
 
     // The reference of a key.

@@ -4,11 +4,12 @@
 //! such as `sym::Clone`; every other text is stored in a [`SymbolTable`] while it is counted.
 //!
 //! A symbol that is dropped without `release` keeps its count.
-ghost use Rattle.std.specs.Prelude.{◌≡◌, ◌<◌, ◌==◌, false, Some, IsPermutation, IfOk};
+ghost use Rattle.std.specs.Prelude.{◌≡◌, ◌<◌, ◌≤◌, ◌==◌, if◌then◌else◌, false, true, length, Some, None, IsPermutation, IfOk};
+ghost use Rattle.std.specs.Borrow.{sem};
 ghost use Rattle.std.specs.FinMap as map;
 ghost use Rattle.std.specs.Option.{option_map};
 ghost use Rattle.std.specs.Str.{bytes_eq};
-ghost use Rattle.intern_store.specs.Outcome.{Owes, OwesBack, MayWant, Becomes};
+ghost use Rattle.intern_store.specs.Outcome.{Owes, OwesBack, MayWant, Becomes, Spends};
 ghost use Rattle.intern_store.specs.State.{IsState, new_state, counted_up, full, any_count, released};
 ghost use Rattle.ra_ap_intern.specs.Symbols.{IsTable, symbol_name, symbol_ref_name, named_in, named_texts, entry_name, own_text, text_of, count_of, symbol_in, due_of, due_symbol, is_new_text, at_entry};
 ghost use Rattle.ra_ap_intern.specs.declared.symbol.symbols.TheConstants as sym;
@@ -32,22 +33,30 @@ use std::marker::Model;
 /// Only interning a text that is neither stored nor a preset takes memory.
 #[derive(Drop)]
 pub struct SymbolTable<B: BuildHasher = FixedState> {
+    inner: ReservedTexts<B>,
+}
+
+/// The texts of a symbol table, and the room that is left for more: what [`SymbolTable::reserve`]
+/// lends.
+///
+/// While there is room, interning a text of up to 24 bytes takes no memory, and so is refused for no
+/// want of it.
+#[derive(Drop)]
+pub struct ReservedTexts<B: BuildHasher = FixedState> {
     store: Store<Table<Text, B>>,
+    ghost table: { IsTable store.state },
 }
 
 impl<B: BuildHasher> Model for SymbolTable<B> {
     ghost use Rattle.std.specs.Prelude.{List, ℕ};
     ghost use Rattle.std.specs.Coded.{coded_list, coded_ℕ};
     ghost use Rattle.intern_store.specs.State.{State, state_code};
-    ghost use Rattle.ra_ap_intern.specs.Symbols.{IsTable};
 
     ghost Value = { State (List ℕ) };
 
     ghost coded = { state_code (coded_list coded_ℕ) };
 
-    ghost view = { λ a. a.store.state };
-
-    ghost invariant = { λ a. IsTable a.store.state };
+    ghost view = { λ a. a.inner.store.state };
 }
 
 /// A symbol: a preset, or a handle of a text in a table, which counts one.
@@ -78,7 +87,9 @@ impl SymbolTable {
         ensures { result ≡ new_state number u64.MAX u64.MAX }
     {
         SymbolTable {
-            store: Store::new(alloc, number),
+            inner: ReservedTexts {
+                store: Store::new(alloc, number),
+            },
         }
     }
 
@@ -92,6 +103,8 @@ impl SymbolTable {
 }
 
 impl<B: BuildHasher> SymbolTable<B> {
+    ghost use Rattle.ra_ap_intern.specs.Reserved.{LendsTexts};
+
     /// An empty table with limits of its own, which hashes texts by what `hasher` builds. It takes no
     /// memory.
     ///
@@ -102,8 +115,27 @@ impl<B: BuildHasher> SymbolTable<B> {
         ensures { result ≡ new_state number limits.top limits.numbers }
     {
         SymbolTable {
-            store: Store::with_hasher(alloc, number, limits, hasher),
+            inner: ReservedTexts {
+                store: Store::with_hasher(alloc, number, limits, hasher),
+            },
         }
+    }
+
+    /// Lends the table with room for this many more texts of up to 24 bytes: until the loan ends, the
+    /// next so many that aren't stored yet are refused for no want of memory. Refused: `OutOfMemory`.
+    ///
+    /// The room stays when the loan ends. It takes what so many entries may need at most, whichever
+    /// slots they use: more than interning them one by one does. Where the hash tables are built
+    /// anew, each stored text is hashed again.
+    pub fn reserve(&mut self, additional: usize) -> Result<&mut ReservedTexts<B>, Refusal>
+        ensures* lends { sem 𝓛 (LendsTexts B.row B.Hasher.row B.BuildHasher B.Hasher.Hasher
+            self.entry result) }
+        ensures refused { MayWant result None true }
+        ensures state { IfOk result (λ r. r.now.store.state ≡ self.old) }
+        ensures room { IfOk result (λ r. additional ≤ r.now.store.room) }
+    {
+        self.inner.store.reserve(additional)?;
+        Ok(&mut self.inner)
     }
 
     /// The table's number.
@@ -112,21 +144,21 @@ impl<B: BuildHasher> SymbolTable<B> {
         ensures state { IsState bytes_eq self.now }
         ensures table { IsTable self.now }
     {
-        self.store.number()
+        self.inner.store.number()
     }
 
     /// How many texts the table keeps. Presets don't count.
     pub fn len(&self) -> usize
         ensures { result ≡ map.len self.now.map }
     {
-        self.store.len()
+        self.inner.store.len()
     }
 
     /// Whether the table keeps no text.
     pub fn is_empty(&self) -> bool
         ensures { result ≡ (map.len self.now.map == 0) }
     {
-        self.store.is_empty()
+        self.inner.store.is_empty()
     }
 
     /// A reference to the symbol of a text: a preset's, or that of a text that the table keeps.
@@ -135,7 +167,7 @@ impl<B: BuildHasher> SymbolTable<B> {
         ensures { option_map symbol_ref_name result ≡ named_in self.now text.now }
     {
         // No table keeps a preset's text.
-        let source = match self.store.find(&text) {
+        let source = match self.inner.store.find(&text) {
             Some(key) => Source::Runtime(key),
             None => Source::Preset(intern_presets::place(text)?),
         };
@@ -148,8 +180,8 @@ impl<B: BuildHasher> SymbolTable<B> {
         ensures { IsPermutation result (named_texts self.now) }
     {
         SymbolIter {
-            number: self.store.number(),
-            entries: self.store.table().iter(),
+            number: self.inner.store.number(),
+            entries: self.inner.store.table().iter(),
         }
     }
 
@@ -160,7 +192,38 @@ impl<B: BuildHasher> SymbolTable<B> {
     {
         match symbol.0 {
             Source::Preset(_) => None,
-            Source::Runtime(key) => self.store.count(key),
+            Source::Runtime(key) => self.inner.store.count(key),
+        }
+    }
+}
+
+impl<B: BuildHasher> ReservedTexts<B> {
+    /// What [`Symbol::intern`] does. Where there is room, a text of up to 24 bytes that isn't stored
+    /// takes of it, and is not refused with `OutOfMemory`.
+    pub fn intern(&mut self, text: &str) -> Result<Symbol, Refusal>
+        ensures ok { IfOk result (λ s.
+            symbol_name s ≡ (symbol_in self.old.store.state text.now).symbol) }
+        ensures refused { MayWant result (due_symbol self.old.store.state text.now)
+            (is_new_text self.old.store.state text.now) }
+        ensures roomy { 0 < self.old.store.room → length text.now ≤ 24 →
+            Owes result (due_symbol self.old.store.state text.now) }
+        ensures room { Spends result self.old.store.room self.new.store.room
+            (if is_new_text self.old.store.state text.now then 1 else 0) }
+        ensures state { Becomes result self.old.store.state self.new.store.state
+            (symbol_in self.old.store.state text.now).table }
+    {
+        // No table keeps a preset's text, so the presets are looked at only for what isn't stored.
+        let hash = match self.store.count_up_stored(&text) {
+            Ok(Ok(key)) => return Ok(Symbol(Source::Runtime(key))),
+            Ok(Err(hash)) => hash,
+            Err(why) => return Err(why),
+        };
+        if let Some(preset) = intern_presets::place(text) {
+            return Ok(Symbol(Source::Preset(preset)));
+        }
+        match self.store.add_counted(hash, text) {
+            Ok(key) => Ok(Symbol(Source::Runtime(key))),
+            Err(Refused { why, .. }) => Err(why),
         }
     }
 }
@@ -178,19 +241,7 @@ impl Symbol {
         ensures state { Becomes result table.old table.new
             (symbol_in table.old text.now).table }
     {
-        // No table keeps a preset's text, so the presets are looked at only for what isn't stored.
-        let hash = match table.store.count_up_stored(&text) {
-            Ok(Ok(key)) => return Ok(Symbol(Source::Runtime(key))),
-            Ok(Err(hash)) => hash,
-            Err(why) => return Err(why),
-        };
-        if let Some(preset) = intern_presets::place(text) {
-            return Ok(Symbol(Source::Preset(preset)));
-        }
-        match table.store.add_counted(hash, text) {
-            Ok(key) => Ok(Symbol(Source::Runtime(key))),
-            Err(Refused { why, .. }) => Err(why),
-        }
+        table.inner.intern(text)
     }
 
     /// The symbol of the empty text, which is a preset.
@@ -294,7 +345,7 @@ impl SymbolRef {
         match self.0 {
             Source::Preset(place) => intern_presets::text(place),
             Source::Runtime(key) => {
-                let text = table.store.own(key.storage)?.get(key.spot)?;
+                let text = table.inner.store.own(key.storage)?.get(key.spot)?;
                 Some(text.as_str())
             }
         }
@@ -320,7 +371,7 @@ impl SymbolRef {
         match self.0 {
             Source::Preset(_) => Ok(Symbol(self.0)),
             Source::Runtime(key) => {
-                table.store.count_up(key)?;
+                table.inner.store.count_up(key)?;
                 Ok(Symbol(self.0))
             }
         }
@@ -340,7 +391,7 @@ impl SymbolRef {
         match self.0 {
             Source::Preset(_) => Ok(()),
             Source::Runtime(key) => {
-                table.store.release(key, false)?;
+                table.inner.store.release(key, false)?;
                 Ok(())
             }
         }

@@ -22,6 +22,6 @@ impl<B: BuildHasher> InternStorage<Text, B> {
     pub fn get_text(&self, text: &str) -> Option<InternedRef<Text>>
         ensures { option_map ref_name result ≡ name_of_value bytes_eq self.now text.now }
     {
-        Some(Ref::new(self.store.find(&text)?))
+        Some(Ref::new(self.inner.store.find(&text)?))
     }
 }

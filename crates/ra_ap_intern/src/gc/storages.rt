@@ -75,7 +75,7 @@ impl<T: Internable + GcInternedVisit + Drop, B: BuildHasher> Visits<B> for Value
     }
 
     fn keep<M: Keeps>(storage: &mut Storage<Values<T>, B>, marks: &M) {
-        storage.store.keep(marks);
+        storage.inner.store.keep(marks);
     }
 }
 
@@ -109,7 +109,7 @@ where
     }
 
     fn keep<M: Keeps>(storage: &mut Storage<Slices<T>, B>, marks: &M) {
-        storage.store.keep(marks);
+        storage.inner.store.keep(marks);
     }
 }
 
@@ -119,7 +119,7 @@ impl<K: Kind<B>, B> Numbered for Storage<K, B> {
     ghost numbers = { λ s. s.number ∷ [] };
 
     fn has_number(&self, number: u64) -> bool {
-        self.store.number() == number
+        self.inner.store.number() == number
     }
 }
 
@@ -143,11 +143,11 @@ impl<K: Visits<B>, B> Family for Storage<K, B> {
     ghost numbered = { λ s x is. entry_numbered K.children s x is };
 
     fn len(&self) -> usize {
-        self.store.len()
+        self.inner.store.len()
     }
 
     fn meets<G: Numbered>(&self, others: &G) -> bool {
-        others.has_number(self.store.number())
+        others.has_number(self.inner.store.number())
     }
 
     fn is_distinct(&self) -> bool {
@@ -155,8 +155,8 @@ impl<K: Visits<B>, B> Family for Storage<K, B> {
     }
 
     fn learn(&self, marks: &mut Marks, roots: bool) -> Result<(), AllocError> {
-        let number = self.store.number();
-        learn_counts(number, K::counts(self.store.table()), marks, roots)
+        let number = self.inner.store.number();
+        learn_counts(number, K::counts(self.inner.store.table()), marks, roots)
     }
 
     fn visit(&self, key: EntryKey, gc: &mut GarbageCollector) -> bool {
@@ -164,7 +164,7 @@ impl<K: Visits<B>, B> Family for Storage<K, B> {
     }
 
     fn sweep(&mut self, gc: &GarbageCollector) {
-        let number = self.store.number();
+        let number = self.inner.store.number();
         K::keep(self, &gc.marks.of_storage(number));
     }
 }

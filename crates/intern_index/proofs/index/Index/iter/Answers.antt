@@ -8,4 +8,4 @@ use Rattle.intern_index.proofs.index.Index.iter.Goals as goal
 pub returns : goal.returns
 returns g c =
     subst (λ es. IsPermutation (list_map listed_at es) (listed c.args.self.now.entries)) (sym c.iter.ensures.rest)
-    (listed_in c.self.inside.slots _ (entries_seen _ _ _ c.self.view_is) c.self.invariant.apart)
+    (listed_in c.self.inside.slots _ (entries_seen _ _ _ _ c.self.view_is) c.self.invariant.apart)

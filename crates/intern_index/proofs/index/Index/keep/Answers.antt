@@ -14,5 +14,5 @@ invariant_of-self g c =
 
 pub returns : goal.returns
 returns g c =
-    changed_seen _ _ _ c.self.view_is _ _
-    (swept_seen (g.M.Keeps.marked c.args.marks.now) c.self.inside.slots c.keep_marked.new.slots c.keep_marked.ensures _ (entries_seen _ _ _ c.self.view_is) c.self.invariant.apart)
+    changed_seen _ _ _ _ c.self.view_is _ _ _
+    (swept_seen (g.M.Keeps.marked c.args.marks.now) c.self.inside.slots c.keep_marked.new.slots c.keep_marked.ensures _ (entries_seen _ _ _ _ c.self.view_is) c.self.invariant.apart)

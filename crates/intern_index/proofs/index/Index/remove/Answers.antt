@@ -18,7 +18,7 @@ pub returns-in_err-place-clause-removed : goal.returns-in_err-place-clause-remov
 returns-in_err-place-clause-removed g c = ap (λ m. record c.args.self.now { entries = m }) (unremoved _ c.args.spot.birth (sym c.in_err-place.ensures))
 
 pub remove-entry-requires : goal.remove-entry-requires
-remove-entry-requires g c = ap is_some (entry_there c.self.inside.slots _ _ (at_seen c.self.inside.slots _ (entries_seen _ _ _ c.self.view_is) c.args.spot.birth c.in_ok-place.place c.in_ok-place.field-0-1.now c.in_ok-place.ensures)).1
+remove-entry-requires g c = ap is_some (entry_there c.self.inside.slots _ _ (at_seen c.self.inside.slots _ (entries_seen _ _ _ _ c.self.view_is) c.args.spot.birth c.in_ok-place.place c.in_ok-place.field-0-1.now c.in_ok-place.ensures)).1
 
 pub invariant_of-self : goal.invariant_of-self
 invariant_of-self g c =
@@ -29,12 +29,12 @@ invariant_of-self g c =
 
 pub returns-clause-value : goal.returns-clause-value
 returns-clause-value g c =
-    let at = at_seen c.self.inside.slots _ (entries_seen _ _ _ c.self.view_is) c.args.spot.birth c.in_ok-place.place c.in_ok-place.field-0-1.now c.in_ok-place.ensures in
+    let at = at_seen c.self.inside.slots _ (entries_seen _ _ _ _ c.self.view_is) c.args.spot.birth c.in_ok-place.place c.in_ok-place.field-0-1.now c.in_ok-place.ensures in
     ap (λ o. option_map (λ (e : IndexEntry g.row.T.Denot g.row.N.Denot). e.value) o)
-    (ap (option_map _) (sym c.remove-entry.ensures.value) ∙ seen_at c.self.inside.slots _ (entries_seen _ _ _ c.self.view_is) c.self.invariant.apart c.in_ok-place.place c.args.spot.birth at)
+    (ap (option_map _) (sym c.remove-entry.ensures.value) ∙ seen_at c.self.inside.slots _ (entries_seen _ _ _ _ c.self.view_is) c.self.invariant.apart c.in_ok-place.place c.args.spot.birth at)
 
 pub returns-clause-removed : goal.returns-clause-removed
 returns-clause-removed g c =
-    let at = at_seen c.self.inside.slots _ (entries_seen _ _ _ c.self.view_is) c.args.spot.birth c.in_ok-place.place c.in_ok-place.field-0-1.now c.in_ok-place.ensures in
-    changed_seen _ _ _ c.self.view_is _ _
-    (removed_seen c.self.inside.slots c.remove-entry.new.self _ c.self.invariant _ (entries_seen _ _ _ c.self.view_is) c.in_ok-place.place c.args.spot.birth at c.remove-entry.ensures.updates)
+    let at = at_seen c.self.inside.slots _ (entries_seen _ _ _ _ c.self.view_is) c.args.spot.birth c.in_ok-place.place c.in_ok-place.field-0-1.now c.in_ok-place.ensures in
+    changed_seen _ _ _ _ c.self.view_is _ _ _
+    (removed_seen c.self.inside.slots c.remove-entry.new.self _ c.self.invariant _ (entries_seen _ _ _ _ c.self.view_is) c.in_ok-place.place c.args.spot.birth at c.remove-entry.ensures.updates)

@@ -7,5 +7,5 @@ use Rattle.ra_ap_intern.proofs.symbol.SymbolTable.get.Goals as goal
 
 pub returns-in-Some : goal.returns-in-Some
 returns-in-Some g c =
-    sym (found_named c.self.inside.store.state c.args.text.now c.self.invariant (key_name c.in-Some.key) c.in-Some.ensures)
+    sym (found_named c.self.inside.inner.store.state c.args.text.now c.self.inside.inner.table (key_name c.in-Some.key) c.in-Some.ensures)
     ∙ ap (λ (s : State (List ℕ)). named_in s c.args.text.now) c.self.view_is
