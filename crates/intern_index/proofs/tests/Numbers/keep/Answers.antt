@@ -14,5 +14,5 @@ invariant_of-self g c = record {
   below = λ b some.
       c.args.self.now.below b (was_there (g.M.Keeps.marked c.args.marks.now b) _
       (sym (ap (λ (i : Indexed ℕ ℕ). is_some (map_get i.entries b)) c.keep.ensures ∙ ap is_some (get-retained c.args.self.now.index.entries _ b)) ∙ some));
-  led = (retained_led _ _ c.keep.new.self _ (record { led = c.args.self.now.led }) c.keep.ensures).led;
+  led = (retained_led _ c.args.self.now.index c.keep.new.self _ (record { led = c.args.self.now.led }) c.keep.ensures).led;
 }

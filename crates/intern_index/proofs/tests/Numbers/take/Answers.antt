@@ -14,5 +14,5 @@ invariant_of-self g c = record {
   below = λ b some.
       c.args.self.now.below b (was_there (nat_eq b c.args.spot.birth) _
       (sym (ap (λ (i : Indexed ℕ ℕ). is_some (map_get i.entries b)) c.remove.ensures.removed ∙ ap is_some (get-removed c.args.self.now.index.entries c.args.spot.birth b)) ∙ some));
-  led = (removed_led _ _ c.remove.new.self c.args.spot.birth (record { led = c.args.self.now.led }) c.remove.ensures.removed).led;
+  led = (removed_led _ c.args.self.now.index c.remove.new.self c.args.spot.birth (record { led = c.args.self.now.led }) c.remove.ensures.removed).led;
 }
