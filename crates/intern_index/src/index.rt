@@ -26,7 +26,7 @@ use std::marker::Model;
 /// Entries in a slab, a hash table of their places, and what finds their places by births. The
 /// caller says how entries are hashed, and gives the hash of each.
 ///
-/// Only an insertion takes memory.
+/// Only an insertion and `reserve` take memory.
 #[derive(Drop)]
 pub struct Index<T, N: Copy, B: Births> {
     alloc: Global,

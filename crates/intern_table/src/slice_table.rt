@@ -27,7 +27,8 @@ use std::marker::Model;
 /// Interning takes expected constant time, unless the hash table is built anew. It compares the
 /// slices of one hash, and others only where a bucket with the same 16 bits leads to them, as one
 /// does whose place was given to another entry. Building the table anew hashes each slice. A call on
-/// a handle touches its entry, and a read its items too. Only an insertion takes memory.
+/// a handle touches its entry, and a read its items too. Only an insertion and what reserves room
+/// take memory.
 #[derive(Drop)]
 pub struct SliceTable<H: Hash + Eq, S: Hash + Eq + Copy, B: BuildHasher = FixedState> {
     index: Index<H, SlicePayload, BirthOrder>,

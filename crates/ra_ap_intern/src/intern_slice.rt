@@ -42,7 +42,7 @@ pub trait SliceInternable {
 ///
 /// Two pairs are equal where their headers are, and their items one by one. An empty list is an
 /// ordinary value, and items may have size zero. Only interning a pair that isn't stored takes
-/// memory; its items are copied once.
+/// memory, where no room was reserved for it; its items are copied once.
 pub type InternSliceStorage<T, B = FixedState> = Storage<Slices<T>, B>;
 
 /// An owned handle of a header with items, which counts one.

@@ -21,10 +21,10 @@ use std::marker::{Model, PhantomData};
 /// `InternSliceStorage`.
 ///
 /// Interning hashes what is offered and looks it up once, and compares it with the stored values of
-/// that hash, rarely with another. Only a value that isn't stored takes memory. Where storing it
-/// builds the tables anew, each stored value is hashed again, in time in proportion to the most
-/// entries that there were at once, which is constant time a call on average. Reads, counts and
-/// removals go straight to the entry; `from_raw` looks its birth up.
+/// that hash, rarely with another. Only a value that isn't stored takes memory, where no room was
+/// reserved for it. Where storing it builds the tables anew, each stored value is hashed again, in
+/// time in proportion to the most entries that there were at once, which is constant time a call on
+/// average. Reads, counts and removals go straight to the entry; `from_raw` looks its birth up.
 #[derive(Drop)]
 pub struct Storage<K: Kind<B>, B = FixedState> {
     pub(crate) inner: Reserved<K, B>,

@@ -30,7 +30,8 @@ use std::marker::Model;
 /// A table of texts, each kept once, and only while it is counted. The presets are in no table. Texts
 /// are hashed by a hasher that `B` builds.
 ///
-/// Only interning a text that is neither stored nor a preset takes memory.
+/// Only interning a text that is neither stored nor a preset takes memory, where no room was reserved
+/// for it.
 #[derive(Drop)]
 pub struct SymbolTable<B: BuildHasher = FixedState> {
     inner: ReservedTexts<B>,
