@@ -11,6 +11,7 @@ mod fault;
 mod many;
 mod marks;
 mod one_entry;
+mod reserved;
 mod scene;
 mod slices;
 mod storage;
@@ -23,6 +24,7 @@ use crate::collections::{Collection, check_collection, check_registration};
 use crate::fault::Fault;
 use crate::many::check_many;
 use crate::one_entry::{check_no_births, check_one_entry};
+use crate::reserved::check_reserved;
 use crate::scene::check;
 use crate::slices::Row;
 use crate::symbols::{Call, Symbols};
@@ -53,7 +55,8 @@ fn check_all(rt: &(impl Print + Eprint), alloc: Global) -> Result<(), Fault> {
     check_no_births(rt, alloc)?;
     check_one_entry(rt, alloc)?;
     check_two_texts(rt, alloc)?;
-    check_many(rt, alloc)
+    check_many(rt, alloc)?;
+    check_reserved(rt, alloc)
 }
 
 fn main(rt: HostRuntime) -> ExitCode {

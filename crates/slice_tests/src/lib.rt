@@ -21,4 +21,6 @@ mod owed;
 #[cfg(test)]
 mod pairs;
 #[cfg(test)]
+mod reserved;
+#[cfg(test)]
 mod steps;

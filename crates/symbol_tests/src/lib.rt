@@ -20,6 +20,8 @@ mod ported;
 #[cfg(test)]
 mod presets;
 #[cfg(test)]
+mod reserved;
+#[cfg(test)]
 mod shown;
 #[cfg(test)]
 mod steps;

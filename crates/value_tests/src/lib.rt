@@ -31,6 +31,8 @@ mod ported;
 #[cfg(test)]
 mod readme;
 #[cfg(test)]
+mod reserved;
+#[cfg(test)]
 mod shown;
 #[cfg(test)]
 mod steps;

@@ -1,0 +1,164 @@
+//! Room that is made in front, also once slots were used again: with it, interning takes no memory.
+ghost use Rattle.std.specs.Prelude.{true};
+
+use crate::fault::{Fault, ensure};
+use crate::marks;
+use crate::scene::room;
+use crate::values::text_of;
+use intern_fixtures::Unhashed;
+use ra_ap_intern::{
+    InternSliceStorage, InternStorage, Interned, Refused, SliceInternable, Symbol, SymbolTable,
+    Text,
+};
+use std::alloc::Global;
+
+/// For how many entries room is made.
+const ENTRIES: usize = 150;
+
+/// How many items each slice has.
+const ITEMS: usize = 3;
+
+/// The calls that make room.
+const VALUES: &str = "Storage::reserve, of values";
+
+const SLICES: &str = "Storage::reserve, of slices";
+
+const ALL_ITEMS: &str = "Reserved::reserve_items";
+
+const TEXTS: &str = "SymbolTable::reserve";
+
+/// A number before others.
+struct Row;
+
+impl SliceInternable for Row {
+    type Header = u64;
+
+    type SliceType = u64;
+
+    const USE_GC: bool = true;
+
+    ghost USE_GC = { true };
+}
+
+/// Checks the calls that make room, and those that take it.
+pub(crate) fn check_reserved(rt: &(impl Print + Eprint), alloc: Global) -> Result<(), Fault> {
+    reserve_values(rt, &mut InternStorage::new(alloc, 1))?;
+    marks::prepares(rt);
+    let mut used = InternStorage::new(alloc, 1);
+    use_a_slot_again(&mut used)?;
+    reserve_values(rt, &mut used)?;
+    reserve_slices(rt, &mut InternSliceStorage::new(alloc, 1))?;
+    reserve_texts(rt, alloc, &mut SymbolTable::new(alloc, 1))
+}
+
+// Stores two values, of which the first goes, and a third in its slot.
+fn use_a_slot_again(storage: &mut InternStorage<Unhashed>) -> Result<(), Fault> {
+    let first = store(storage, Unhashed(1))?;
+    let _ = store(storage, Unhashed(2))?;
+    first.release(storage)?;
+    let _ = store(storage, Unhashed(3))?;
+    Ok(())
+}
+
+// At the second try where the first is refused.
+fn store(
+    storage: &mut InternStorage<Unhashed>,
+    value: Unhashed,
+) -> Result<Interned<Unhashed>, Fault> {
+    let (handle, _) = match Interned::new(storage, value) {
+        Ok(stored) => stored,
+        Err(Refused { why: _, back }) => Interned::new(storage, back)?,
+    };
+    Ok(handle)
+}
+
+// All values have one hash, so each takes a bucket behind those before.
+fn reserve_values(
+    rt: &(impl Print + Eprint),
+    storage: &mut InternStorage<Unhashed>,
+) -> Result<(), Fault> {
+    let len = storage.len();
+    marks::asks(rt, VALUES);
+    if storage.reserve(ENTRIES).is_err() {
+        marks::refused(rt, VALUES);
+        ensure(storage.len() == len, "a value was lost where no room is")?;
+        storage.reserve(ENTRIES)?;
+    }
+    marks::takes_none(rt, "Reserved::intern, of values");
+    let room = storage.reserve(ENTRIES)?;
+    for number in 0..ENTRIES {
+        room.intern(Unhashed(number as u64 + 100))?;
+    }
+    ensure(
+        storage.len() == len.saturating_add(ENTRIES),
+        "a value isn't stored in the room for it",
+    )?;
+    println!(rt; "{VALUES}: {}", storage.len())?;
+    Ok(())
+}
+
+fn reserve_slices(
+    rt: &(impl Print + Eprint),
+    storage: &mut InternSliceStorage<Row>,
+) -> Result<(), Fault> {
+    marks::asks(rt, SLICES);
+    if storage.reserve(ENTRIES).is_err() {
+        marks::refused(rt, SLICES);
+        storage.reserve(ENTRIES)?;
+    }
+    marks::asks(rt, ALL_ITEMS);
+    let room = storage.reserve(ENTRIES)?;
+    if room.reserve_items(ENTRIES * ITEMS).is_err() {
+        marks::refused(rt, ALL_ITEMS);
+        room.reserve_items(ENTRIES * ITEMS)?;
+    }
+    marks::takes_none(rt, "Reserved::intern, of slices");
+    for number in 0..ENTRIES as u64 {
+        room.intern(number, &[number; ITEMS])?;
+    }
+    ensure(
+        storage.len() == ENTRIES,
+        "a slice isn't stored in the room for it",
+    )?;
+    println!(rt; "{SLICES}: {}", storage.len())?;
+    println!(rt; "{ALL_ITEMS}: {}", ENTRIES * ITEMS)?;
+    Ok(())
+}
+
+fn reserve_texts(
+    rt: &(impl Print + Eprint),
+    alloc: Global,
+    table: &mut SymbolTable,
+) -> Result<(), Fault> {
+    marks::prepares(rt);
+    let texts = short_texts(alloc)?;
+    marks::asks(rt, TEXTS);
+    if table.reserve(ENTRIES).is_err() {
+        marks::refused(rt, TEXTS);
+        table.reserve(ENTRIES)?;
+    }
+    marks::takes_none(rt, "ReservedTexts::intern");
+    let room = table.reserve(ENTRIES)?;
+    for text in texts.iter() {
+        let _: Symbol = room.intern(text.as_str())?;
+    }
+    ensure(
+        table.len() == ENTRIES,
+        "a text isn't stored in the room for it",
+    )?;
+    println!(rt; "{TEXTS}: {}", table.len())?;
+    Ok(())
+}
+
+// Texts that lie in their entries.
+fn short_texts(alloc: Global) -> Result<Vec<Text>, Fault> {
+    let mut texts = room(alloc, ENTRIES)?;
+    for number in 0..ENTRIES as u64 {
+        let text = match text_of(alloc, number * 2) {
+            Ok(text) => text,
+            Err(_) => text_of(alloc, number * 2)?,
+        };
+        texts.push(text)?;
+    }
+    Ok(texts)
+}

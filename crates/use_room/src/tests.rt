@@ -1,0 +1,70 @@
+//! Two values, and two lists, in one call each.
+ghost use Rattle.std.specs.Prelude.{true};
+
+use crate::{intern_two, intern_two_lists};
+use ra_ap_intern::{
+    InternSliceStorage, InternStorage, Internable, InternedRef, InternedSliceRef, SliceInternable,
+};
+use std::process::Abort;
+
+/// A number that is collected.
+#[derive(Debug, Drop, PartialEq, Eq, Hash)]
+struct Number(u64);
+
+impl Internable for Number {
+    const USE_GC: bool = true;
+
+    ghost USE_GC = { true };
+}
+
+/// Numbers behind a number.
+struct Row;
+
+impl SliceInternable for Row {
+    type Header = u64;
+
+    type SliceType = u64;
+
+    const USE_GC: bool = true;
+
+    ghost USE_GC = { true };
+}
+
+fn two(
+    rt: &impl Abort,
+    numbers: &mut InternStorage<Number>,
+    first: u64,
+    second: u64,
+) -> (InternedRef<Number>, InternedRef<Number>) {
+    intern_two(numbers, Number(first), Number(second)).expect(rt, "memory")
+}
+
+#[test]
+fn both_values_are_stored_once(rt: HostRuntime) {
+    let mut numbers = InternStorage::new(rt.alloc(), 1);
+    let (seven, eight) = two(&rt, &mut numbers, 7, 8);
+    let (again, nine) = two(&rt, &mut numbers, 8, 9);
+    assert!(rt; again == eight);
+    assert_eq!(rt; seven.get(&numbers), Some(&Number(7)));
+    assert_eq!(rt; nine.get(&numbers), Some(&Number(9)));
+    assert_eq!(rt; numbers.len(), 3);
+}
+
+fn two_lists(
+    rt: &impl Abort,
+    rows: &mut InternSliceStorage<Row>,
+    first: &[u64],
+    second: &[u64],
+) -> (InternedSliceRef<Row>, InternedSliceRef<Row>) {
+    intern_two_lists(rows, (1, first), (2, second)).expect(rt, "memory")
+}
+
+#[test]
+fn both_lists_are_stored_once(rt: HostRuntime) {
+    let mut rows = InternSliceStorage::new(rt.alloc(), 1);
+    let (first, second) = two_lists(&rt, &mut rows, &[1, 2], &[3]);
+    let (again, third) = two_lists(&rt, &mut rows, &[1, 2], &[]);
+    assert!(rt; again == first);
+    assert!(rt; third != second);
+    assert_eq!(rt; rows.len(), 3);
+}
