@@ -2,15 +2,16 @@
 //! them, nothing has happened.
 #![tactic(auto)]
 
-ghost use Rattle.std.specs.Prelude.{◌≡◌, true, IfOk, OnOk, IfErr};
+ghost use Rattle.std.specs.Prelude.{◌≡◌, ◌<◌, true, IfOk, OnOk, IfErr};
 ghost use Rattle.ra_ap_intern.specs.Handle.{ref_name};
+ghost use Rattle.ra_ap_intern.specs.Outcome.{Becomes, OwesBack, Spends};
 ghost use Rattle.ra_ap_intern.specs.Sliced.{sliced_eq};
 ghost use Rattle.ra_ap_intern.specs.Slices.{slice_in, slice_name_in};
-ghost use Rattle.ra_ap_intern.specs.State.{interned, interned_name};
+ghost use Rattle.ra_ap_intern.specs.State.{interned, interned_name, due_interning, any_count};
 
 use ra_ap_intern::{
-    InternSliceStorage, InternStorage, Internable, InternedRef, InternedSliceRef, Refusal,
-    SliceInternable,
+    InternSliceStorage, InternStorage, Internable, InternedRef, InternedSliceRef, Refusal, Refused,
+    Reserved, SliceInternable, Values,
 };
 
 /// References of two values, in collected mode. Refused: `NumbersUsedUp`, where the first may be
@@ -34,6 +35,26 @@ pub fn intern_two<T: Internable + Drop>(
     Ok((first, second))
 }
 
+/// The reference of a value, in room that was made before: of that it takes one at most. Refused, with
+/// the value back: `NumbersUsedUp` where it isn't stored.
+pub fn intern_next<T: Internable + Drop>(
+    room: &mut Reserved<Values<T>>,
+    value: T,
+) -> Result<InternedRef<T>, Refused<T>>
+    requires collected { T.Internable.USE_GC ≡ true }
+    requires room { 0 < room.old.store.room }
+    ensures name { IfOk result (λ r.
+        ref_name r ≡ interned_name T.eq room.old.store.state value) }
+    ensures refused { OwesBack result
+        (due_interning T.eq room.old.store.state value any_count) value }
+    ensures left { Spends result room.old.store.room room.new.store.room 1 }
+    ensures state { Becomes result room.old.store.state room.new.store.state
+        (interned T.eq room.old.store.state value).state }
+{
+    let (reference, _) = room.intern_gc(value)?;
+    Ok(reference)
+}
+
 /// References of two lists of items, each under its header. Refused as `intern_two` is.
 pub fn intern_two_lists<T: SliceInternable>(
     storage: &mut InternSliceStorage<T>,
@@ -47,7 +68,8 @@ where
         ref_name r.0 ≡ slice_name_in eq storage.old first.entry.0 first.entry.1.now) }
     ensures second { let eq = sliced_eq T.Header.eq T.SliceType.eq in IfOk result (λ r.
         ref_name r.1 ≡ slice_name_in eq
-        (slice_in eq storage.old first.entry.0 first.entry.1.now).state second.entry.0 second.entry.1.now) }
+        (slice_in eq storage.old first.entry.0 first.entry.1.now).state
+        second.entry.0 second.entry.1.now) }
     ensures state { let eq = sliced_eq T.Header.eq T.SliceType.eq in OnOk result (storage.new
         ≡ (slice_in eq (slice_in eq storage.old first.entry.0 first.entry.1.now).state
         second.entry.0 second.entry.1.now).state) }

@@ -1,7 +1,7 @@
 //! Two values, and two lists, in one call each.
 ghost use Rattle.std.specs.Prelude.{true};
 
-use crate::{intern_two, intern_two_lists};
+use crate::{intern_next, intern_two, intern_two_lists};
 use ra_ap_intern::{
     InternSliceStorage, InternStorage, Internable, InternedRef, InternedSliceRef, SliceInternable,
 };
@@ -48,6 +48,14 @@ fn both_values_are_stored_once(rt: HostRuntime) {
     assert_eq!(rt; seven.get(&numbers), Some(&Number(7)));
     assert_eq!(rt; nine.get(&numbers), Some(&Number(9)));
     assert_eq!(rt; numbers.len(), 3);
+}
+
+#[test]
+fn room_is_passed_on(rt: HostRuntime) {
+    let mut numbers = InternStorage::new(rt.alloc(), 1);
+    let room = numbers.reserve(1).expect(&rt, "memory");
+    let seven = intern_next(room, Number(7)).expect(&rt, "room");
+    assert_eq!(rt; seven.get(&numbers), Some(&Number(7)));
 }
 
 fn two_lists(
