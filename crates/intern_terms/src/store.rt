@@ -17,22 +17,24 @@ ghost use Rattle.intern_terms.specs.Tree.{Tree as TermTree, Trees as TermTrees, 
 use crate::handle::{Term, TermRef, Terms};
 use crate::iter::TermIter;
 use ra_ap_intern::{
-    Collected, GarbageCollector, InternSliceStorage, InternedSlice, Limits, Refusal, Refused,
-    Symbol,
+    Collected, FixedState, GarbageCollector, InternSliceStorage, InternedSlice, Limits, Refusal,
+    Refused, Symbol,
 };
 use std::alloc::{AllocError, Global};
+use std::hash::BuildHasher;
 use std::marker::Model;
 
-/// A store of terms. Each is kept once: a head over the same arguments is the same term.
+/// A store of terms. Each is kept once: a head over the same arguments is the same term. Terms are
+/// hashed by a hasher that `B` builds.
 ///
 /// Only a term that isn't stored, and a collection, take memory.
 #[derive(Drop)]
-pub struct TermStore {
+pub struct TermStore<B: BuildHasher = FixedState> {
     alloc: Global,
-    terms: InternSliceStorage<Terms>,
+    terms: InternSliceStorage<Terms, B>,
 }
 
-impl Model for TermStore {
+impl<B: BuildHasher> Model for TermStore<B> {
     ghost use Rattle.ra_ap_intern.specs.Sliced.{Sliced, sliced_code};
     ghost use Rattle.ra_ap_intern.specs.State.{State, state_code};
     ghost use Rattle.ra_ap_intern.specs.contracts.symbol.Symbol as symbol;
@@ -68,9 +70,23 @@ impl TermStore {
         requires { 0 < limits.top }
         ensures { result ≡ new_state number limits.top limits.numbers }
     {
+        TermStore::with_hasher(alloc, number, limits, FixedState::new())
+    }
+}
+
+impl<B: BuildHasher> TermStore<B> {
+    /// An empty store with limits of its own, which hashes terms by what `hasher` builds. It takes no
+    /// memory.
+    ///
+    /// The seed of [`FixedState`] is known, so that whoever chooses the terms can let all of them
+    /// share a bucket. Give a store of such terms `RandomState::new(&rt)?`.
+    pub fn with_hasher(alloc: Global, number: u64, limits: Limits, hasher: B) -> Self
+        requires { 0 < limits.top }
+        ensures { result ≡ new_state number limits.top limits.numbers }
+    {
         TermStore {
             alloc,
-            terms: InternSliceStorage::with_limits(alloc, number, limits),
+            terms: InternSliceStorage::with_hasher(alloc, number, limits, hasher),
         }
     }
 
@@ -260,7 +276,7 @@ impl TermStore {
 impl Term {
     /// A second owner of the term, which is counted once more.
     /// Refused: `Foreign`, `Gone`, `CountFull`.
-    pub fn clone(&self, store: &mut TermStore) -> Result<Term, Refusal>
+    pub fn clone<B: BuildHasher>(&self, store: &mut TermStore<B>) -> Result<Term, Refusal>
         ensures ok { IfOk result (λ t. owned_name t ≡ owned_name self.now) }
         ensures refused { Owes result (due store.old (owned_name self.now) (full store.old.top)) }
         ensures state { Becomes result store.old store.new
@@ -273,7 +289,7 @@ impl Term {
 
     /// Gives the term up, with its count. It stays until a collection.
     /// Refused, with the term back: `Foreign`, `Gone`, `CountZero`.
-    pub fn release(self, store: &mut TermStore) -> Result<(), Refused<Term>>
+    pub fn release<B: BuildHasher>(self, store: &mut TermStore<B>) -> Result<(), Refused<Term>>
         ensures refused { OwesBack result (due store.old (owned_name self) zero_count) self }
         ensures state { Becomes result store.old store.new
             (counted_down store.old (owned_name self).birth) }

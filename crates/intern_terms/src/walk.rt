@@ -13,6 +13,7 @@ use crate::found::Found;
 use crate::handle::TermRef;
 use crate::store::TermStore;
 use std::alloc::AllocError;
+use std::hash::BuildHasher;
 
 // A term whose arguments are looked at, and how many of them were found.
 #[derive(Clone, Copy)]
@@ -21,7 +22,7 @@ struct Open {
     found: usize,
 }
 
-impl TermStore {
+impl<B: BuildHasher> TermStore<B> {
     /// Each term of the trees of the listed terms, once, and after its arguments: the order in which
     /// terms can be evaluated, or copied. A listed term of another store, one that is gone, or one
     /// that is listed twice, adds nothing. Where there is no memory, `AllocError`.

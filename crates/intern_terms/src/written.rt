@@ -3,6 +3,7 @@ use crate::handle::TermRef;
 use crate::store::TermStore;
 use ra_ap_intern::SymbolTable;
 use std::alloc::AllocError;
+use std::hash::BuildHasher;
 
 // The arguments of a term that is being written, and how many of them were begun.
 #[derive(Drop)]
@@ -11,7 +12,7 @@ struct Arguments<'a> {
     begun: usize,
 }
 
-impl TermStore {
+impl<B: BuildHasher> TermStore<B> {
     /// A term as a text, such as `f(x, g(y))`, its heads as this table reads them. Where its tree
     /// has more than so many terms, shared ones counted wherever they stand, the text ends in `…`
     /// after that many.

@@ -5,6 +5,8 @@
 #[cfg(test)]
 mod calls;
 #[cfg(test)]
+mod keyed;
+#[cfg(test)]
 mod mixed;
 #[cfg(test)]
 mod readme;

@@ -9,7 +9,7 @@ use Rattle.intern_terms.proofs.Walks.{with_later, with_itself}
 use Rattle.intern_terms.proofs.store.TermStore.find_all.Goals as goal
 
 pub loop-top-smaller-in-Continue-branch-3 : goal.loop-top-smaller-in-Continue-branch-3
-loop-top-smaller-in-Continue-branch-3 c =
+loop-top-smaller-in-Continue-branch-3 g c =
     let s = c.args.self.now in
     let found = c.loop-top.found in
     let popped = c.in-Some.ensures.items in
@@ -25,7 +25,7 @@ loop-top-smaller-in-Continue-branch-3 c =
     c.in-Some-first_unfound.index c.in-Some-first_unfound.argument is.0 is.1 is.2))
 
 pub loop-top-preserved-in-Continue-branch-3 : goal.loop-top-preserved-in-Continue-branch-3
-loop-top-preserved-in-Continue-branch-3 c =
+loop-top-preserved-in-Continue-branch-3 g c =
     let s = c.args.self.now in
     let built = c.contains.ensures.state.built in
     let found = c.loop-top.found in
@@ -61,7 +61,7 @@ loop-top-preserved-in-Continue-branch-3 c =
     }
 
 pub loop-top-smaller : goal.loop-top-smaller
-loop-top-smaller c =
+loop-top-smaller g c =
     let s = c.args.self.now in
     let found = c.loop-top.found in
     let rest = c.pop.new.self.items in
@@ -75,7 +75,7 @@ loop-top-smaller c =
     c.in-None.ensures.none))
 
 pub loop-top-preserved : goal.loop-top-preserved
-loop-top-preserved c =
+loop-top-preserved g c =
     let s = c.args.self.now in
     let built = c.contains.ensures.state.built in
     let found = c.loop-top.found in

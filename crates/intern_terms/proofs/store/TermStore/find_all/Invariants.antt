@@ -8,7 +8,7 @@ use Rattle.intern_terms.proofs.store.TermStore.find_all.Given as goal
 
 -- what is open goes down from the root, and once nothing is, the root was found
 abbrev pub invariant-loop-top : goal.invariant-loop-top
-invariant-loop-top l = record {
+invariant-loop-top g l = record {
   stack : AreOpen l.self l.found l.self.next l.open.items;
   walk : (listed : List Name) → has listed (term_name l.fn.root) ≡ true
       → IsWalk listed l.self l.fn.found
@@ -19,4 +19,4 @@ invariant-loop-top l = record {
 }
 
 abbrev pub decreases-loop-top : goal.decreases-loop-top
-decreases-loop-top l = work l.self l.found l.open.items
+decreases-loop-top g l = work l.self l.found l.open.items

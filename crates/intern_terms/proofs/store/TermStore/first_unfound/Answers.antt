@@ -32,10 +32,10 @@ one_more found items from to d all here k a low high at = go (eq-or-lt_of_le mos
         subst (λ x. has found (term_name x) ≡ true) (get_or_from_slice_get items to a d there) here
 
 pub loop-index-init : goal.loop-index-init
-loop-index-init c = λ k a low high at. absurd (omega arith)
+loop-index-init g c = λ k a low high at. absurd (omega arith)
 
 pub loop-index-preserved : goal.loop-index-preserved
-loop-index-preserved c =
+loop-index-preserved g c =
     let same = items_read _ _ c.in_ok-args.ensures in
     let i = c.loop-index.index in
     let from = c.args.top.found in
@@ -45,7 +45,7 @@ loop-index-preserved c =
     (one_more c.args.found.now c.in_ok-args.args.now from i _ before here)
 
 pub returns-then-not-contains-clause-some : goal.returns-then-not-contains-clause-some
-returns-then-not-contains-clause-some c =
+returns-then-not-contains-clause-some g c =
     let same = items_read _ _ c.in_ok-args.ensures in
     let within : c.loop-index.index < length c.in_ok-args.args.now = omega arith in (
       ap (λ xs. slice_get xs c.loop-index.index) (sym same)
@@ -55,6 +55,6 @@ returns-then-not-contains-clause-some c =
     )
 
 pub returns-clause-none : goal.returns-clause-none
-returns-clause-none c = λ k a low high at.
+returns-clause-none g c = λ k a low high at.
     let size = ap length (items_read _ _ c.in_ok-args.ensures) in
     c.loop-index.invariant k a low (omega arith) at

@@ -4,5 +4,5 @@ use Rattle.intern_terms.proofs.store.TermStore.first_unfound.Given as goal
 
 -- the arguments up to this one were found
 abbrev pub invariant-loop-index : goal.invariant-loop-index
-invariant-loop-index l =
+invariant-loop-index g l =
     AreFound l.found (items_at l.self (term_name l.fn.top.term)) l.fn.top.found l.index

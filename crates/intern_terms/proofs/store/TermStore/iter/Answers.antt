@@ -6,6 +6,6 @@ use Rattle.intern_terms.specs.Store.{names_in}
 use Rattle.intern_terms.proofs.store.TermStore.iter.Goals as goal
 
 pub returns : goal.returns
-returns c =
+returns g c =
     subst (IsPermutation _) (map-map _ _ _ ∙ ap names_in c.self.view_is)
     (IsPermutation-map (λ e. e.0) _ _ c.iter.ensures)

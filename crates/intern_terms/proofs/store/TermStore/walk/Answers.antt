@@ -23,7 +23,7 @@ told reached found (Ok v) same is = subst reached (sym same) is
 told reached found (Err e) same is = tt
 
 pub loop-term-preserved : goal.loop-term-preserved
-loop-term-preserved c =
+loop-term-preserved g c =
     let s = c.args.self.now in
     let terms = c.args.terms.now in
     let i = c.loop-term.term-index in
@@ -44,7 +44,7 @@ loop-term-preserved c =
     }
 
 pub returns-clause-terms : goal.returns-clause-terms
-returns-clause-terms c =
+returns-clause-terms g c =
     let listed = map term_name c.args.terms.now in
     let s = c.args.self.now in
     told (IsReachedSet (begins_at listed s) (terms_of s)) c.loop-term.found c.to_vec.result
