@@ -42,7 +42,8 @@ impl<K: Kind<B>, B> Model for Storage<K, B> {
 
 /// The entries of a storage, and the room that is left for more: what [`Storage::reserve`] lends.
 ///
-/// While there is room, interning takes no memory, and so is refused for no want of it.
+/// While there is room, for slices also for their items, interning takes no memory, and so is refused
+/// for no want of it.
 #[derive(Drop)]
 pub struct Reserved<K: Kind<B>, B = FixedState> {
     pub(crate) store: Store<K::Table>,
@@ -124,7 +125,8 @@ impl<K: Kind<B>, B> Storage<K, B> {
     }
 
     /// Lends the storage with room for this many more entries: until the loan ends, the next so many
-    /// values that aren't stored yet are refused for no want of memory. Refused: `OutOfMemory`.
+    /// values that aren't stored yet are refused for no want of memory. Slices want room for their
+    /// items too (`reserve_items` of [`Reserved`]). Refused: `OutOfMemory`.
     ///
     /// The room stays when the loan ends. It takes what so many entries may need at most, whichever
     /// slots they use: more than interning them one by one does. Where the hash tables are built

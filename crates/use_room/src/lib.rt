@@ -2,11 +2,11 @@
 //! them, nothing has happened.
 #![tactic(auto)]
 
-ghost use Rattle.std.specs.Prelude.{◌≡◌, ◌<◌, true, IfOk, OnOk, IfErr};
+ghost use Rattle.std.specs.Prelude.{◌≡◌, ◌<◌, ◌⊎◌, true, Some, IfOk, OnOk, IfErr};
 ghost use Rattle.ra_ap_intern.specs.Handle.{ref_name};
 ghost use Rattle.ra_ap_intern.specs.Outcome.{Becomes, OwesBack, Spends};
 ghost use Rattle.ra_ap_intern.specs.Sliced.{sliced_eq};
-ghost use Rattle.ra_ap_intern.specs.Slices.{slice_in, slice_name_in};
+ghost use Rattle.ra_ap_intern.specs.Slices.{slice_in, slice_name_in, due_slice};
 ghost use Rattle.ra_ap_intern.specs.State.{interned, interned_name, due_interning, any_count};
 
 use ra_ap_intern::{
@@ -14,8 +14,8 @@ use ra_ap_intern::{
     Reserved, SliceInternable, Values,
 };
 
-/// References of two values, in collected mode. Refused: `NumbersUsedUp`, where the first may be
-/// stored already, and `OutOfMemory`, where neither is.
+/// References of two values, in collected mode. Refused: `NumbersUsedUp`, as one of them is, and where
+/// it is the second the first is stored; `OutOfMemory`, where nothing has happened.
 pub fn intern_two<T: Internable + Drop>(
     storage: &mut InternStorage<T>,
     first: T,
@@ -28,6 +28,10 @@ pub fn intern_two<T: Internable + Drop>(
     ensures state { OnOk result (storage.new
         ≡ (interned T.eq (interned T.eq storage.old first).state second).state) }
     ensures neither { IfErr result (λ why. why ≡ Refusal.OutOfMemory → storage.new ≡ storage.old) }
+    ensures refused { let after = (interned T.eq storage.old first).state in IfErr result (λ why.
+        (why ≡ Refusal.OutOfMemory)
+        ⊎ ((due_interning T.eq storage.old first any_count ≡ Some why) × (storage.new ≡ storage.old))
+        ⊎ ((due_interning T.eq after second any_count ≡ Some why) × (storage.new ≡ after))) }
 {
     let room = storage.reserve(2)?;
     let (first, _) = room.intern_gc(first)?;
@@ -74,6 +78,13 @@ where
         ≡ (slice_in eq (slice_in eq storage.old first.entry.0 first.entry.1.now).state
         second.entry.0 second.entry.1.now).state) }
     ensures neither { IfErr result (λ why. why ≡ Refusal.OutOfMemory → storage.new ≡ storage.old) }
+    ensures refused { let eq = sliced_eq T.Header.eq T.SliceType.eq in
+        let after = (slice_in eq storage.old first.entry.0 first.entry.1.now).state in
+        IfErr result (λ why. (why ≡ Refusal.OutOfMemory)
+        ⊎ ((due_slice eq storage.old first.entry.0 first.entry.1.now ≡ Some why)
+        × (storage.new ≡ storage.old))
+        ⊎ ((due_slice eq after second.entry.0 second.entry.1.now ≡ Some why)
+        × (storage.new ≡ after))) }
 {
     let Some(items) = first.1.len().checked_add(second.1.len()) else {
         return Err(Refusal::OutOfMemory);
