@@ -14,8 +14,8 @@ use ra_ap_intern::{
     Reserved, SliceInternable, Values,
 };
 
-/// References of two values, in collected mode. Refused: `NumbersUsedUp`, as one of them is, and where
-/// it is the second the first is stored; `OutOfMemory`, where nothing has happened.
+/// References of two values, in collected mode. Refused: `NumbersUsedUp`, as one of them is, and
+/// where it is the second the first is stored; `OutOfMemory`, where nothing has happened.
 pub fn intern_two<T: Internable + Drop>(
     storage: &mut InternStorage<T>,
     first: T,
@@ -30,7 +30,8 @@ pub fn intern_two<T: Internable + Drop>(
     ensures neither { IfErr result (λ why. why ≡ Refusal.OutOfMemory → storage.new ≡ storage.old) }
     ensures refused { let after = (interned T.eq storage.old first).state in IfErr result (λ why.
         (why ≡ Refusal.OutOfMemory)
-        ⊎ ((due_interning T.eq storage.old first any_count ≡ Some why) × (storage.new ≡ storage.old))
+        ⊎ ((due_interning T.eq storage.old first any_count ≡ Some why)
+        × (storage.new ≡ storage.old))
         ⊎ ((due_interning T.eq after second any_count ≡ Some why) × (storage.new ≡ after))) }
 {
     let room = storage.reserve(2)?;
@@ -39,8 +40,8 @@ pub fn intern_two<T: Internable + Drop>(
     Ok((first, second))
 }
 
-/// The reference of a value, in room that was made before: of that it takes one at most. Refused, with
-/// the value back: `NumbersUsedUp` where it isn't stored.
+/// The reference of a value, in room that was made before: of that it takes one at most. Refused,
+/// with the value back: `NumbersUsedUp` where it isn't stored.
 pub fn intern_next<T: Internable + Drop>(
     room: &mut Reserved<Values<T>>,
     value: T,
