@@ -1,4 +1,5 @@
 pub mod Environments
+pub mod Occurring
 pub mod Pairs
 pub mod Trees
 pub mod Underway

@@ -39,11 +39,11 @@ among_none a c h = absurd (omega (arith, h.1.1))
 
 -- ---- functions and pairs, by their parts
 
-abbrev make : Bool → Tree → Tree → Tree
+abbrev pub make : Bool → Tree → Tree → Tree
 make true t u = functions t u
 make false t u = pairs t u
 
-abbrev size : Tree → ℕ
+abbrev pub size : Tree → ℕ
 size integers = 1
 size booleans = 1
 size (unknowns number) = 1
@@ -51,11 +51,11 @@ size (anything number) = 1
 size (functions t u) = suc (size t + size u)
 size (pairs t u) = suc (size t + size u)
 
-first_less : (kind : Bool) (t u : Tree) → size t < size (make kind t u)
+pub first_less : (kind : Bool) (t u : Tree) → size t < size (make kind t u)
 first_less true t u = omega arith
 first_less false t u = omega arith
 
-second_less : (kind : Bool) (t u : Tree) → size u < size (make kind t u)
+pub second_less : (kind : Bool) (t u : Tree) → size u < size (make kind t u)
 second_less true t u = omega arith
 second_less false t u = omega arith
 
@@ -69,12 +69,12 @@ module _ (s : State TypeNode) (v : ℕ → Tree) where
   into true n a b at t u g h = (functions g.0 h.0, (a, b, at, g.1, h.1), λ i. functions (g.2 i) (h.2 i))
   into false n a b at t u g h = (pairs g.0 h.0, (a, b, at, g.1, h.1), λ i. pairs (g.2 i) (h.2 i))
 
-  record Out (kind : Bool) (a b : Name) (x : Tree) : Type 0 where
-    first : Tree
-    second : Tree
-    is : x ≡ make kind first second
-    first_is : StandsFor s v a first
-    second_is : StandsFor s v b second
+  pub record Out (kind : Bool) (a b : Name) (x : Tree) : Type 0 where
+    pub first : Tree
+    pub second : Tree
+    pub is : x ≡ make kind first second
+    pub first_is : StandsFor s v a first
+    pub second_is : StandsFor s v b second
 
   module _ (a b : Name) (x : Tree) where
     from_parts : (kind : Bool) (m n : Name) (y z : Tree) → m ≡ a → n ≡ b → UnfoldsTo s m y → UnfoldsTo s n z
@@ -102,7 +102,7 @@ module _ (s : State TypeNode) (v : ℕ → Tree) where
     out_of n false (functions y z) at u e = let here = u.2 in absurd (cc)
     out_of n false (pairs y z) at u e = let here = u.2 in from_parts false u.0 u.1 y z (cc) (cc) u.3 u.4 e
 
-  out : (kind : Bool) (n a b : Name) → shape_at s n ≡ Some (two kind a b) → (x : Tree) → StandsFor s v n x
+  pub out : (kind : Bool) (n a b : Name) → shape_at s n ≡ Some (two kind a b) → (x : Tree) → StandsFor s v n x
       → Out kind a b x
   out kind n a b at x h = out_of a b x n kind h.0 at h.1 h.2
 

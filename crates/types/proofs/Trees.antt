@@ -1,6 +1,7 @@
 -- Handles and their trees.
-use Rattle.std.proofs.Common.{◌≡◌, ◌↔◌, Bool, true, List, [], ◌∷◌, Option, Some, IsSome, refl, sym, ap, subst, ◌∙◌}
+use Rattle.std.proofs.Common.{◌≡◌, ◌≢◌, ◌↔◌, ℕ, Bool, true, false, List, [], ◌∷◌, Option, Some, IsSome, refl, sym, ap, subst, ◌∙◌}
 use Rattle.std.specs.Option.{option_map}
+use Rattle.std.proofs.Math.Bool.{beq, not}
 use Rattle.std.proofs.lemmas.Bool.{or_left, or_right}
 use Rattle.ra_ap_intern.specs.Families.{kept_named}
 use Rattle.ra_ap_intern.specs.Names.{has}
@@ -10,6 +11,7 @@ use Rattle.ra_ap_intern.specs.State.{State, IsState, reads}
 use Rattle.types.specs.Making.{ReadsOn}
 use Rattle.types.specs.Tree.{Tree, integers, booleans, unknowns, anything, functions, pairs, UnfoldsTo}
 use Rattle.types.specs.Types.{Shape, shape, shape_at, function, pair, parts_in, types_of}
+use Rattle.types.specs.Unifying.{replaced, AreOne, HaveParts, IsNoUnknown, two}
 use Rattle.types.specs.declared.value.TypeNode.{TypeNode}
 use Rattle.ra_ap_intern.proofs.CallerLemmas.{kept_reads, same_names, names_tell_views, view_stays, seen_read, part_kept}
 
@@ -89,6 +91,43 @@ module _ (s : State TypeNode) where
         → (n ≡ m) ↔ (t ≡ u)
     names_tell_trees t u n m a b =
         (λ is. one_tree t u n m is a b, λ is. one_name u n m (subst (UnfoldsTo s n) is a) b)
+
+    -- two known types that aren't of one kind with parts are no one tree
+    module _ (v : ℕ → Tree) (n m : Name) (other : n ≢ m) (first : IsNoUnknown s n) (second : IsNoUnknown s m)
+        (none : (a b c d : Name) → HaveParts s n m a b c d → ⊥) where
+      no_tree : (t u : Tree) → UnfoldsTo s n t → UnfoldsTo s m u → replaced v t ≡ replaced v u → ⊥
+      no_tree (unknowns x) u a b is = first x a
+      no_tree t (unknowns y) a b is = second y b
+      no_tree integers integers a b is = other (same_name _ n m a b)
+      no_tree booleans booleans a b is = other (same_name _ n m a b)
+      no_tree (anything x) (anything y) a b is =
+          other (same_name _ n m a (subst (λ t. UnfoldsTo s m t) (sym is) b))
+      no_tree (functions t u) (functions x y) a b is = none a.0 a.1 b.0 b.1 (true, a.2, b.2)
+      no_tree (pairs t u) (pairs x y) a b is = none a.0 a.1 b.0 b.1 (false, a.2, b.2)
+      no_tree t u a b is = absurd (cc)
+
+      pub apart : AreOne s v n m → ⊥
+      apart one = no_tree one.1.0 one.2.0 one.1.1 one.2.1 (sym one.1.2 ∙ one.2.2)
+
+one_kind : (k l : Bool) (a b x y : Name) → Some (two k a b) ≡ Some (two l x y) → k ≡ l
+one_kind true true a b x y is = refl
+one_kind true false a b x y is = absurd (cc)
+one_kind false true a b x y is = absurd (cc)
+one_kind false false a b x y is = refl
+
+two_kinds : (k l : Bool) → not (beq k l) ≡ true → k ≡ l → ⊥
+two_kinds true true differ is = absurd (cc)
+two_kinds true false differ is = absurd (cc)
+two_kinds false true differ is = absurd (cc)
+two_kinds false false differ is = absurd (cc)
+
+-- types of two kinds have no parts that are of one
+pub no_parts : (s : State TypeNode) (n m : Name) (k l : Bool) (a b x y : Name) → not (beq k l) ≡ true
+    → shape_at s n ≡ Some (two k a b) → shape_at s m ≡ Some (two l x y)
+    → (p q r o : Name) → HaveParts s n m p q r o → ⊥
+no_parts s n m k l a b x y differ first second p q r o parts =
+    two_kinds k l differ
+    (one_kind k parts.0 a b p q (sym first ∙ parts.1) ∙ sym (one_kind l parts.0 x y r o (sym second ∙ parts.2)))
 
 -- a tree stays where reads do
 module _ (s t : State TypeNode) (on : ReadsOn s t) where

@@ -10,7 +10,7 @@ use Rattle.ra_ap_intern.specs.Handle.{ref_name}
 use Rattle.ra_ap_intern.specs.Name.{Name}
 use Rattle.ra_ap_intern.specs.State.{State}
 use Rattle.types.specs.Tree.{Tree}
-use Rattle.types.specs.Unifying.{Solves, AreOne, Agree, Unifies, HaveParts}
+use Rattle.types.specs.Unifying.{Solves, AreOne, Agree, HaveNoUnifier, Unifies, HaveParts}
 use Rattle.types.specs.declared.unknowns.Unknowns.{Unknowns}
 use Rattle.types.specs.declared.value.TypeNode.{TypeNode}
 use Rattle.types.proofs.Pairs.{Handle, Both, Among, among_left, among_last, among_cases, among_none, parts_are_one, Linked, Covered, Justified, IsHeld, all_agree}
@@ -80,6 +80,17 @@ module _ (st : State TypeNode) (old : Unknowns) (left right : Name) where
       (second : (v : ℕ → Tree) → Solves st u v → Agree st v (ref_name p.1) s) where
     is : Underway u (rest ++ p ∷ []) met
     is = subst (λ xs. Underway u xs met) last before
+
+    -- where nothing makes the last pair one tree, nothing makes the two
+    pub stuck : HaveNoUnifier st u f s → HaveNoUnifier st old left right
+    stuck none v solves one =
+        let before = is.general v solves one in
+        let popped = before.1 (ref_name p.0) (ref_name p.1) (among_last rest p) in
+        none v before.0 (
+          popped.0,
+          (first v before.0 popped.0).0 popped.1,
+          (second v before.0 popped.0).0 popped.2,
+        )
 
     -- the last pair gives way to others
     step : (w : Unknowns) (next now : List Both)

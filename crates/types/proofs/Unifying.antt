@@ -1,6 +1,8 @@
 -- What unknown types may be, and what is one then.
-use Rattle.std.proofs.Common.{◌≡◌, ◌↔◌, ℕ, suc, List, [], ◌∷◌, Some, slice_get, slice_set, zero, refl, sym, ap, subst, ◌∙◌, rules}
+use Rattle.std.proofs.Common.{◌≡◌, ◌↔◌, Result, Ok, Err, IfErr, ℕ, suc, List, [], ◌∷◌, Some, slice_get, slice_set, zero, refl, sym, ap, subst, ◌∙◌, rules}
 use Rattle.std.specs.Option.{option_map}
+use Rattle.std.specs.Result.{IsErrAnd}
+use Rattle.std.specs.declared.alloc.AllocError.{AllocError}
 use Rattle.ra_ap_intern.specs.Handle.{ref_name}
 use Rattle.ra_ap_intern.specs.Name.{Name}
 use Rattle.ra_ap_intern.specs.State.{State, reads}
@@ -8,13 +10,15 @@ use Rattle.ra_ap_intern.specs.declared.kind.Values.{Values}
 use Rattle.ra_ap_intern.specs.declared.storage.Ref.{Ref}
 use Rattle.types.specs.Tree.{Tree, unknowns}
 use Rattle.types.specs.Types.{unknown, shape, shape_at}
-use Rattle.types.specs.Unifying.{replaced, IsOpen, StandsFor, Solves, Agree, Unifies, Binds}
+use Rattle.types.specs.Unifying.{replaced, IsOpen, StandsFor, Solves, Agree, HaveNoUnifier, IsConflict, IsNever, IsNoUnknown, Unifies, Binds}
+use Rattle.types.specs.declared.error.TypeError.{TypeError}
+use Rattle.types.specs.declared.error.TypeError.TheVariants as error
 use Rattle.types.specs.declared.unknowns.Known.{Known}
 use Rattle.types.specs.declared.unknowns.Known.TheVariants as known
 use Rattle.types.specs.declared.unknowns.Unknowns.{Unknowns}
 use Rattle.types.specs.declared.value.TypeNode.{TypeNode}
 use Rattle.types.specs.declared.value.TypeNode.TheVariants as node
-use Rattle.types.specs.declared.value.TypeNode.TheVariants.{outs-Unknown}
+use Rattle.types.specs.declared.value.TypeNode.TheVariants.{Integer, Boolean, Unknown, Any, Function', Pair', outs-Integer, outs-Boolean, outs-Unknown, outs-Any, outs-Function', outs-Pair'}
 use Rattle.types.proofs.Trees.{one_tree}
 
 unknown_shape : (number : ℕ) → shape (node.Unknown number) ≡ unknown number
@@ -24,6 +28,21 @@ unknown_shape number = search (rules, outs-Unknown)
 pub unknown_at : (s : State TypeNode) (n : Name) (number : ℕ) → reads s n ≡ Some (node.Unknown number)
     → shape_at s n ≡ Some (unknown number)
 unknown_at s n number read = ap (option_map shape) read ∙ ap Some (unknown_shape number)
+
+-- a type that isn't unknown has no unknown type's shape
+no_unknown : (t : TypeNode) → ((x : ℕ) → t ≡ node.Unknown x → ⊥) → (number : ℕ) → shape t ≡ unknown number → ⊥
+no_unknown Integer other number is = search (rules, outs-Integer)
+no_unknown Boolean other number is = search (rules, outs-Boolean)
+no_unknown (Unknown x) other number is = other x refl
+no_unknown (Any x) other number is = search (rules, outs-Any)
+no_unknown (Function' p q r s) other number is = search (rules, outs-Function')
+no_unknown (Pair' p q r s) other number is = search (rules, outs-Pair')
+
+pub no_unknown_at : (s : State TypeNode) (n : Name) (t : TypeNode) → reads s n ≡ Some t
+    → ((x : ℕ) → t ≡ node.Unknown x → ⊥) → IsNoUnknown s n
+no_unknown_at s n t read other number is =
+    let same = sym (ap (option_map shape) read) ∙ is in
+    no_unknown t other number (cc)
 
 module _ (s : State TypeNode) (v : ℕ → Tree) where
   stands_once : (n : Name) (t u : Tree) → StandsFor s v n t → StandsFor s v n u → t ≡ u
@@ -98,3 +117,25 @@ module _ (s : State TypeNode) (old new : Unknowns) (number : ℕ) (n m : Name)
     solved = binds_first.solved;
     equal = λ v solves. agree_back s v n m (binds_first.equal v solves);
   }
+
+-- an unknown type is never another
+module _ (s : State TypeNode) (old : Unknowns) (number : ℕ) (n m : Name)
+    (at : shape_at s n ≡ Some (unknown number)) (never : IsNever s old number m) where
+  pub never_first : HaveNoUnifier s old n m
+  never_first v solves one =
+      never v solves (subst (StandsFor s v m) (unknown_is s v n number at one.0 one.1) one.2)
+
+  pub never_second : HaveNoUnifier s old m n
+  never_second v solves one = never_first v solves (one.0, one.2, one.1)
+
+-- want of memory says nothing of types
+pub wants_memory : {A : Type 0} (r : Result A TypeError) (P : TypeError → Type 0)
+    → IsErrAnd r (λ why. (e : AllocError) × (why ≡ error.OutOfMemory e)) → IfErr r (λ e. IsConflict e → P e)
+wants_memory (Ok a) P is = absurd is
+wants_memory (Err why) P is = λ conflict. absurd (subst IsConflict is.1 conflict)
+
+-- an error that is passed on says what it said
+pub same_error : {A : Type 0} (r : Result A TypeError) (why : TypeError) (P : TypeError → Type 0)
+    → IsErrAnd r (λ e. e ≡ why) → P why → IfErr r P
+same_error (Ok a) why P is here = absurd is
+same_error (Err e) why P is here = subst P (sym is) here

@@ -1,12 +1,14 @@
 -- What unification comes to.
-use Rattle.std.specs.Prelude.{◌≡◌, ◌↔◌, ℕ, Bool, true, false, Some, slice_get}
+use Rattle.std.specs.Prelude.{◌≡◌, ◌≢◌, ◌↔◌, ⊤, ℕ, Bool, true, false, Some, slice_get}
 use Rattle.ra_ap_intern.specs.Handle.{ref_name}
 use Rattle.ra_ap_intern.specs.Name.{Name}
 use Rattle.ra_ap_intern.specs.State.{State}
 use Rattle.ra_ap_intern.specs.declared.kind.Values.{Values}
 use Rattle.ra_ap_intern.specs.declared.storage.Ref.{Ref}
 use Rattle.types.specs.Tree.{Tree, integers, booleans, unknowns, anything, functions, pairs, UnfoldsTo}
-use Rattle.types.specs.Types.{Shape, function, pair, shape_at}
+use Rattle.types.specs.Types.{Shape, unknown, function, pair, shape_at}
+use Rattle.types.specs.declared.error.TypeError.{TypeError}
+use Rattle.types.specs.declared.error.TypeError.TheVariants as error
 use Rattle.types.specs.declared.unknowns.Known.TheVariants as known
 use Rattle.types.specs.declared.unknowns.Unknowns.{Unknowns}
 use Rattle.types.specs.declared.value.TypeNode.{TypeNode}
@@ -33,6 +35,18 @@ module _ (s : State TypeNode) where
   -- two types are one tree then
   abbrev pub AreOne : (ℕ → Tree) → Name → Name → Type 0
   AreOne v n m = (tree : Tree) × StandsFor v n tree × StandsFor v m tree
+
+  -- they are one tree by no types in the place of unknown ones
+  abbrev pub AreApart : Name → Name → Type 0
+  AreApart n m = (v : ℕ → Tree) → AreOne v n m → ⊥
+
+  -- they are one tree by no solution
+  abbrev pub HaveNoUnifier : Unknowns → Name → Name → Type 0
+  HaveNoUnifier u n m = (v : ℕ → Tree) → Solves u v → AreOne v n m → ⊥
+
+  -- an unknown type is this one by no solution
+  abbrev pub IsNever : Unknowns → ℕ → Name → Type 0
+  IsNever u number n = (v : ℕ → Tree) → Solves u v → StandsFor v n (v number) → ⊥
 
   -- the one is each tree that the other is
   abbrev pub Agree : (ℕ → Tree) → Name → Name → Type 0
@@ -61,3 +75,17 @@ two false first second = pair first second
 abbrev pub HaveParts : State TypeNode → (n m a b c d : Name) → Type 0
 HaveParts s n m a b c d =
     (kind : Bool) × (shape_at s n ≡ Some (two kind a b)) × (shape_at s m ≡ Some (two kind c d))
+
+-- a name that reads no unknown type
+abbrev pub IsNoUnknown : State TypeNode → Name → Type 0
+IsNoUnknown s n = (number : ℕ) → shape_at s n ≢ Some (unknown number)
+
+-- an error that says of two types that nothing makes them equal
+abbrev pub IsConflict : TypeError → Type 0
+IsConflict (error.Unbound name) = ⊥
+IsConflict (error.Clash first second) = ⊤
+IsConflict (error.Infinite first second) = ⊤
+IsConflict error.TooLarge = ⊥
+IsConflict error.NoOperand = ⊥
+IsConflict (error.OutOfMemory why) = ⊥
+IsConflict (error.Refused why) = ⊥

@@ -1,8 +1,12 @@
 //! Why a declaration has no type.
+ghost use Rattle.std.specs.Prelude.{◌≡◌};
+ghost use Rattle.std.specs.declared.alloc.AllocError.{AllocError as NoMemory};
+ghost use Rattle.types.specs.declared.error.TypeError.TheVariants.{OutOfMemory as out_of_memory};
+
 use crate::token::Place;
 use crate::value::TypeRef;
 use ra_ap_intern::{Refusal, SymbolRef};
-use std::alloc::AllocError;
+use std::alloc::{AllocError, AllocFailed};
 use thiserror::Error;
 
 /// Why a declaration has no type.
@@ -25,7 +29,7 @@ pub enum TypeError {
     NoOperand,
     /// When there was no memory beside the store of types.
     #[error("out of memory")]
-    OutOfMemory(#[from(alloc)] AllocError),
+    OutOfMemory(AllocError),
     /// When the store of types refused one.
     #[error("out of memory")]
     Refused(#[from] Refusal),
@@ -36,4 +40,20 @@ pub enum TypeError {
 pub struct Failure {
     pub place: Place,
     pub error: TypeError,
+}
+
+impl From<AllocError> for TypeError {
+    ghost from_gives = { λ error why. why ≡ out_of_memory error };
+
+    fn from(error: AllocError) -> TypeError {
+        TypeError::OutOfMemory(error)
+    }
+}
+
+impl<Lost: Drop> From<AllocFailed<Lost>> for TypeError {
+    ghost from_gives = { λ _ why. (error : NoMemory) × (why ≡ out_of_memory error) };
+
+    fn from(failed: AllocFailed<Lost>) -> TypeError {
+        TypeError::from(AllocError::from(failed))
+    }
 }

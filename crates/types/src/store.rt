@@ -6,7 +6,7 @@ ghost use Rattle.ra_ap_intern.specs.Handle.{ref_name};
 ghost use Rattle.ra_ap_intern.specs.Name.{Name as TypeName};
 ghost use Rattle.ra_ap_intern.specs.Names.{has};
 ghost use Rattle.ra_ap_intern.specs.Reach.{Reached, starts_with};
-ghost use Rattle.ra_ap_intern.specs.State.{new_state, reads};
+ghost use Rattle.ra_ap_intern.specs.State.{IsState, new_state, reads};
 ghost use Rattle.types.specs.Making.{Makes};
 ghost use Rattle.types.specs.Types.{types_of};
 ghost use Rattle.types.specs.declared.value.TypeNode.TheVariants.{Function as function_node, Pair as pair_node};
@@ -47,6 +47,14 @@ impl Types {
             alloc,
             types: InternStorage::new(alloc, number),
         }
+    }
+
+    /// The store's number. No two of its types are equal.
+    pub fn number(&self) -> u64
+        ensures number { result ≡ self.now.number }
+        ensures state { IsState ⟦<TypeNode as PartialEq>⟧.eq self.now }
+    {
+        self.types.number()
     }
 
     /// The functions from a type to another.

@@ -1,10 +1,13 @@
 //! Unification: what makes two types equal.
-ghost use Rattle.std.specs.Prelude.{◌≡◌, IfOk, IfSome, OnOk};
+ghost use Rattle.std.specs.Prelude.{◌≡◌, ◌≢◌, ℕ, Bool, Some, IfErr, IfNone, IfOk, IfSome, OnOk};
 ghost use Rattle.std.specs.Bool.{OnFalse, OnTrue};
 ghost use Rattle.ra_ap_intern.specs.Handle.{ref_name};
-ghost use Rattle.types.specs.Unifying.{Binds, HaveParts, Unifies};
+ghost use Rattle.ra_ap_intern.specs.Name.{Name as TypeName};
+ghost use Rattle.types.specs.Types.{shape_at, unknown as unknown_shape};
+ghost use Rattle.types.specs.Unifying.{AreApart, Binds, HaveNoUnifier, HaveParts, IsConflict, IsNever, IsNoUnknown, Unifies, two};
 
 use crate::error::TypeError;
+use crate::laws::types_are_their_shapes;
 use crate::store::Types;
 use crate::unknowns::Unknowns;
 use crate::value::{TypeNode, TypeRef};
@@ -15,8 +18,8 @@ use std::collections::HashSet;
 /// How many steps one type may take.
 pub const MOST_STEPS: u64 = 10_000_000;
 
-/// Makes two types equal by what it makes of the unknown types in them, and of nothing more. Pairs
-/// that were met are not looked into again.
+/// Makes two types equal by what it makes of the unknown types in them, and of nothing more. `Clash`
+/// and `Infinite` where nothing makes them equal. Pairs that were met are not looked into again.
 pub fn unify(
     alloc: Global,
     types: &Types,
@@ -24,8 +27,10 @@ pub fn unify(
     left: TypeRef,
     right: TypeRef,
 ) -> Result<(), TypeError>
-    ensures { OnOk result (Unifies types.now unknowns.old unknowns.new
+    ensures unifies { OnOk result (Unifies types.now unknowns.old unknowns.new
         (ref_name left) (ref_name right)) }
+    ensures refused { IfErr result (λ e. IsConflict e →
+        HaveNoUnifier types.now unknowns.old (ref_name left) (ref_name right)) }
 {
     laws::references_are_names::<TypeNode>();
     let mut open = Vec::new(alloc);
@@ -52,18 +57,55 @@ pub fn unify(
     Err(TypeError::TooLarge)
 }
 
-// The parts of two types of one kind.
+// The parts of two types of one kind. Others are no one type, where both are known.
 fn parts(
     types: &Types,
     first: TypeRef,
     second: TypeRef,
 ) -> Option<((TypeRef, TypeRef), (TypeRef, TypeRef))>
-    ensures { IfSome result (λ r. HaveParts types.now (ref_name first) (ref_name second)
+    ensures parts { IfSome result (λ r. HaveParts types.now (ref_name first) (ref_name second)
         (ref_name r.0.0) (ref_name r.0.1) (ref_name r.1.0) (ref_name r.1.1)) }
+    ensures none { IfNone result (ref_name first ≢ ref_name second →
+        IsNoUnknown types.now (ref_name first) → IsNoUnknown types.now (ref_name second) →
+        AreApart types.now (ref_name first) (ref_name second)) }
 {
-    match (types.get(first)?, types.get(second)?) {
-        (TypeNode::Function(a, b), TypeNode::Function(c, d))
-        | (TypeNode::Pair(a, b), TypeNode::Pair(c, d)) => Some(((a, b), (c, d))),
+    // What these say is used here: that no two types are equal, and what types are.
+    types_are_their_shapes();
+    let _number = types.number();
+    let Some((kind, a, b)) = parts_of(types, first) else {
+        return None;
+    };
+    let Some((other, c, d)) = parts_of(types, second) else {
+        return None;
+    };
+    if kind != other {
+        return None;
+    }
+    Some(((a, b), (c, d)))
+}
+
+// Whether a type is a function, and its parts. None where it is neither a function nor a pair.
+fn parts_of(types: &Types, handle: TypeRef) -> Option<(bool, TypeRef, TypeRef)>
+    ensures parts { IfSome result (λ r. shape_at types.now (ref_name handle)
+        ≡ Some (two r.0 (ref_name r.1) (ref_name r.2))) }
+    ensures none { IfNone result ((kind : Bool) (a b : TypeName) →
+        shape_at types.now (ref_name handle) ≢ Some (two kind a b)) }
+{
+    match types.get(handle)? {
+        TypeNode::Function(from, to) => Some((true, from, to)),
+        TypeNode::Pair(first, second) => Some((false, first, second)),
+        _ => None,
+    }
+}
+
+// The number of an unknown type.
+fn number_of(types: &Types, handle: TypeRef) -> Option<u64>
+    ensures number { IfSome result (λ number.
+        shape_at types.now (ref_name handle) ≡ Some (unknown_shape number)) }
+    ensures none { IfNone result (IsNoUnknown types.now (ref_name handle)) }
+{
+    match types.get(handle)? {
+        TypeNode::Unknown(number) => Some(number),
         _ => None,
     }
 }
@@ -76,23 +118,28 @@ fn bind_one(
     first: TypeRef,
     second: TypeRef,
 ) -> Result<bool, TypeError>
+    requires { ref_name first ≢ ref_name second }
     ensures bound { IfOk result (λ bound. OnTrue bound
         (Unifies types.now unknowns.old unknowns.new (ref_name first) (ref_name second))) }
     ensures same { IfOk result (λ bound. OnFalse bound (unknowns.new ≡ unknowns.old)) }
+    ensures none { IfOk result (λ bound. OnFalse bound (IsNoUnknown types.now (ref_name first)
+        × IsNoUnknown types.now (ref_name second))) }
+    ensures refused { IfErr result (λ e. IsConflict e →
+        HaveNoUnifier types.now unknowns.old (ref_name first) (ref_name second)) }
 {
-    if let Some(TypeNode::Unknown(number)) = types.get(first) {
+    if let Some(number) = number_of(types, first) {
         bind(alloc, types, unknowns, (number, first), second)?;
         return Ok(true);
     }
-    if let Some(TypeNode::Unknown(number)) = types.get(second) {
+    if let Some(number) = number_of(types, second) {
         bind(alloc, types, unknowns, (number, second), first)?;
         return Ok(true);
     }
     Ok(false)
 }
 
-// An unknown type, which has a number, becomes a type that it is no part of, whose unknown types
-// then belong to its level.
+// An unknown type, which has a number, becomes another type that it is no part of, whose unknown
+// types then belong to its level.
 fn bind(
     alloc: Global,
     types: &Types,
@@ -100,8 +147,14 @@ fn bind(
     unknown: (u64, TypeRef),
     handle: TypeRef,
 ) -> Result<(), TypeError>
-    ensures { OnOk result (Binds types.now unknowns.old unknowns.new unknown.0 (ref_name handle)) }
+    requires unknown { shape_at types.now (ref_name unknown.1) ≡ Some (unknown_shape unknown.0) }
+    requires other { ref_name unknown.1 ≢ ref_name handle }
+    ensures binds { OnOk result (Binds types.now unknowns.old unknowns.new unknown.0
+        (ref_name handle)) }
+    ensures refused { IfErr result (λ e. IsConflict e →
+        IsNever types.now unknowns.old unknown.0 (ref_name handle)) }
 {
+    laws::references_are_names::<TypeNode>();
     let (number, unknown) = unknown;
     // Resolved types are never known ones, so there is a level.
     let Some(level) = unknowns.level(number) else {
@@ -115,21 +168,21 @@ fn bind(
             unknowns.bind(number, handle);
             return Ok(());
         };
-        let part = unknowns.resolve(types, part);
         if part == unknown {
             return Err(TypeError::Infinite(unknown, handle));
         }
-        let node = types.get(part);
-        if let Some(TypeNode::Unknown(other)) = node {
+        if let Some(other) = number_of(types, part) {
             unknowns.lower(other, level);
             continue;
         }
-        if let Some(TypeNode::Function(first, second) | TypeNode::Pair(first, second)) = node {
-            if met.insert(part)? {
-                open.push(second)?;
-                open.push(first)?;
-            }
+        let Some((_, first, second)) = parts_of(types, part) else {
+            continue;
+        };
+        if !met.insert(part)? {
+            continue;
         }
+        open.push(unknowns.resolve(types, second))?;
+        open.push(unknowns.resolve(types, first))?;
     }
     Err(TypeError::TooLarge)
 }

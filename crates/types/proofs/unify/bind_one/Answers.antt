@@ -1,22 +1,25 @@
-use Rattle.std.proofs.Common.{◌∙◌, Some, sym, ap}
 use Rattle.ra_ap_intern.specs.Handle.{ref_name}
-use Rattle.types.proofs.Unifying.{binds_first, binds_second, unknown_at}
+use Rattle.types.proofs.Unifying.{binds_first, binds_second, never_first, never_second, same_error}
 use Rattle.types.proofs.unify.bind_one.Goals as goal
 
-pub returns-in-Some-Unknown-clause-bound : goal.returns-in-Some-Unknown-clause-bound
-returns-in-Some-Unknown-clause-bound c =
-    let s = c.args.types.now in
-    let first = ref_name c.args.first in
-    let number = c.in-Some-Unknown.number in
-    let read = sym c.get.ensures ∙ c.in-Some-Unknown.is ∙ ap Some c.in-Some-Unknown.field-0-is in
-    binds_first s c.args.unknowns.now c.bind.new.unknowns number first (ref_name c.args.second)
-    (unknown_at s first number read) c.in_ok-bind.ensures
+pub returns-in-Some-clause-bound : goal.returns-in-Some-clause-bound
+returns-in-Some-clause-bound c =
+    binds_first c.args.types.now c.args.unknowns.now c.bind.new.unknowns c.in-Some.number (ref_name c.args.first)
+    (ref_name c.args.second) c.in-Some.ensures.number c.in_ok-bind.ensures.binds
 
-pub returns-in-Some-Unknown-get-clause-bound : goal.returns-in-Some-Unknown-get-clause-bound
-returns-in-Some-Unknown-get-clause-bound c =
-    let s = c.args.types.now in
-    let second = ref_name c.args.second in
-    let number = c.in-Some-Unknown-get.number in
-    let read = sym c.get-2.ensures ∙ c.in-Some-Unknown-get.is ∙ ap Some c.in-Some-Unknown-get.field-0-is in
-    binds_second s c.args.unknowns.now c.bind-in-Some-Unknown-get.new.unknowns number second
-    (ref_name c.args.first) (unknown_at s second number read) c.in_ok-bind-2.ensures
+pub returns-in_err-bind-clause-refused : goal.returns-in_err-bind-clause-refused
+returns-in_err-bind-clause-refused c =
+    same_error _ _ _ c.from_residual.ensures.1 (λ conflict. never_first c.args.types.now c.args.unknowns.now
+    c.in-Some.number (ref_name c.args.first) (ref_name c.args.second) c.in-Some.ensures.number
+    (c.in_err-bind.ensures.refused conflict))
+
+pub returns-in-Some-number_of-clause-bound : goal.returns-in-Some-number_of-clause-bound
+returns-in-Some-number_of-clause-bound c =
+    binds_second c.args.types.now c.args.unknowns.now c.bind-in-Some-number_of.new.unknowns c.in-Some-number_of.number
+    (ref_name c.args.second) (ref_name c.args.first) c.in-Some-number_of.ensures.number c.in_ok-bind-2.ensures.binds
+
+pub returns-in_err-bind-2-clause-refused : goal.returns-in_err-bind-2-clause-refused
+returns-in_err-bind-2-clause-refused c =
+    same_error _ _ _ c.from_residual-in_err-bind-2.ensures.1 (λ conflict. never_second c.args.types.now
+    c.args.unknowns.now c.in-Some-number_of.number (ref_name c.args.second) (ref_name c.args.first)
+    c.in-Some-number_of.ensures.number (c.in_err-bind-2.ensures.refused conflict))

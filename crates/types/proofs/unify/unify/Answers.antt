@@ -1,9 +1,10 @@
 use Rattle.std.proofs.Common.{◌≡◌, ◌∙◌, ◌∷◌, ◌++◌, [], refl, sym, ap, subst, rules}
 use Rattle.std.specs.Bool.{OnFalse, OnTrue}
 use Rattle.ra_ap_intern.specs.Handle.{ref_name}
-use Rattle.types.specs.Unifying.{Unifies}
+use Rattle.types.specs.Unifying.{IsNoUnknown, Unifies}
+use Rattle.types.proofs.Unifying.{same_error}
 use Rattle.types.proofs.Pairs.{Both}
-use Rattle.types.proofs.Underway.{Underway, begun, finished, passed_equal, passed_met, bound, parted, met_also, met_before, found_if}
+use Rattle.types.proofs.Underway.{Underway, begun, finished, passed_equal, passed_met, bound, parted, met_also, met_before, found_if, stuck}
 use Rattle.types.proofs.unify.unify.Goals as goal
 use Rattle.types.proofs.unify.unify.Goals.{then-eq-via-then-eq, then-eq-via-else-eq+in_ok-insert+then-not-branch}
 
@@ -15,8 +16,8 @@ loop-init c =
     (subst (λ xs. Here xs []) (sym (c.in_ok-push.ensures.items ∙ ap (λ xs. xs ++ p ∷ []) c.new-open.ensures.items))
     (begun c.args.types.now c.args.unknowns.now (ref_name c.args.left) (ref_name c.args.right) p refl refl))
 
-pub returns-in_default : goal.returns-in_default
-returns-in_default c =
+pub returns-in_default-clause-unifies : goal.returns-in_default-clause-unifies
+returns-in_default-clause-unifies c =
     let left = ref_name c.args.left in
     let right = ref_name c.args.right in
     let none : c.loop.open.items ≡ [] = search rules in
@@ -68,4 +69,23 @@ loop-preserved c =
     (parted _ _ _ _ _ _ _ _ _ c.in-Some.ensures.items c.loop.invariant _ _ c.resolve-first.ensures c.resolve-second.ensures
     now
     (met_also _ _ (c.resolve-first.result, c.resolve-second.result) _ c.if-not-branch.false c.in_ok-insert.ensures.keys)
-    seconds firsts c.in-Some-parts.ensures))
+    seconds firsts c.in-Some-parts.ensures.parts))
+
+pub returns-in_err-bind_one-clause-refused : goal.returns-in_err-bind_one-clause-refused
+returns-in_err-bind_one-clause-refused c =
+    same_error _ _ _ c.from_residual-in_err-bind_one.ensures.1 (λ conflict. stuck _ _ _ _ _ _ _ _ _
+    c.in-Some.ensures.items c.loop.invariant _ _ c.resolve-first.ensures c.resolve-second.ensures
+    (c.in_err-bind_one.ensures.refused conflict))
+
+pub returns-in_default-parts-clause-refused : goal.returns-in_default-parts-clause-refused
+returns-in_default-parts-clause-refused c _ =
+    let first = ref_name c.resolve-first.result in
+    let second = ref_name c.resolve-second.result in
+    let known = subst (λ t. OnFalse t (IsNoUnknown c.args.types.now first × IsNoUnknown c.args.types.now second))
+    c.if-branch.false c.in_ok-bind_one.ensures.none in
+    stuck _ _ _ _ _ _ _ _ _ c.in-Some.ensures.items c.loop.invariant _ _ c.resolve-first.ensures
+    c.resolve-second.ensures
+    (λ v solves. c.in_default-parts.ensures.none (λ is.
+    let same = (c.references_are_names.ensures.equal c.resolve-first.result c.resolve-second.result).1 is in
+    let differ = sym c.eq.ensures ∙ c.if-eq.false in
+    absurd (cc)) known.0 known.1 v)

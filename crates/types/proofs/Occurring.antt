@@ -1,0 +1,72 @@
+-- A type that an unknown one is a part of.
+use Rattle.std.proofs.Common.{◌≡◌, ◌≢◌, ◌⊎◌, inl, inr, ℕ, ◌<◌, ◌≤◌, Bool, List, [], ◌∷◌, ◌++◌, Some, Contains, sym, ap, subst, arith}
+use Rattle.std.proofs.lemmas.List.Elements.{Contains-append_left, Contains-push, Contains-push_cases}
+use Rattle.ra_ap_intern.specs.Handle.{ref_name}
+use Rattle.ra_ap_intern.specs.Name.{Name}
+use Rattle.ra_ap_intern.specs.State.{State}
+use Rattle.types.specs.Tree.{Tree}
+use Rattle.types.specs.Types.{unknown, shape_at}
+use Rattle.types.specs.Unifying.{StandsFor, Solves, Agree, IsNever, two}
+use Rattle.types.specs.declared.unknowns.Unknowns.{Unknowns}
+use Rattle.types.specs.declared.value.TypeNode.{TypeNode}
+use Rattle.types.proofs.Pairs.{Handle, size, first_less, second_less, out}
+use Rattle.types.proofs.Unifying.{unknown_is}
+
+-- a type is a tree that is smaller than this one
+abbrev IsSmaller : State TypeNode → (ℕ → Tree) → Tree → Name → Type 0
+IsSmaller s v limit n = (t : Tree) × StandsFor s v n t × (size t < size limit)
+
+module _ (s : State TypeNode) (old : Unknowns) (number : ℕ) (handle : Name) where
+  -- a type is the handle's, or smaller wherever an unknown type is the handle's
+  abbrev pub IsWithin : Name → Type 0
+  IsWithin n = (n ≡ handle) ⊎ ((v : ℕ → Tree) → Solves s old v → StandsFor s v handle (v number)
+      → IsSmaller s v (v number) n)
+
+  abbrev pub AreWithin : List Handle → Type 0
+  AreWithin xs = (p : Handle) → Contains xs p → IsWithin (ref_name p)
+
+  -- a list without its last, and that
+  pub within_popped : (all rest : List Handle) (p : Handle) → all ≡ rest ++ p ∷ [] → AreWithin all
+      → AreWithin rest × IsWithin (ref_name p)
+  within_popped all rest p last within =
+      let each = subst AreWithin last within in
+      (λ q in'. each q (Contains-append_left rest (p ∷ []) q in'), each p (Contains-push rest p))
+
+  pub within_push : (xs : List Handle) (p : Handle) → AreWithin xs → IsWithin (ref_name p) → AreWithin (xs ++ p ∷ [])
+  within_push xs p all here q in' = elim (Contains-push_cases xs p q in') [
+    | inl earlier ↦ all q earlier
+    | inr is ↦ subst (λ (r : Handle). IsWithin (ref_name r)) is here
+  ]
+
+  -- the unknown type itself is smaller than no solution makes it
+  pub never : (n : Name) → shape_at s n ≡ Some (unknown number) → n ≢ handle → IsWithin n → IsNever s old number handle
+  never n at other (inl is) v solves stands = other is
+  never n at other (inr smaller) v solves stands =
+      let here = smaller v solves stands in
+      let same = ap size (unknown_is s v n number at here.0 here.1) in
+      absurd (omega (arith, here.2, same))
+
+  -- what agrees with a part of one is another
+  module _ (n a b : Name) (kind : Bool) (at : shape_at s n ≡ Some (two kind a b)) (whole : IsWithin n) where
+    limited : (v : ℕ → Tree) → Solves s old v → StandsFor s v handle (v number)
+        → (t : Tree) × StandsFor s v n t × (size t ≤ size (v number))
+    limited v solves stands = elim whole [
+      | inl is ↦ (v number, subst (λ m. StandsFor s v m (v number)) (sym is) stands, omega arith)
+      | inr smaller ↦ let here = smaller v solves stands in (here.0, here.1, omega (arith, here.2))
+    ]
+
+    pub first_within : (c : Name) → ((v : ℕ → Tree) → Solves s old v → Agree s v a c) → IsWithin c
+    first_within c agree = inr (λ v solves stands.
+        let t = limited v solves stands in
+        let o = out s v kind n a b at t.0 t.1 in
+        let sizes = ap size o.is in
+        let less = first_less kind o.first o.second in
+        (o.first, (agree v solves o.first).0 o.first_is, omega (arith, sizes, less, t.2)))
+
+    pub second_within : (c : Name) → ((v : ℕ → Tree) → Solves s old v → Agree s v b c) → IsWithin c
+    second_within c agree = inr (λ v solves stands.
+        let t = limited v solves stands in
+        let o = out s v kind n a b at t.0 t.1 in
+        let sizes = ap size o.is in
+        let less = second_less kind o.first o.second in
+        (o.second, (agree v solves o.second).0 o.second_is, omega (arith, sizes, less, t.2)))
