@@ -68,7 +68,7 @@ module _ (s : State TypeNode) where
   -- and a tree one name, so that names are equal exactly if their trees are
   module _ (eq : TypeNode → TypeNode → Bool) (ok : IsState eq s)
       (alike : (v w : TypeNode) → (eq v w ≡ true) ↔ (shape v ≡ shape w)) where
-    same_name : (x : Shape) (n m : Name) → shape_at s n ≡ Some x → shape_at s m ≡ Some x → n ≡ m
+    pub same_name : (x : Shape) (n m : Name) → shape_at s n ≡ Some x → shape_at s m ≡ Some x → n ≡ m
     same_name x n m a b = (names_tell_views eq shape alike s ok n m x x a b).1 refl
 
     one_name : (t : Tree) (n m : Name) → UnfoldsTo s n t → UnfoldsTo s m t → n ≡ m

@@ -1,20 +1,44 @@
 -- Unification under way.
-use Rattle.std.proofs.Common.{◌≡◌, ◌↔◌, ◌⊎◌, inl, inr, ℕ, Bool, true, false, ◌&&◌, not, List, [], ◌∷◌, ◌++◌, refl, sym, subst, ◌∙◌}
+use Rattle.std.proofs.Common.{◌≡◌, ◌↔◌, ◌⊎◌, inl, inr, ℕ, Bool, true, false, ◌&&◌, not, List, [], ◌∷◌, ◌++◌, Contains, refl, sym, ap, subst, ◌∙◌, arith}
 use Rattle.std.specs.Bool.{MatchBool}
 use Rattle.std.specs.List.{list_any}
 use Rattle.std.specs.List.Sorted.{IsPermutation}
-use Rattle.std.proofs.lemmas.List.Elements.{Contains-append_cases, Contains-append_left, Contains-append_right, Contains-push}
+use Rattle.std.proofs.lemmas.List.Elements.{Contains-append_cases, Contains-append_left, Contains-append_right, Contains-push, Contains-push_cases}
 use Rattle.std.proofs.lemmas.List.Folds.{Any-from_list_any}
 use Rattle.std.proofs.lemmas.List.Sorted.{Contains-permutation, IsPermutation-sym}
 use Rattle.ra_ap_intern.specs.Handle.{ref_name}
 use Rattle.ra_ap_intern.specs.Name.{Name}
 use Rattle.ra_ap_intern.specs.State.{State}
 use Rattle.types.specs.Tree.{Tree}
-use Rattle.types.specs.Unifying.{Solves, AreOne, Agree, HaveNoUnifier, Unifies, HaveParts}
+use Rattle.types.specs.Unifying.{Solves, AreOne, Agree, HasTree, HaveNoUnifier, IsSolvable, Unifies, HaveParts}
 use Rattle.types.specs.declared.unknowns.Unknowns.{Unknowns}
 use Rattle.types.specs.declared.value.TypeNode.{TypeNode}
 use Rattle.types.proofs.Pairs.{Handle, Both, Among, among_left, among_last, among_cases, among_none, parts_are_one, Linked, Covered, Justified, IsHeld, all_agree}
+use Rattle.types.proofs.Solving.{parts_have_trees, agreeing_has_tree}
 use Rattle.types.proofs.Unifying.{agree_same, agree_then, agree_back}
+
+-- a set, and one element more
+pub record Inserted {A : Type 0} (old new : List A) (p : A) : Type 0 where
+  pub keeps : (q : A) → Contains old q → Contains new q
+  pub here : Contains new p
+  pub cases : (q : A) → Contains new q → Contains old q ⊎ (p ≡ q)
+
+pub inserted : {A : Type 0} (old new : List A) (p : A) (added : Bool) → added ≡ true
+    → MatchBool added (IsPermutation (p ∷ old) new) (new ≡ old) → Inserted old new p
+inserted old new p added is puts =
+    let moved = subst (λ t. MatchBool t (IsPermutation (p ∷ old) new) (new ≡ old)) is puts in
+    record {
+      keeps = λ q in'. Contains-permutation (p ∷ old) new q moved (Contains-append_right (p ∷ []) old q in');
+      here = Contains-permutation (p ∷ old) new p moved (Contains-append_left (p ∷ []) old p (Contains-push [] p));
+      cases = λ q in'. elim (Contains-append_cases (p ∷ []) old q
+          (Contains-permutation new (p ∷ old) q (IsPermutation-sym (p ∷ old) new moved) in')) [
+            | inl one ↦ elim (Contains-push_cases [] p q one) [
+              | inl none ↦ absurd (omega (arith, none.1))
+              | inr same ↦ inr same
+            ]
+            | inr earlier ↦ inl earlier
+          ];
+    }
 
 -- what was met, and one pair more
 pub record MetAlso (old new : List Both) (f s : Name) : Type 0 where
@@ -25,21 +49,14 @@ pub record MetAlso (old new : List Both) (f s : Name) : Type 0 where
 pub met_also : (old new : List Both) (p : Both) (added : Bool) → added ≡ true
     → MatchBool added (IsPermutation (p ∷ old) new) (new ≡ old) → MetAlso old new (ref_name p.0) (ref_name p.1)
 met_also old new p added is puts =
-    let moved = subst (λ t. MatchBool t (IsPermutation (p ∷ old) new) (new ≡ old)) is puts in
+    let also = inserted old new p added is puts in
     record {
-      keeps = λ x y h.
-          (h.0, Contains-permutation (p ∷ old) new h.0 moved (Contains-append_right (p ∷ []) old h.0 h.1), h.2, h.3);
-      here = (
-        p,
-        Contains-permutation (p ∷ old) new p moved (Contains-append_left (p ∷ []) old p (Contains-push [] p)),
-        refl,
-        refl,
-      );
-      cases = λ x y h. elim (Contains-append_cases (p ∷ []) old h.0
-          (Contains-permutation new (p ∷ old) h.0 (IsPermutation-sym (p ∷ old) new moved) h.1)) [
-            | inl one ↦ elim (among_cases [] p x y (h.0, one, h.2, h.3)) [ inl none ↦ absurd (among_none x y none) | inr names ↦ inr names ]
-            | inr in' ↦ inl (h.0, in', h.2, h.3)
-          ];
+      keeps = λ x y h. (h.0, also.keeps h.0 h.1, h.2, h.3);
+      here = (p, also.here, refl, refl);
+      cases = λ x y h. elim (also.cases h.0 h.1) [
+        | inl earlier ↦ inl (h.0, earlier, h.2, h.3)
+        | inr same ↦ inr (ap (λ (q : Both). ref_name q.0) same ∙ h.2, ap (λ (q : Both). ref_name q.1) same ∙ h.3)
+      ];
     }
 
 -- a pair that the set finds was met
@@ -236,3 +253,64 @@ module _ (st : State TypeNode) (old : Unknowns) (left right : Name) where
       each = λ x y in'. absurd (among_none x y in');
     };
   }
+
+-- ---- whether there is a solution at all
+
+-- from solvable ones on: all are, and each pair that is left has trees
+abbrev pub Standing : State TypeNode → (old : Unknowns) → (left right : Name) → Unknowns → List Both → Type 0
+Standing s old left right u xs = HasTree s left → HasTree s right → IsSolvable s old
+    → IsSolvable s u × ((p : Both) → Contains xs p → HasTree s (ref_name p.0) × HasTree s (ref_name p.1))
+
+module _ (s : State TypeNode) (old : Unknowns) (left right : Name) where
+  pub standing_begun : (p : Both) → ref_name p.0 ≡ left → ref_name p.1 ≡ right → Standing s old left right old (p ∷ [])
+  standing_begun p first second a b solvable = (
+    solvable,
+    λ q in'. elim (Contains-push_cases [] p q in') [
+      | inl none ↦ absurd (omega (arith, none.1))
+      | inr same ↦ (
+        subst (HasTree s) (sym first ∙ ap (λ (r : Both). ref_name r.0) same) a,
+        subst (HasTree s) (sym second ∙ ap (λ (r : Both). ref_name r.1) same) b,
+      )
+    ],
+  )
+
+  module _ (u : Unknowns) (all rest : List Both) (p : Both) (last : all ≡ rest ++ p ∷ []) (before : Standing s old left right u all) where
+    pub standing_passed : Standing s old left right u rest
+    standing_passed a b solvable =
+        let so = before a b solvable in
+        (so.0, λ q in'. so.1 q (subst (λ xs. Contains xs q) (sym last) (Contains-append_left rest (p ∷ []) q in')))
+
+    module _ (f g : Name) (first : (v : ℕ → Tree) → Solves s u v → Agree s v (ref_name p.0) f)
+        (second : (v : ℕ → Tree) → Solves s u v → Agree s v (ref_name p.1) g) where
+      have_trees : HasTree s left → HasTree s right → IsSolvable s old → HasTree s f × HasTree s g
+      have_trees a b solvable =
+          let so = before a b solvable in
+          let v = so.0.0 in
+          let trees = so.1 p (subst (λ xs. Contains xs p) (sym last) (Contains-push rest p)) in (
+            agreeing_has_tree s v (ref_name p.0) f (first v so.0.1.solves) trees.0,
+            agreeing_has_tree s v (ref_name p.1) g (second v so.0.1.solves) trees.1,
+          )
+
+      pub standing_bound : (w : Unknowns) → (HasTree s f → HasTree s g → IsSolvable s u → IsSolvable s w)
+          → Standing s old left right w rest
+      standing_bound w on a b solvable =
+          let so = standing_passed a b solvable in
+          let trees = have_trees a b solvable in
+          (on trees.0 trees.1 so.0, so.1)
+
+      pub standing_parted : (q r : Both) → HaveParts s f g (ref_name r.0) (ref_name q.0) (ref_name r.1) (ref_name q.1)
+          → Standing s old left right u ((rest ++ q ∷ []) ++ r ∷ [])
+      standing_parted q r parts a b solvable =
+          let so = standing_passed a b solvable in
+          let trees = have_trees a b solvable in
+          let firsts = parts_have_trees s parts.0 f (ref_name r.0) (ref_name q.0) parts.1 trees.0 in
+          let seconds = parts_have_trees s parts.0 g (ref_name r.1) (ref_name q.1) parts.2 trees.1 in (
+            so.0,
+            λ x in'. elim (Contains-push_cases (rest ++ q ∷ []) r x in') [
+              | inl earlier ↦ elim (Contains-push_cases rest q x earlier) [
+                | inl other ↦ so.1 x other
+                | inr same ↦ subst (λ (y : Both). HasTree s (ref_name y.0) × HasTree s (ref_name y.1)) same (firsts.1, seconds.1)
+              ]
+              | inr same ↦ subst (λ (y : Both). HasTree s (ref_name y.0) × HasTree s (ref_name y.1)) same (firsts.0, seconds.0)
+            ],
+          )

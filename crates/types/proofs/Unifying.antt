@@ -1,5 +1,5 @@
 -- What unknown types may be, and what is one then.
-use Rattle.std.proofs.Common.{◌≡◌, ◌↔◌, Result, Ok, Err, IfErr, ℕ, suc, List, [], ◌∷◌, Some, slice_get, slice_set, zero, refl, sym, ap, subst, ◌∙◌, rules}
+use Rattle.std.proofs.Common.{◌≡◌, ◌↔◌, Result, Ok, Err, IfErr, ℕ, ◌<◌, suc, arith, length, List, [], ◌∷◌, ◌++◌, Some, slice_get, slice_set, zero, refl, sym, ap, subst, ◌∙◌, rules}
 use Rattle.std.specs.Option.{option_map}
 use Rattle.std.specs.Result.{IsErrAnd}
 use Rattle.std.specs.declared.alloc.AllocError.{AllocError}
@@ -10,7 +10,7 @@ use Rattle.ra_ap_intern.specs.declared.kind.Values.{Values}
 use Rattle.ra_ap_intern.specs.declared.storage.Ref.{Ref}
 use Rattle.types.specs.Tree.{Tree, unknowns}
 use Rattle.types.specs.Types.{unknown, shape, shape_at}
-use Rattle.types.specs.Unifying.{replaced, IsOpen, StandsFor, Solves, Agree, HaveNoUnifier, IsConflict, IsNever, IsNoUnknown, Unifies, Binds}
+use Rattle.types.specs.Unifying.{replaced, IsOpen, StandsFor, Solves, Agree, HaveNoUnifier, IsConflict, IsFree, IsNever, IsNoUnknown, IsPrincipal, Unifies, Binds}
 use Rattle.types.specs.declared.error.TypeError.{TypeError}
 use Rattle.types.specs.declared.error.TypeError.TheVariants as error
 use Rattle.types.specs.declared.unknowns.Known.{Known}
@@ -87,17 +87,50 @@ nothing_set l (k ∷ xs) zero (suc n) x e = (x, e)
 nothing_set l (k ∷ xs) (suc i) zero x e = (x, e)
 nothing_set l (k ∷ xs) (suc i) (suc n) x e = nothing_set l xs i n x e
 
+-- one more of which nothing is known
+pub added_last : (l : ℕ) (xs : List Known) → slice_get (xs ++ known.Nothing l ∷ []) (length xs) ≡ Some (known.Nothing l)
+added_last l [] = refl
+added_last l (k ∷ xs) = added_last l xs
+
+pub added_knows : (l : ℕ) (xs : List Known) (n : ℕ) (h : Ref (Values TypeNode))
+    → (slice_get (xs ++ known.Nothing l ∷ []) n ≡ Some (known.Is h)) ↔ (slice_get xs n ≡ Some (known.Is h))
+added_knows l [] zero h = (λ is. absurd (cc), λ is. absurd (cc))
+added_knows l [] (suc n) h = (λ is. absurd (cc), λ is. absurd (cc))
+added_knows l (k ∷ xs) zero h = (λ is. is, λ is. is)
+added_knows l (k ∷ xs) (suc n) h = added_knows l xs n h
+
+-- one that becomes known is free no more, and no other is freed
+pub is_set : (h : Ref (Values TypeNode)) (xs : List Known) (i n : ℕ) → i < length xs
+    → ((g : Ref (Values TypeNode)) → slice_get (slice_set xs i (known.Is h)) n ≡ Some (known.Is g) → ⊥)
+    → ((g : Ref (Values TypeNode)) → slice_get xs n ≡ Some (known.Is g) → ⊥) × (n ≡ i → ⊥)
+is_set h [] i n lt free = absurd (omega (arith, lt))
+is_set h (k ∷ xs) zero zero lt free = absurd (free h refl)
+is_set h (k ∷ xs) zero (suc n) lt free = (free, λ is. absurd (omega (arith, is)))
+is_set h (k ∷ xs) (suc i) zero lt free = (free, λ is. absurd (omega (arith, is)))
+is_set h (k ∷ xs) (suc i) (suc n) lt free =
+    let rest = is_set h xs i n (omega (arith, lt)) free in
+    (rest.0, λ is. rest.1 (omega (arith, is)))
+
 -- nothing of these is known but what was, and nothing of one of them
 pub record StillOpen (s : State TypeNode) (old : Unknowns) (number : ℕ) (u : Unknowns) : Type 0 where
   pub solved : (v : ℕ → Tree) → Solves s u v ↔ Solves s old v
-  pub free : IsOpen u number
+  pub open_here : IsOpen u number
+  pub free : (n : ℕ) → IsFree u n → IsFree old n
 
 pub still_lowered : (s : State TypeNode) (old : Unknowns) (number : ℕ) (u w : Unknowns) → StillOpen s old number u
     → ((v : ℕ → Tree) → Solves s w v ↔ Solves s u v) → ((n : ℕ) → IsOpen u n → IsOpen w n)
-    → StillOpen s old number w
-still_lowered s old number u w still same free = record {
+    → ((n : ℕ) → IsFree w n → IsFree u n) → StillOpen s old number w
+still_lowered s old number u w still same stays free = record {
   solved = λ v. (λ h. (still.solved v).0 ((same v).0 h), λ h. (same v).1 ((still.solved v).1 h));
-  free = free number still.free;
+  open_here = stays number still.open_here;
+  free = λ n h. still.free n (free n h);
+}
+
+pub still_principal : (s : State TypeNode) (old : Unknowns) (number : ℕ) (u : Unknowns) → StillOpen s old number u
+    → (v : ℕ → Tree) → IsPrincipal s old v → IsPrincipal s u v
+still_principal s old number u still v is = record {
+  solves = (still.solved v).1 is.solves;
+  free = λ n h. is.free n (still.free n h);
 }
 
 -- an unknown type becomes another

@@ -22,6 +22,10 @@ replaced v (anything number) = anything number
 replaced v (functions t u) = functions (replaced v t) (replaced v u)
 replaced v (pairs t u) = pairs (replaced v t) (replaced v u)
 
+-- the name reads a type, and so do its parts
+abbrev pub HasTree : State TypeNode → Name → Type 0
+HasTree s n = (t : Tree) × UnfoldsTo s n t
+
 module _ (s : State TypeNode) where
   -- the name's type is this tree, where unknown types are these
   abbrev pub StandsFor : (ℕ → Tree) → Name → Tree → Type 0
@@ -62,6 +66,10 @@ module _ (s : State TypeNode) where
   abbrev pub Binds : (old new : Unknowns) → ℕ → Name → Type 0
   Binds old new number n = (v : ℕ → Tree) → Solves new v ↔ (Solves old v × StandsFor v n (v number))
 
+-- no type is known to be an unknown type
+abbrev pub IsFree : Unknowns → ℕ → Type 0
+IsFree u number = (handle : Ref (Values TypeNode)) → slice_get u.known.items number ≢ Some (known.Is handle)
+
 -- nothing is known of an unknown type
 abbrev pub IsOpen : Unknowns → ℕ → Type 0
 IsOpen u number = (level : ℕ) × (slice_get u.known.items number ≡ Some (known.Nothing level))
@@ -89,3 +97,11 @@ IsConflict error.TooLarge = ⊥
 IsConflict error.NoOperand = ⊥
 IsConflict (error.OutOfMemory why) = ⊥
 IsConflict (error.Refused why) = ⊥
+
+-- a solution that leaves each unknown type as it is of which nothing is known
+pub record IsPrincipal (s : State TypeNode) (u : Unknowns) (v : ℕ → Tree) : Type 0 where
+  pub solves : Solves s u v
+  pub free : (number : ℕ) → IsFree u number → v number ≡ unknowns number
+
+abbrev pub IsSolvable : State TypeNode → Unknowns → Type 0
+IsSolvable s u = (v : ℕ → Tree) × IsPrincipal s u v

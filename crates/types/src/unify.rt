@@ -4,7 +4,7 @@ ghost use Rattle.std.specs.Bool.{OnFalse, OnTrue};
 ghost use Rattle.ra_ap_intern.specs.Handle.{ref_name};
 ghost use Rattle.ra_ap_intern.specs.Name.{Name as TypeName};
 ghost use Rattle.types.specs.Types.{shape_at, unknown as unknown_shape};
-ghost use Rattle.types.specs.Unifying.{AreApart, Binds, HaveNoUnifier, HaveParts, IsConflict, IsNever, IsNoUnknown, Unifies, two};
+ghost use Rattle.types.specs.Unifying.{AreApart, Binds, HasTree, HaveNoUnifier, HaveParts, IsConflict, IsNever, IsNoUnknown, IsSolvable, Unifies, two};
 
 use crate::error::TypeError;
 use crate::laws::types_are_their_shapes;
@@ -29,6 +29,9 @@ pub fn unify(
 ) -> Result<(), TypeError>
     ensures unifies { OnOk result (Unifies types.now unknowns.old unknowns.new
         (ref_name left) (ref_name right)) }
+    ensures solvable { OnOk result (HasTree types.now (ref_name left) →
+        HasTree types.now (ref_name right) → IsSolvable types.now unknowns.old →
+        IsSolvable types.now unknowns.new) }
     ensures refused { IfErr result (λ e. IsConflict e →
         HaveNoUnifier types.now unknowns.old (ref_name left) (ref_name right)) }
 {
@@ -121,6 +124,9 @@ fn bind_one(
     requires { ref_name first ≢ ref_name second }
     ensures bound { IfOk result (λ bound. OnTrue bound
         (Unifies types.now unknowns.old unknowns.new (ref_name first) (ref_name second))) }
+    ensures solvable { IfOk result (λ bound. OnTrue bound (HasTree types.now (ref_name first) →
+        HasTree types.now (ref_name second) → IsSolvable types.now unknowns.old →
+        IsSolvable types.now unknowns.new)) }
     ensures same { IfOk result (λ bound. OnFalse bound (unknowns.new ≡ unknowns.old)) }
     ensures none { IfOk result (λ bound. OnFalse bound (IsNoUnknown types.now (ref_name first)
         × IsNoUnknown types.now (ref_name second))) }
@@ -151,12 +157,17 @@ fn bind(
     requires other { ref_name unknown.1 ≢ ref_name handle }
     ensures binds { OnOk result (Binds types.now unknowns.old unknowns.new unknown.0
         (ref_name handle)) }
+    ensures solvable { OnOk result (HasTree types.now (ref_name handle) →
+        IsSolvable types.now unknowns.old → IsSolvable types.now unknowns.new) }
     ensures refused { IfErr result (λ e. IsConflict e →
         IsNever types.now unknowns.old unknown.0 (ref_name handle)) }
 {
     laws::references_are_names::<TypeNode>();
+    // What these say is used here: that no two types are equal, and what types are.
+    types_are_their_shapes();
+    let _number = types.number();
     let (number, unknown) = unknown;
-    // Resolved types are never known ones, so there is a level.
+    // Resolved types are never known ones, so there is a level, and each part that is met is open.
     let Some(level) = unknowns.level(number) else {
         return Err(TypeError::TooLarge);
     };
@@ -172,7 +183,9 @@ fn bind(
             return Err(TypeError::Infinite(unknown, handle));
         }
         if let Some(other) = number_of(types, part) {
-            unknowns.lower(other, level);
+            if !unknowns.lower(other, level) {
+                return Err(TypeError::TooLarge);
+            }
             continue;
         }
         let Some((_, first, second)) = parts_of(types, part) else {

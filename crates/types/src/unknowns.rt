@@ -1,9 +1,11 @@
 //! Types that aren't known yet, and what became of them.
-ghost use Rattle.std.specs.Prelude.{◌≡◌, ◌↔◌, ℕ, Some, IfSome, IsSome, slice_get};
+ghost use Rattle.std.specs.Prelude.{◌≡◌, ◌≢◌, ◌↔◌, ℕ, Some, IfOk, IfSome, IsSome, IsTrue, length, slice_get};
 ghost use Rattle.ra_ap_intern.specs.Handle.{ref_name};
 ghost use Rattle.ra_ap_intern.specs.State.{State};
+ghost use Rattle.ra_ap_intern.specs.declared.kind.Values.{Values as ValueKind};
+ghost use Rattle.ra_ap_intern.specs.declared.storage.Ref.{Ref as Reference};
 ghost use Rattle.types.specs.Tree.{Tree};
-ghost use Rattle.types.specs.Unifying.{Agree, Binds, IsOpen, Solves};
+ghost use Rattle.types.specs.Unifying.{Agree, Binds, IsFree, IsOpen, IsSolvable, Solves};
 ghost use Rattle.types.specs.declared.unknowns.Known.TheVariants as known;
 ghost use Rattle.types.specs.declared.value.TypeNode.{TypeNode as Node};
 
@@ -29,7 +31,8 @@ pub struct Unknowns {
 impl Unknowns {
     /// No unknown type.
     pub fn new(alloc: Global) -> Unknowns
-        ensures { (s : State Node) (v : ℕ → Tree) → Solves s result v }
+        ensures solved { (s : State Node) (v : ℕ → Tree) → Solves s result v }
+        ensures solvable { (s : State Node) → IsSolvable s result }
     {
         Unknowns {
             known: Vec::new(alloc),
@@ -37,7 +40,13 @@ impl Unknowns {
     }
 
     /// The number of a new unknown type. `AllocError` when there is no memory.
-    pub fn add(&mut self, level: u64) -> Result<u64, AllocError> {
+    pub fn add(&mut self, level: u64) -> Result<u64, AllocError>
+        ensures number { IfOk result (λ number. number ≡ length self.old.known.items) }
+        ensures nothing { IfOk result (λ number. IsOpen self.new number) }
+        ensures known { (n : ℕ) (handle : Reference (ValueKind Node)) →
+            slice_get self.new.known.items n ≡ Some (known.Is handle)
+            ↔ slice_get self.old.known.items n ≡ Some (known.Is handle) }
+    {
         let number = self.known.len() as u64;
         self.known.push(Known::Nothing(level))?;
         Ok(number)
@@ -56,24 +65,30 @@ impl Unknowns {
     /// An unknown type is this type from now on.
     pub fn bind(&mut self, number: u64, handle: TypeRef)
         requires { IsOpen self.old number }
-        ensures { (s : State Node) → Binds s self.old self.new number (ref_name handle) }
+        ensures binds { (s : State Node) → Binds s self.old self.new number (ref_name handle) }
+        ensures free { (n : ℕ) → IsFree self.new n → IsFree self.old n × (n ≢ number) }
     {
         if let Some(known) = self.known.get_mut(number as usize) {
             *known = Known::Is(handle);
         }
     }
 
-    /// An unknown type belongs to this level, unless it belongs to a lower one.
-    pub fn lower(&mut self, number: u64, to: u64)
+    /// An unknown type belongs to this level, unless it belongs to a lower one. Whether nothing is
+    /// known of it.
+    pub fn lower(&mut self, number: u64, to: u64) -> bool
+        ensures nothing { IsTrue result → IsFree self.old number }
         ensures solved { (s : State Node) (v : ℕ → Tree) →
             Solves s self.new v ↔ Solves s self.old v }
-        ensures free { (n : ℕ) → IsOpen self.old n → IsOpen self.new n }
+        ensures open { (n : ℕ) → IsOpen self.old n → IsOpen self.new n }
+        ensures free { (n : ℕ) → IsFree self.new n → IsFree self.old n }
     {
         if let Some(known) = self.known.get_mut(number as usize) {
             if let Known::Nothing(level) = *known {
                 *known = Known::Nothing(level.min(to));
+                return true;
             }
         }
+        false
     }
 
     // What an unknown type is.

@@ -1,14 +1,37 @@
-use Rattle.std.proofs.Common.{◌∙◌, sym, subst}
+use Rattle.std.proofs.Common.{◌≡◌, ◌∙◌, [], ◌∷◌, ◌++◌, Some, inl, inr, refl, sym, ap, subst, rules}
+use Rattle.std.specs.Bool.{OnFalse}
 use Rattle.ra_ap_intern.specs.Handle.{ref_name}
 use Rattle.types.proofs.Occurring.{AreWithin, IsWithin, within_popped, within_push, first_within, second_within, never}
-use Rattle.types.proofs.Unifying.{still_lowered, wants_memory}
+use Rattle.types.specs.Types.{unknown, shape_at}
+use Rattle.types.specs.Unifying.{replaced}
+use Rattle.types.proofs.Trees.{same_name}
+use Rattle.types.proofs.Searching.{IsSearched, listed_before, searched, search_passed, search_parted, leaf_is_without, other_is_without}
+use Rattle.types.proofs.Solving.{bound_is_solvable, open_is_free}
+use Rattle.types.proofs.Underway.{found_if, inserted}
+use Rattle.types.proofs.Unifying.{still_lowered, still_principal, wants_memory}
 use Rattle.types.proofs.unify.bind.Goals as goal
 
 pub returns-in_default-pop-clause-binds : goal.returns-in_default-pop-clause-binds
 returns-in_default-pop-clause-binds c v =
-    let bound = c.bind.ensures c.args.types.now v in
+    let bound = c.bind.ensures.binds c.args.types.now v in
     let still = c.loop.invariant.0.solved v in
     (λ h. (still.0 (bound.0 h).0, (bound.0 h).1), λ h. bound.1 (still.1 h.0, h.1))
+
+pub returns-in_default-pop-clause-solvable : goal.returns-in_default-pop-clause-solvable
+returns-in_default-pop-clause-solvable c tree solvable =
+    let s = c.args.types.now in
+    let number = c.args.unknown.0 in
+    let now = c.loop.unknowns in
+    let still = c.loop.invariant.0 in
+    let v = solvable.0 in
+    let none : c.loop.open.items ≡ [] = search rules in
+    let searched_all = searched s v number (ref_name c.args.handle) c.loop.met.keys
+    (subst (λ xs. IsSearched s v number (ref_name c.args.handle) xs c.loop.met.keys) none
+    (c.loop.invariant.2 v solvable.1)) in
+    bound_is_solvable s now c.bind.new.self number (ref_name c.args.handle) v
+    (still_principal s c.args.unknowns.now number now still v solvable.1) (open_is_free now number still.open_here)
+    (c.bind.ensures.binds s) c.bind.ensures.free tree
+    (λ occurs. searched_all (replaced v tree.0, (tree.0, tree.1, refl), occurs))
 
 pub returns-in_err-push-clause-refused : goal.returns-in_err-push-clause-refused
 returns-in_err-push-clause-refused c = wants_memory _ _ c.from_residual.ensures.1
@@ -34,29 +57,61 @@ returns-then-eq-clause-refused c _ =
     never s old number handle (ref_name c.args.unknown.1) c.requires.unknown c.requires.other
     (subst (IsWithin s old number handle) same popped.1)
 
+-- what holds of the loop where a part is passed over
+pub loop-preserved-then-not-branch : goal.loop-preserved-then-not-branch
+loop-preserved-then-not-branch c =
+    let s = c.args.types.now in
+    let old = c.args.unknowns.now in
+    let number = c.args.unknown.0 in
+    let handle = ref_name c.args.handle in
+    let same : c.insert.new.self.keys ≡ c.loop.met.keys =
+    subst (λ t. OnFalse t (c.insert.new.self.keys ≡ c.loop.met.keys)) c.if-not-branch.true c.in_ok-insert.ensures.unchanged in (
+      c.loop.invariant.0,
+      (within_popped s old number handle _ _ _ c.in-Some-pop.ensures.items c.loop.invariant.1).0,
+      λ v principal. subst (IsSearched s v number handle c.pop.new.self.items) (sym same)
+          (search_passed s v number handle _ _ _ c.in-Some-pop.part c.in-Some-pop.ensures.items
+          (c.loop.invariant.2 v principal) (inl
+          (listed_before c.loop.met.keys _ c.references_are_names.ensures.equal c.in-Some-pop.part
+          (found_if c.in_ok-insert.field-0 _ c.if-not-branch.true c.in_ok-insert.ensures.added)))),
+    )
+
+pub loop-preserved-in_default-parts_of : goal.loop-preserved-in_default-parts_of
+loop-preserved-in_default-parts_of c =
+    let s = c.args.types.now in
+    let old = c.args.unknowns.now in
+    let number = c.args.unknown.0 in
+    let handle = ref_name c.args.handle in (
+      c.loop.invariant.0,
+      (within_popped s old number handle _ _ _ c.in-Some-pop.ensures.items c.loop.invariant.1).0,
+      λ v principal. search_passed s v number handle _ _ _ c.in-Some-pop.part c.in-Some-pop.ensures.items
+          (c.loop.invariant.2 v principal) (inr
+          (leaf_is_without s v number (ref_name c.in-Some-pop.part) c.in_default-number_of.ensures.none
+          c.in_default-parts_of.ensures.none)),
+    )
+
 pub loop-preserved-in-Some-number_of : goal.loop-preserved-in-Some-number_of
 loop-preserved-in-Some-number_of c =
     let s = c.args.types.now in
     let old = c.args.unknowns.now in
-    let number = c.args.unknown.0 in (
-      still_lowered s old number c.loop.unknowns c.lower.new.self c.loop.invariant.0 (c.lower.ensures.solved s)
+    let number = c.args.unknown.0 in
+    let handle = ref_name c.args.handle in
+    let still = c.loop.invariant.0 in
+    let part = ref_name c.in-Some-pop.part in
+    let other = c.in-Some-number_of.other in
+    let at = c.in-Some-number_of.ensures.number in (
+      still_lowered s old number c.loop.unknowns c.lower.new.self still (c.lower.ensures.solved s) c.lower.ensures.open
           c.lower.ensures.free,
-      (within_popped s old number (ref_name c.args.handle) _ _ _ c.in-Some-pop.ensures.items c.loop.invariant.1).0,
+      (within_popped s old number handle _ _ _ c.in-Some-pop.ensures.items c.loop.invariant.1).0,
+      λ v principal. search_passed s v number handle _ _ _ c.in-Some-pop.part c.in-Some-pop.ensures.items
+          (c.loop.invariant.2 v principal) (inr
+          (other_is_without s v number part other at
+          (principal.free other (still.free other (c.lower.ensures.nothing c.if-not-lower.false))) (λ is.
+          let name = same_name s _ c.number-number.ensures.state c.types_are_their_shapes.ensures (unknown number) part
+          (ref_name c.args.unknown.1) (subst (λ k. shape_at s part ≡ Some (unknown k)) is at) c.requires.unknown in
+          let same = (c.references_are_names.ensures.equal c.in-Some-pop.part c.args.unknown.1).1 name in
+          let differ = sym c.eq.ensures ∙ c.if-eq.false in
+          absurd (cc)))),
     )
-
-pub loop-preserved-in_default-parts_of : goal.loop-preserved-in_default-parts_of
-loop-preserved-in_default-parts_of c = (
-  c.loop.invariant.0,
-  (within_popped c.args.types.now c.args.unknowns.now c.args.unknown.0 (ref_name c.args.handle) _ _ _
-      c.in-Some-pop.ensures.items c.loop.invariant.1).0,
-)
-
-pub loop-preserved-then-not-branch : goal.loop-preserved-then-not-branch
-loop-preserved-then-not-branch c = (
-  c.loop.invariant.0,
-  (within_popped c.args.types.now c.args.unknowns.now c.args.unknown.0 (ref_name c.args.handle) _ _ _
-      c.in-Some-pop.ensures.items c.loop.invariant.1).0,
-)
 
 pub loop-preserved : goal.loop-preserved
 loop-preserved c =
@@ -64,16 +119,23 @@ loop-preserved c =
     let old = c.args.unknowns.now in
     let number = c.args.unknown.0 in
     let handle = ref_name c.args.handle in
-    let still = c.loop.invariant.0.solved in
+    let still = c.loop.invariant.0 in
     let popped = within_popped s old number handle _ _ _ c.in-Some-pop.ensures.items c.loop.invariant.1 in
     let at = c.in-Some-parts_of.ensures.parts in
     let seconds = second_within s old number handle _ _ _ _ at popped.1 (ref_name c.resolve.result)
-    (λ v solves. c.resolve.ensures v ((still v).1 solves)) in
+    (λ v solves. c.resolve.ensures v ((still.solved v).1 solves)) in
     let firsts = first_within s old number handle _ _ _ _ at popped.1 (ref_name c.resolve-in-loop.result)
-    (λ v solves. c.resolve-in-loop.ensures v ((still v).1 solves)) in (
-      c.loop.invariant.0,
-      subst (AreWithin s old number handle) (sym c.in_ok-push-3.ensures.items)
-          (within_push s old number handle c.push-in-loop.new.self.items c.resolve-in-loop.result
-          (subst (AreWithin s old number handle) (sym c.in_ok-push-2.ensures.items)
-          (within_push s old number handle c.pop.new.self.items c.resolve.result popped.0 seconds)) firsts),
+    (λ v solves. c.resolve-in-loop.ensures v ((still.solved v).1 solves)) in
+    let items = c.in_ok-push-3.ensures.items ∙ ap (λ xs. xs ++ c.resolve-in-loop.result ∷ []) c.in_ok-push-2.ensures.items in (
+      still,
+      subst (AreWithin s old number handle) (sym items)
+          (within_push s old number handle (c.pop.new.self.items ++ c.resolve.result ∷ []) c.resolve-in-loop.result
+          (within_push s old number handle c.pop.new.self.items c.resolve.result popped.0 seconds) firsts),
+      λ v principal. subst (λ xs. IsSearched s v number handle xs c.insert.new.self.keys) (sym items)
+          (search_parted s v number handle _ _ _ c.in-Some-pop.part c.in-Some-pop.ensures.items
+          (c.loop.invariant.2 v principal) c.insert.new.self.keys c.resolve.result c.resolve-in-loop.result _ _ _
+          (inserted c.loop.met.keys c.insert.new.self.keys c.in-Some-pop.part _ c.if-not-branch.false
+          c.in_ok-insert.ensures.keys) at
+          (c.resolve-in-loop.ensures v ((still.solved v).1 principal.solves))
+          (c.resolve.ensures v ((still.solved v).1 principal.solves))),
     )
