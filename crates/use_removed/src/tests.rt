@@ -20,16 +20,16 @@ fn node(
 }
 
 #[test]
-fn names_go_with_their_nodes(rt: HostRuntime) -> Result<(), Refusal> {
+fn names_go_with_their_nodes(rt: HostRuntime) {
     let mut nodes = Nodes {
         names: SymbolTable::new(rt.alloc(), 1),
         nodes: InternStorage::new(rt.alloc(), 2),
     };
-    let first = node(rt.alloc(), &mut nodes, "my_first", &[])?;
-    let second = node(rt.alloc(), &mut nodes, "my_second", &[first])?;
-    node(rt.alloc(), &mut nodes, "my_third", &[second])?;
-    node(rt.alloc(), &mut nodes, "self", &[second])?;
-    node(rt.alloc(), &mut nodes, "my_first", &[second])?;
+    let first = node(rt.alloc(), &mut nodes, "my_first", &[]).expect(&rt, "a node");
+    let second = node(rt.alloc(), &mut nodes, "my_second", &[first]).expect(&rt, "a node");
+    for name in ["my_third", "self", "my_first"] {
+        assert!(rt; node(rt.alloc(), &mut nodes, name, &[second]).is_ok());
+    }
 
     let told = nodes.collect(rt.alloc(), &[second]);
     assert!(rt; told.is_ok_and(|told| (told.visits, told.removed) == (2, 3)));
@@ -40,5 +40,4 @@ fn names_go_with_their_nodes(rt: HostRuntime) -> Result<(), Refusal> {
     let told = nodes.collect(rt.alloc(), &[]);
     assert!(rt; told.is_ok_and(|told| told.removed == 2));
     assert!(rt; nodes.names.is_empty());
-    Ok(())
 }

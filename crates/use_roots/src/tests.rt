@@ -2,20 +2,30 @@
 ghost use Rattle.std.specs.Prelude.{◌≡◌, true};
 
 use crate::{Class, Method, Program};
-use ra_ap_intern::{
-    GarbageCollector, InternStorage, Internable, Interned, InternedRef, Refusal, Text,
-};
+use ra_ap_intern::{GarbageCollector, InternStorage, Internable, Interned, InternedRef, Text};
 use std::alloc::Global;
-use std::test::Fail;
+use std::process::Abort;
 
 fn store<T: Internable + Drop>(
+    rt: &impl Abort,
     storage: &mut InternStorage<T>,
     value: T,
-) -> Result<InternedRef<T>, Refusal>
+) -> InternedRef<T>
     requires { T.Internable.USE_GC ≡ true }
 {
-    let stored = Interned::new_gc(storage, value);
-    Ok(stored.map_err(|r| r.why)?.0)
+    let (reference, _) = Interned::new_gc(storage, value).ok().expect(rt, "memory");
+    reference
+}
+
+fn class(
+    rt: &impl Abort,
+    alloc: Global,
+    classes: &mut InternStorage<Class>,
+    name: InternedRef<Text>,
+    base: InternedRef<Class>,
+) -> InternedRef<Class> {
+    let bases = vec![in alloc; base].expect(rt, "memory");
+    store(rt, classes, Class(name, bases))
 }
 
 // Two methods, each of the class that comes with it.
@@ -24,23 +34,26 @@ struct Methods {
     of_gone: (InternedRef<Class>, InternedRef<Method>),
 }
 
-fn fill(alloc: Global, program: &mut Program) -> Result<Methods, Fail> {
-    let name = Interned::new(&mut program.names, Text::new(alloc, "a")?);
-    let name = name.map_err(|r| r.why)?.0.as_ref();
+fn fill(rt: &impl Abort, alloc: Global, program: &mut Program) -> Methods {
+    let name = Text::new(alloc, "a").expect(rt, "memory");
+    let (name, _) = Interned::new(&mut program.names, name)
+        .ok()
+        .expect(rt, "memory");
+    let name = name.as_ref();
     let classes = &mut program.code.first;
     let methods = &mut program.code.second;
-    let base = store(classes, Class(name, Vec::new(alloc)))?;
-    let list = store(classes, Class(name, vec![in alloc; base]?))?;
-    let deque = store(classes, Class(name, vec![in alloc; list]?))?;
-    let gone = store(classes, Class(name, vec![in alloc; deque]?))?;
-    Ok(Methods {
-        of_deque: (deque, store(methods, Method(name, list))?),
-        of_gone: (gone, store(methods, Method(name, gone))?),
-    })
+    let base = store(rt, classes, Class(name, Vec::new(alloc)));
+    let list = class(rt, alloc, classes, name, base);
+    let deque = class(rt, alloc, classes, name, list);
+    let gone = class(rt, alloc, classes, name, deque);
+    Methods {
+        of_deque: (deque, store(rt, methods, Method(name, list))),
+        of_gone: (gone, store(rt, methods, Method(name, gone))),
+    }
 }
 
 #[test]
-fn what_the_roots_declare_stays(rt: HostRuntime) -> Result<(), Fail> {
+fn what_the_roots_declare_stays(rt: HostRuntime) {
     let alloc = rt.alloc();
     let mut program = Program {
         names: InternStorage::new(alloc, 0),
@@ -52,14 +65,13 @@ fn what_the_roots_declare_stays(rt: HostRuntime) -> Result<(), Fail> {
     let Methods {
         of_deque: (deque, size),
         of_gone: (gone, lost),
-    } = fill(alloc, &mut program)?;
+    } = fill(&rt, alloc, &mut program);
 
     // Both roots declare one class, and that declares another.
     assert!(rt; GarbageCollector::distinct(&program.code));
-    let told = program.collect(alloc, deque, size)?;
+    let told = program.collect(alloc, deque, size).expect(&rt, "memory");
     assert_eq!(rt; (told.visits, told.mark_calls, told.removed), (4, 3, 2));
     assert_eq!(rt; program.names.len(), 1);
     assert!(rt; gone.get(&program.code.first).is_none());
     assert!(rt; lost.get(&program.code.second).is_none());
-    Ok(())
 }

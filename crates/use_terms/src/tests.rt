@@ -1,30 +1,31 @@
 //! Sums of zero, and others.
 use crate::simplify;
 use intern_terms::{TermRef, TermStore};
-use ra_ap_intern::{Refusal, Symbol, SymbolTable};
-use std::test::Fail;
+use ra_ap_intern::{Symbol, SymbolTable};
+use std::process::Abort;
 
 fn term(
+    rt: &impl Abort,
     names: &mut SymbolTable,
     terms: &mut TermStore,
     head: &str,
     args: &[TermRef],
-) -> Result<TermRef, Refusal> {
-    let head = Symbol::intern(names, head)?;
-    Ok(terms.term(head, args).map_err(|refused| refused.why)?.0)
+) -> TermRef {
+    let head = Symbol::intern(names, head).expect(rt, "a name");
+    let (term, _) = terms.term(head, args).ok().expect(rt, "a term");
+    term
 }
 
 #[test]
-fn a_sum_of_zero_and_a_term_is_that_term(rt: HostRuntime) -> Result<(), Fail> {
+fn a_sum_of_zero_and_a_term_is_that_term(rt: HostRuntime) {
     let mut names = SymbolTable::new(rt.alloc(), 1);
     let mut terms = TermStore::new(rt.alloc(), 2);
-    let plus = Symbol::intern(&mut names, "plus")?;
-    let zero = term(&mut names, &mut terms, "zero", &[])?;
-    let x = term(&mut names, &mut terms, "x", &[])?;
-    let sum = term(&mut names, &mut terms, "plus", &[zero, x])?;
-    let other = term(&mut names, &mut terms, "plus", &[x, zero])?;
+    let plus = Symbol::intern(&mut names, "plus").expect(&rt, "a name");
+    let zero = term(&rt, &mut names, &mut terms, "zero", &[]);
+    let x = term(&rt, &mut names, &mut terms, "x", &[]);
+    let sum = term(&rt, &mut names, &mut terms, "plus", &[zero, x]);
+    let other = term(&rt, &mut names, &mut terms, "plus", &[x, zero]);
     assert!(rt; simplify(&terms, &plus, zero, sum) == x);
     assert!(rt; simplify(&terms, &plus, zero, other) == other);
     assert!(rt; simplify(&terms, &plus, zero, x) == x);
-    Ok(())
 }

@@ -1,21 +1,28 @@
 //! A word is stored once.
 use crate::Words;
-use ra_ap_intern::Text;
-use std::test::Fail;
+use ra_ap_intern::{Interned, Text};
+use std::alloc::Global;
+use std::process::Abort;
+
+fn intern(rt: &impl Abort, alloc: Global, words: &mut Words, word: &str) -> Interned<Text> {
+    let word = Text::new(alloc, word).expect(rt, "memory");
+    words.intern(word).expect(rt, "a handle")
+}
 
 #[test]
-fn equal_words_have_one_handle(rt: HostRuntime) -> Result<(), Fail> {
+fn equal_words_have_one_handle(rt: HostRuntime) {
     let alloc = rt.alloc();
     let mut words = Words::new(alloc, 1);
-    let first = words.intern(Text::new(alloc, "hello")?)?;
-    let second = words.intern(Text::new(alloc, "hello")?)?;
-    let other = words.intern(Text::new(alloc, "goodbye")?)?;
+    let first = intern(&rt, alloc, &mut words, "hello");
+    let second = intern(&rt, alloc, &mut words, "hello");
+    let other = intern(&rt, alloc, &mut words, "goodbye");
     assert!(rt; first == second);
     assert!(rt; first != other);
     assert!(rt; words.find("hello") == Some(first.as_ref()));
     assert_eq!(rt; words.word(&other), Some("goodbye"));
-    assert_eq!(rt; words.release(first)?, None);
-    assert_eq!(rt; words.release(second)?, Some(Text::new(alloc, "hello")?));
+    let left = words.release(first).expect(&rt, "an owner");
+    assert!(rt; left.is_none());
+    let last = words.release(second).expect(&rt, "the last owner");
+    assert!(rt; last.is_some_and(|word| word.is("hello")));
     assert!(rt; words.find("hello").is_none());
-    Ok(())
 }
