@@ -18,8 +18,9 @@ use std::collections::HashSet;
 /// How many steps one type may take.
 pub const MOST_STEPS: u64 = 10_000_000;
 
-/// Makes two types equal by what it makes of the unknown types in them, and of nothing more. `Clash`
-/// and `Infinite` where nothing makes them equal. Pairs that were met are not looked into again.
+/// Makes two types equal by what it makes of the unknown types in them, and of nothing more: a most
+/// general unifier. `Clash` or `Infinite` where there is none, `TooLarge` after `MOST_STEPS` steps.
+/// Pairs that were met are not looked into again.
 pub fn unify(
     alloc: Global,
     types: &Types,
@@ -27,11 +28,14 @@ pub fn unify(
     left: TypeRef,
     right: TypeRef,
 ) -> Result<(), TypeError>
+    // What unknown types may be is what they could be, and by which the two types are one tree.
     ensures unifies { OnOk result (Unifies types.now unknowns.old unknowns.new
         (ref_name left) (ref_name right)) }
+    // There is such a choice if there was one, and if both types can be read to their leaves.
     ensures solvable { OnOk result (HasTree types.now (ref_name left) →
         HasTree types.now (ref_name right) → IsSolvable types.now unknowns.old →
         IsSolvable types.now unknowns.new) }
+    // Two types that are said to clash, or to be infinite, are one tree by no choice.
     ensures refused { IfErr result (λ e. IsConflict e →
         HaveNoUnifier types.now unknowns.old (ref_name left) (ref_name right)) }
 {
