@@ -2,6 +2,7 @@ pub mod Environments
 pub mod Occurring
 pub mod Pairs
 pub mod Searching
+pub mod Sets
 pub mod Solving
 pub mod Trees
 pub mod Underway

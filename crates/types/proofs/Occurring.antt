@@ -16,6 +16,10 @@ use Rattle.types.proofs.Unifying.{unknown_is}
 abbrev IsSmaller : State TypeNode → (ℕ → Tree) → Tree → Name → Type 0
 IsSmaller s v limit n = (t : Tree) × StandsFor s v n t × (size t < size limit)
 
+agreeing : (s : State TypeNode) (v : ℕ → Tree) (limit : Tree) (n m : Name) → Agree s v n m
+    → IsSmaller s v limit n → IsSmaller s v limit m
+agreeing s v limit n m agree less = (less.0, (agree less.0).0 less.1, less.2)
+
 module _ (s : State TypeNode) (old : Unknowns) (number : ℕ) (handle : Name) where
   -- a type is the handle's, or smaller wherever an unknown type is the handle's
   abbrev pub IsWithin : Name → Type 0
@@ -46,7 +50,7 @@ module _ (s : State TypeNode) (old : Unknowns) (number : ℕ) (handle : Name) wh
       let same = ap size (unknown_is s v n number at here.0 here.1) in
       absurd (omega (arith, here.2, same))
 
-  -- what agrees with a part of one is another
+  -- what agrees with its parts is, too
   module _ (n a b : Name) (kind : Bool) (at : shape_at s n ≡ Some (two kind a b)) (whole : IsWithin n) where
     limited : (v : ℕ → Tree) → Solves s old v → StandsFor s v handle (v number)
         → (t : Tree) × StandsFor s v n t × (size t ≤ size (v number))
@@ -55,18 +59,21 @@ module _ (s : State TypeNode) (old : Unknowns) (number : ℕ) (handle : Name) wh
       | inr smaller ↦ let here = smaller v solves stands in (here.0, here.1, omega (arith, here.2))
     ]
 
-    pub first_within : (c : Name) → ((v : ℕ → Tree) → Solves s old v → Agree s v a c) → IsWithin c
-    first_within c agree = inr (λ v solves stands.
+    smaller : (v : ℕ → Tree) → Solves s old v → StandsFor s v handle (v number)
+        → IsSmaller s v (v number) a × IsSmaller s v (v number) b
+    smaller v solves stands =
         let t = limited v solves stands in
         let o = out s v kind n a b at t.0 t.1 in
         let sizes = ap size o.is in
-        let less = first_less kind o.first o.second in
-        (o.first, (agree v solves o.first).0 o.first_is, omega (arith, sizes, less, t.2)))
+        let one = first_less kind o.first o.second in
+        let two = second_less kind o.first o.second in (
+          (o.first, o.first_is, omega (arith, sizes, one, t.2)),
+          (o.second, o.second_is, omega (arith, sizes, two, t.2)),
+        )
 
-    pub second_within : (c : Name) → ((v : ℕ → Tree) → Solves s old v → Agree s v b c) → IsWithin c
-    second_within c agree = inr (λ v solves stands.
-        let t = limited v solves stands in
-        let o = out s v kind n a b at t.0 t.1 in
-        let sizes = ap size o.is in
-        let less = second_less kind o.first o.second in
-        (o.second, (agree v solves o.second).0 o.second_is, omega (arith, sizes, less, t.2)))
+    pub parts_within : (c d : Name) → ((v : ℕ → Tree) → Solves s old v → Agree s v a c × Agree s v b d)
+        → IsWithin c × IsWithin d
+    parts_within c d agree = (
+      inr (λ v solves stands. agreeing s v (v number) a c (agree v solves).0 (smaller v solves stands).0),
+      inr (λ v solves stands. agreeing s v (v number) b d (agree v solves).1 (smaller v solves stands).1),
+    )

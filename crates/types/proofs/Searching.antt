@@ -8,12 +8,14 @@ use Rattle.ra_ap_intern.specs.Name.{Name}
 use Rattle.ra_ap_intern.specs.State.{State}
 use Rattle.types.specs.Tree.{Tree, integers, booleans, unknowns, anything, functions, pairs, UnfoldsTo}
 use Rattle.types.specs.Types.{unknown, shape_at}
-use Rattle.types.specs.Unifying.{replaced, StandsFor, Agree, IsNoUnknown, two}
+use Rattle.types.specs.Unifying.{replaced, StandsFor, Agree, IsNoUnknown, IsPrincipal, two}
+use Rattle.types.specs.declared.unknowns.Unknowns.{Unknowns}
 use Rattle.types.specs.declared.value.TypeNode.{TypeNode}
+use Rattle.types.proofs.Occurring.{AreWithin, within_popped}
 use Rattle.types.proofs.Pairs.{Handle, make, size, first_less, second_less, out}
+use Rattle.types.proofs.Sets.{Inserted}
 use Rattle.types.proofs.Solving.{Occurs}
-use Rattle.types.proofs.Underway.{Inserted}
-use Rattle.types.proofs.Unifying.{unknown_is}
+use Rattle.types.proofs.Unifying.{StillOpen, unknown_is}
 
 -- a listed handle has this name
 abbrev pub Listed : List Handle → Name → Type 0
@@ -93,12 +95,6 @@ module _ (s : State TypeNode) (v : ℕ → Tree) (number : ℕ) where
   pub searched : (handle : Name) (met : List Handle) → IsSearched handle [] met → OccursIn handle → ⊥
   searched handle met is h = nowhere met is.each (suc (size h.0)) h.0 (omega arith) handle is.whole h.1 h.2
 
-  pub search_begun : (p : Handle) → IsSearched (ref_name p) (p ∷ []) []
-  search_begun p = record {
-    whole = inl (p, Contains-push [] p, refl);
-    each = λ n in'. absurd (omega (arith, in'.1.1));
-  }
-
   module _ (handle : Name) (all rest met : List Handle) (p : Handle) (last : all ≡ rest ++ p ∷ [])
       (before : IsSearched handle all met) where
     is : IsSearched handle (rest ++ p ∷ []) met
@@ -160,3 +156,22 @@ module _ (s : State TypeNode) (v : ℕ → Tree) (number : ℕ) where
                 (q, Contains-append_left (rest ++ q ∷ []) (r ∷ []) q (Contains-push rest q), refl),
           );
         }
+
+-- ---- what holds while an unknown type is looked for among the parts of another
+
+abbrev pub Walked : (s : State TypeNode) (old : Unknowns) (number : ℕ) (handle : Name) (u : Unknowns) (todo met : List Handle)
+    → Type 0
+Walked s old number handle u todo met = StillOpen s old number u × AreWithin s old number handle todo
+    × ((v : ℕ → Tree) → IsPrincipal s old v → IsSearched s v number handle todo met)
+
+-- a part that was met, or lacks it, is passed over
+pub walked_past : (s : State TypeNode) (old : Unknowns) (number : ℕ) (handle : Name) (u w : Unknowns)
+    (all rest met : List Handle) (p : Handle) → all ≡ rest ++ p ∷ [] → Walked s old number handle u all met
+    → StillOpen s old number w
+    → ((v : ℕ → Tree) → IsPrincipal s old v → Listed met (ref_name p) ⊎ (OccursIn s v number (ref_name p) → ⊥))
+    → Walked s old number handle w rest met
+walked_past s old number handle u w all rest met p last before still here = (
+  still,
+  (within_popped s old number handle all rest p last before.1).0,
+  λ v principal. search_passed s v number handle all rest met p last (before.2 v principal) (here v principal),
+)

@@ -1,11 +1,10 @@
 -- Unification under way.
-use Rattle.std.proofs.Common.{◌≡◌, ◌↔◌, ◌⊎◌, inl, inr, ℕ, Bool, true, false, ◌&&◌, not, List, [], ◌∷◌, ◌++◌, Contains, refl, sym, ap, subst, ◌∙◌, arith}
+use Rattle.std.proofs.Common.{◌≡◌, ◌↔◌, ◌⊎◌, inl, inr, ℕ, Bool, true, false, ◌&&◌, List, [], ◌∷◌, ◌++◌, Contains, refl, sym, ap, subst, ◌∙◌, arith}
 use Rattle.std.specs.Bool.{MatchBool}
 use Rattle.std.specs.List.{list_any}
 use Rattle.std.specs.List.Sorted.{IsPermutation}
-use Rattle.std.proofs.lemmas.List.Elements.{Contains-append_cases, Contains-append_left, Contains-append_right, Contains-push, Contains-push_cases}
+use Rattle.std.proofs.lemmas.List.Elements.{Contains-append_left, Contains-push, Contains-push_cases}
 use Rattle.std.proofs.lemmas.List.Folds.{Any-from_list_any}
-use Rattle.std.proofs.lemmas.List.Sorted.{Contains-permutation, IsPermutation-sym}
 use Rattle.ra_ap_intern.specs.Handle.{ref_name}
 use Rattle.ra_ap_intern.specs.Name.{Name}
 use Rattle.ra_ap_intern.specs.State.{State}
@@ -14,31 +13,9 @@ use Rattle.types.specs.Unifying.{Solves, AreOne, Agree, HasTree, HaveNoUnifier, 
 use Rattle.types.specs.declared.unknowns.Unknowns.{Unknowns}
 use Rattle.types.specs.declared.value.TypeNode.{TypeNode}
 use Rattle.types.proofs.Pairs.{Handle, Both, Among, among_left, among_last, among_cases, among_none, parts_are_one, Linked, Covered, Justified, IsHeld, all_agree}
+use Rattle.types.proofs.Sets.{inserted}
 use Rattle.types.proofs.Solving.{parts_have_trees, agreeing_has_tree}
 use Rattle.types.proofs.Unifying.{agree_same, agree_then, agree_back}
-
--- a set, and one element more
-pub record Inserted {A : Type 0} (old new : List A) (p : A) : Type 0 where
-  pub keeps : (q : A) → Contains old q → Contains new q
-  pub here : Contains new p
-  pub cases : (q : A) → Contains new q → Contains old q ⊎ (p ≡ q)
-
-pub inserted : {A : Type 0} (old new : List A) (p : A) (added : Bool) → added ≡ true
-    → MatchBool added (IsPermutation (p ∷ old) new) (new ≡ old) → Inserted old new p
-inserted old new p added is puts =
-    let moved = subst (λ t. MatchBool t (IsPermutation (p ∷ old) new) (new ≡ old)) is puts in
-    record {
-      keeps = λ q in'. Contains-permutation (p ∷ old) new q moved (Contains-append_right (p ∷ []) old q in');
-      here = Contains-permutation (p ∷ old) new p moved (Contains-append_left (p ∷ []) old p (Contains-push [] p));
-      cases = λ q in'. elim (Contains-append_cases (p ∷ []) old q
-          (Contains-permutation new (p ∷ old) q (IsPermutation-sym (p ∷ old) new moved) in')) [
-            | inl one ↦ elim (Contains-push_cases [] p q one) [
-              | inl none ↦ absurd (omega (arith, none.1))
-              | inr same ↦ inr same
-            ]
-            | inr earlier ↦ inl earlier
-          ];
-    }
 
 -- what was met, and one pair more
 pub record MetAlso (old new : List Both) (f s : Name) : Type 0 where
@@ -71,10 +48,6 @@ met_before met eq names p found =
     and_true : (a b : Bool) → (a && b) ≡ true → (a ≡ true) × (b ≡ true)
     and_true true b is = (refl, is)
     and_true false b is = absurd (cc)
-
-pub found_if : (added found : Bool) → added ≡ false → added ≡ not found → found ≡ true
-found_if added true none is = refl
-found_if added false none is = absurd (cc)
 
 module _ (st : State TypeNode) (old : Unknowns) (left right : Name) where
   -- the solutions by which the two types are one tree are left, and by these all pairs that are

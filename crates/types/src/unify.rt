@@ -19,8 +19,9 @@ use std::collections::HashSet;
 pub const MOST_STEPS: u64 = 10_000_000;
 
 /// Makes two types equal by what it makes of the unknown types in them, and of nothing more: a most
-/// general unifier. `Clash` or `Infinite` where there is none, `TooLarge` after `MOST_STEPS` steps.
-/// Pairs that were met are not looked into again.
+/// general unifier. Refused: `Clash` or `Infinite` where there is none, `TooLarge` after `MOST_STEPS`
+/// steps, `OutOfMemory`; some unknown types may have become others then. Pairs that were met are not
+/// looked into again.
 pub fn unify(
     alloc: Global,
     types: &Types,

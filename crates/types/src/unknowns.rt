@@ -74,9 +74,9 @@ impl Unknowns {
     }
 
     /// An unknown type belongs to this level, unless it belongs to a lower one. Whether nothing is
-    /// known of it.
+    /// known of it: else it stays as it is.
     pub fn lower(&mut self, number: u64, to: u64) -> bool
-        ensures nothing { IsTrue result → IsFree self.old number }
+        ensures nothing { IsTrue result ↔ IsOpen self.old number }
         ensures solved { (s : State Node) (v : ℕ → Tree) →
             Solves s self.new v ↔ Solves s self.old v }
         ensures open { (n : ℕ) → IsOpen self.old n → IsOpen self.new n }

@@ -4,7 +4,8 @@ use Rattle.ra_ap_intern.specs.Handle.{ref_name}
 use Rattle.types.specs.Unifying.{HasTree, IsNoUnknown, IsSolvable, Unifies}
 use Rattle.types.proofs.Unifying.{same_error}
 use Rattle.types.proofs.Pairs.{Both}
-use Rattle.types.proofs.Underway.{Underway, begun, finished, passed_equal, passed_met, bound, parted, met_also, met_before, found_if, stuck, Standing, standing_begun, standing_passed, standing_bound, standing_parted}
+use Rattle.types.proofs.Sets.{found_if}
+use Rattle.types.proofs.Underway.{Underway, begun, finished, passed_equal, passed_met, bound, parted, met_also, met_before, stuck, Standing, standing_begun, standing_passed, standing_bound, standing_parted}
 use Rattle.types.proofs.unify.unify.Goals as goal
 use Rattle.types.proofs.unify.unify.Goals.{then-eq-via-then-eq, then-eq-via-else-eq+in_ok-insert+then-not-branch}
 
