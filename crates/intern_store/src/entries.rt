@@ -79,7 +79,9 @@ pub trait Pools: Entries {
         ensures entries { Self.entries self.new ≡ Self.entries self.old }
         ensures hasher { Self.hashes_by self.new ≡ Self.hashes_by self.old }
         ensures room { Self.room self.new ≡ Self.room self.old }
-        ensures spare { OnOk result (additional ≤ Self.spare self.new) };
+        ensures spare { OnOk result (additional ≤ Self.spare self.new) }
+        ensures stays { Self.spare self.old ≤ Self.spare self.new }
+        ensures succeeds { additional ≤ Self.spare self.old → IsOk result };
 }
 
 /// A table from which single entries can be removed.

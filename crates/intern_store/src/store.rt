@@ -1,5 +1,5 @@
 //! What all storages share: a table with the storage's number, its limits and the next birth.
-ghost use Rattle.std.specs.Prelude.{◌≡◌, ◌<◌, ◌≤◌, ◌==◌, if◌then◌else◌, OnOk, true, Some, None, IsSome, IfSome, IfNone, ◌≢◌, IfOk, IfErr};
+ghost use Rattle.std.specs.Prelude.{◌≡◌, ◌<◌, ◌≤◌, ◌==◌, if◌then◌else◌, OnOk, IsOk, true, Some, None, IsSome, IfSome, IfNone, ◌≢◌, IfOk, IfErr};
 ghost use Rattle.std.specs.Result.{result_ok};
 ghost use Rattle.std.specs.FinMap as map;
 ghost use Rattle.std.specs.Option.{option_map};
@@ -422,13 +422,16 @@ impl<E: Entries> Store<E> {
 }
 
 impl<E: Pools> Store<E> {
-    /// Makes room for this much more outside of the entries. Refused: `OutOfMemory`.
+    /// Makes room for this much more outside of the entries. Refused: `OutOfMemory`, where there isn't
+    /// so much yet.
     pub fn reserve_outside(&mut self, additional: usize) -> Result<(), Refusal>
         ensures refused { MayWant result None true }
+        ensures roomy { additional ≤ self.old.spare → IsOk result }
         ensures state { self.new.state ≡ self.old.state }
         ensures hasher { self.new.hasher ≡ self.old.hasher }
         ensures room { self.new.room ≡ self.old.room }
         ensures spare { OnOk result (additional ≤ self.new.spare) }
+        ensures stays { self.old.spare ≤ self.new.spare }
     {
         match self.table.reserve_outside(additional) {
             Ok(()) => Ok(()),

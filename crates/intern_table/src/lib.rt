@@ -20,6 +20,3 @@ pub use slice_iter::SliceIter;
 pub use slice_table::SliceTable;
 pub use table::Table;
 pub use text::Text;
-
-#[cfg(test)]
-mod tests;

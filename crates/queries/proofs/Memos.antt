@@ -1,7 +1,7 @@
 -- What stays true of memos.
 use Rattle.std.proofs.Common.{◌≡◌, ◌↔◌, ℕ, ◌+◌, ◌≤◌, Bool, true, false, ◌&&◌, cond, List, [], ◌∷◌, Option, Some, None, is_some, refl, sym, ap, subst, ◌∙◌, arith}
 use Rattle.std.specs.Cmp.Lexicographic.{pointwise}
-use Rattle.std.specs.HashMap.{HashMap, get}
+use Rattle.std.specs.HashMap.{HashMap}
 use Rattle.std.specs.List.{filter}
 use Rattle.std.specs.Map.{lookup}
 use Rattle.ra_ap_intern.specs.Families.{kept_named}
@@ -11,7 +11,7 @@ use Rattle.ra_ap_intern.specs.Handle.{ref_name}
 use Rattle.ra_ap_intern.specs.Name.{Name}
 use Rattle.ra_ap_intern.specs.Named.{same_name}
 use Rattle.ra_ap_intern.specs.State.{State, IsState, reads, interned, name_of_value}
-use Rattle.ra_ap_intern.proofs.CallerLemmas.{names_same, interned_reads_on, found_itself, map_named, reads-kept_named}
+use Rattle.ra_ap_intern.proofs.CallerLemmas.{names_same, interned_reads_on, found_itself, reads-kept_named}
 use Rattle.queries.specs.declared.cache.Memo.{Memo}
 use Rattle.queries.specs.declared.key.Key.{Key}
 use Rattle.queries.specs.declared.key.Key.TheVariants.{Cell, Total}
@@ -39,21 +39,6 @@ module _ (eq : Key → Key → Bool) (alike : (a b : Key) → (eq a b ≡ true) 
       → None ≡ name_of_value eq s key → reads s name ≡ Some key → ⊥
   found_none s ok key name at read =
       let found = at ∙ found_itself eq alike s ok key name read in absurd (cc)
-
--- ---- memos are found by names
-
-module _ {S : Type 0} (eq : Handle → Handle → Bool)
-    (named : (a b : Handle) → eq a b ≡ same_name (ref_name a) (ref_name b)) where
-  pub memo_by : (m : HashMap Handle Memo S) (h : Handle) → get eq m h ≡ memo_in m (ref_name h)
-  memo_by m h = map_named eq same_name ref_name named m h
-
-  -- after a memo is put under a handle, or taken away
-  pub memo_updated : (old new : HashMap Handle Memo S) (handle : Handle) (memo : Option Memo)
-      → ((h : Handle) → get eq new h ≡ cond (eq handle h) memo (get eq old h)) → (h : Handle)
-      → memo_in new (ref_name h)
-      ≡ cond (same_name (ref_name handle) (ref_name h)) memo (memo_in old (ref_name h))
-  memo_updated old new handle memo is h =
-      sym (memo_by new h) ∙ is h ∙ (λ i. cond (named handle h i) memo (memo_by old h i))
 
 -- a memo that was taken away
 pub none_here : (t : Bool) (before : Option Memo) → t ≡ true → cond t None before ≡ None

@@ -1,5 +1,6 @@
 -- Symbols and the texts that they name: what a table names after an interning.
-use Rattle.std.proofs.Common.{◌≡◌, ◌↔◌, ℕ, Bool, true, false, cond, List, Option, Some, None, refl, sym, ap, ◌∙◌}
+use Rattle.std.proofs.Common.{◌≡◌, ◌↔◌, ℕ, Bool, true, false, cond, List, Option, Some, None, refl, sym, ap, subst, ◌∙◌}
+use Rattle.std.specs.HashMap.{HashMap, get, get_by}
 use Rattle.std.specs.Option.{option_map}
 use Rattle.std.specs.Str.{bytes_eq}
 use Rattle.std.specs.Cmp.Lexicographic.{nat_list_eq_equiv}
@@ -18,7 +19,7 @@ use Rattle.intern_store.proofs.Named.{names_same, same_names}
 use Rattle.ra_ap_intern.proofs.CallerInterning.{found_reads, read_found, interned_counted_reads}
 use Rattle.ra_ap_intern.proofs.CallerReads.{reads-added, counted_up_reads, interned_counted_reads_on}
 use Rattle.ra_ap_intern.proofs.CallerStates.{state_interned_counted}
-use Rattle.ra_ap_intern.proofs.CallerViews.{equality_tested}
+use Rattle.ra_ap_intern.proofs.CallerViews.{equality_tested, map_named, map_changed}
 use Rattle.ra_ap_intern.proofs.Texts.{reads_back as symbol_reads}
 
 -- symbols that are found to name the same do
@@ -46,6 +47,23 @@ pub references_tested : (eq : SymbolRef → SymbolRef → Bool)
     → (a b : SymbolRef) → eq a b ≡ same_named (symbol_ref_name a) (symbol_ref_name b)
 references_tested eq alike =
     equality_tested eq same_named symbol_ref_name alike named_same same_nameds
+
+-- a map under symbols is read by what they name, also after a value was put under one or taken away
+module _ {M S : Type 0} (eq : SymbolRef → SymbolRef → Bool)
+    (alike : (a b : SymbolRef) → (eq a b ≡ true) ↔ (symbol_ref_name a ≡ symbol_ref_name b)) where
+  pub symbols_named : (m : HashMap SymbolRef M S) (a : SymbolRef)
+      → get eq m a ≡ get_by (λ s. same_named (symbol_ref_name a) (symbol_ref_name s)) m
+  symbols_named = map_named eq same_named symbol_ref_name (references_tested eq alike)
+
+  pub symbols_changed : (old new : HashMap SymbolRef M S) (key : SymbolRef) (value : Option M)
+      → ((q : SymbolRef) → get eq new q ≡ cond (eq key q) value (get eq old q)) → (a : Named)
+      → get_by (λ s. same_named a (symbol_ref_name s)) new
+      ≡ cond (same_named (symbol_ref_name key) a) value (get_by (λ s. same_named a (symbol_ref_name s)) old)
+  symbols_changed old new key value is a =
+      let r = named_by a in
+      subst (λ b. get_by (λ s. same_named b (symbol_ref_name s)) new
+      ≡ cond (same_named (symbol_ref_name key) b) value (get_by (λ s. same_named b (symbol_ref_name s)) old)) r.1
+      (map_changed eq same_named symbol_ref_name (references_tested eq alike) old new key value is r.0)
 
 -- a table stays one where a text is interned that nothing refuses
 pub state_symbol : (s : State (List ℕ)) (text : List ℕ) → IsState bytes_eq s

@@ -1,6 +1,6 @@
 -- What is known of values that are equal exactly if they are seen as the same, and what a collection
 -- leaves of them.
-use Rattle.std.proofs.Common.{◌≡◌, ◌↔◌, Bool, true, false, ◌&&◌, List, [], ◌∷◌, map, Option, Some, None, IsSome, is_some, Result, Ok, Err, IfOk, OnErr, refl, sym, ap, subst, ◌∙◌}
+use Rattle.std.proofs.Common.{◌≡◌, ◌↔◌, Bool, true, false, ◌&&◌, cond, List, [], ◌∷◌, map, Option, Some, None, IsSome, is_some, Result, Ok, Err, IfOk, OnErr, refl, sym, ap, subst, ◌∙◌}
 use Rattle.std.specs.Cmp.{IsEquivalence}
 use Rattle.std.specs.HashMap.{HashMap, get, get_by}
 use Rattle.std.specs.List.{flat_map}
@@ -139,10 +139,18 @@ handles_tested eq name alike =
     equality_tested eq same_name name alike names_same (λ n. same_names n n refl)
 
 -- a map under handles is read by what they name
-pub map_named : {H N M S : Type 0} (eq : H → H → Bool) (test : N → N → Bool) (view : H → N)
-    → ((a b : H) → eq a b ≡ test (view a) (view b)) → (m : HashMap H M S) (h : H)
-    → get eq m h ≡ lookup (λ r. test (view h) (view r)) m.entries
-map_named eq test view tested m h = λ i. get_by (λ r. tested h r i) m
+module _ {H N M S : Type 0} (eq : H → H → Bool) (test : N → N → Bool) (view : H → N)
+    (tested : (a b : H) → eq a b ≡ test (view a) (view b)) where
+  pub map_named : (m : HashMap H M S) (h : H) → get eq m h ≡ get_by (λ r. test (view h) (view r)) m
+  map_named m h = λ i. get_by (λ r. tested h r i) m
+
+  -- after a value was put under a handle, or taken away
+  pub map_changed : (old new : HashMap H M S) (handle : H) (value : Option M)
+      → ((h : H) → get eq new h ≡ cond (eq handle h) value (get eq old h)) → (h : H)
+      → get_by (λ r. test (view h) (view r)) new
+      ≡ cond (test (view handle) (view h)) value (get_by (λ r. test (view h) (view r)) old)
+  map_changed old new handle value is h =
+      sym (map_named new h) ∙ is h ∙ (λ i. cond (tested handle h i) value (map_named old h i))
 
 -- what a collection keeps of a reached value: those of its parts that are read
 pub part_kept : {V X : Type 0} (view : V → X) (parts : X → List Name) (begins : Name → Bool)

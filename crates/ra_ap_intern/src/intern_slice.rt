@@ -4,7 +4,7 @@
 //! entries stay until a collection. The items of all entries lie in one vector.
 //!
 //! A handle that is dropped without `release` keeps its count.
-ghost use Rattle.std.specs.Prelude.{◌≡◌, ◌≤◌, if◌then◌else◌, None, OnOk, length, true, Bool, IsPermutation, IfOk};
+ghost use Rattle.std.specs.Prelude.{◌≡◌, ◌≤◌, if◌then◌else◌, None, IsOk, OnOk, length, true, Bool, IsPermutation, IfOk};
 ghost use Rattle.std.specs.Option.{option_map};
 ghost use Rattle.intern_store.specs.Outcome.{OwesBack, MayWant, MayWantBack, Becomes, Spends};
 ghost use Rattle.intern_store.specs.State.{HasRoom, name_of_value, reads, counted_down, due, zero_count};
@@ -73,12 +73,15 @@ impl<T: SliceInternable, B: BuildHasher> InternSliceStorage<T, B> {
 }
 
 impl<T: SliceInternable, B: BuildHasher> Reserved<Slices<T>, B> {
-    /// Makes room for this many more items, of all slices together. Refused: `OutOfMemory`.
+    /// Makes room for this many more items, of all slices together. Refused: `OutOfMemory`, where
+    /// there isn't room for so many yet; what there was stays.
     pub fn reserve_items(&mut self, additional: usize) -> Result<(), Refusal>
         ensures refused { MayWant result None true }
+        ensures roomy { additional ≤ self.old.store.spare → IsOk result }
         ensures state { self.new.store.state ≡ self.old.store.state }
         ensures room { self.new.store.room ≡ self.old.store.room }
         ensures items { OnOk result (additional ≤ self.new.store.spare) }
+        ensures stays { self.old.store.spare ≤ self.new.store.spare }
     {
         self.store.reserve_outside(additional)
     }

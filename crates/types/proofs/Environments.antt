@@ -17,7 +17,7 @@ use Rattle.ra_ap_intern.specs.declared.gc.Collected.{Collected}
 use Rattle.ra_ap_intern.specs.declared.kind.Values.{Values}
 use Rattle.ra_ap_intern.specs.declared.storage.Ref.{Ref}
 use Rattle.ra_ap_intern.specs.declared.symbol.SymbolRef.{SymbolRef}
-use Rattle.ra_ap_intern.proofs.CallerLemmas.{entry_read, named_by, references_tested, reads-kept_named, root_kept, same_names}
+use Rattle.ra_ap_intern.proofs.CallerLemmas.{entry_read, reads-kept_named, root_kept, same_names, symbols_changed}
 use Rattle.types.specs.Environment.{declared_as, declared_types, Declares}
 use Rattle.types.specs.Growing.{Grows}
 use Rattle.types.specs.Making.{ReadsOn}
@@ -89,29 +89,21 @@ left : {A : Type 0} (t : Bool) (x y : A) → t ≡ false → cond t x y ≡ y
 left true x y is = absurd (cc)
 left false x y is = refl
 
-module _ (eq : SymbolRef → SymbolRef → Bool)
-    (alike : (a b : SymbolRef) → (eq a b ≡ true) ↔ (symbol_ref_name a ≡ symbol_ref_name b)) where
-  module _ {S : Type 0} where
-    pub type_of : (m : HashMap SymbolRef (Ref (Values TypeNode)) S) (a : SymbolRef)
-        → option_map ref_name (get eq m a) ≡ declared_as m (symbol_ref_name a)
-    type_of m a = λ i. option_map ref_name (get_by (λ b. references_tested eq alike a b i) m)
-
-    -- a type under the symbol of a name, and each other as it was
-    pub declared_on : (m n : HashMap SymbolRef (Ref (Values TypeNode)) S) (key : SymbolRef)
-        (v : Ref (Values TypeNode))
-        → ((q : SymbolRef) → get eq n q ≡ cond (eq key q) (Some v) (get eq m q)) → (a : Named)
-        → declared_as n a ≡ cond (same_named (symbol_ref_name key) a) (Some (ref_name v)) (declared_as m a)
-    declared_on m n key v put a =
-        let r = named_by a in
-        subst (λ a. declared_as n a ≡ cond (same_named (symbol_ref_name key) a) (Some (ref_name v)) (declared_as m a))
-        r.1 (sym (type_of n r.0) ∙ ap (option_map ref_name) (put r.0)
-        ∙ through (eq key r.0) (get eq m r.0)
-        ∙ (λ i. cond (references_tested eq alike key r.0 i) (Some (ref_name v)) (type_of m r.0 i)))
-      where
-        through : (t : Bool) (o : Option (Ref (Values TypeNode)))
-            → option_map ref_name (cond t (Some v) o) ≡ cond t (Some (ref_name v)) (option_map ref_name o)
-        through true o = refl
-        through false o = refl
+-- a type under the symbol of a name, and each other as it was
+pub declared_on : {S : Type 0} (eq : SymbolRef → SymbolRef → Bool)
+    → ((a b : SymbolRef) → (eq a b ≡ true) ↔ (symbol_ref_name a ≡ symbol_ref_name b))
+    → (m n : HashMap SymbolRef (Ref (Values TypeNode)) S) (key : SymbolRef) (v : Ref (Values TypeNode))
+    → ((q : SymbolRef) → get eq n q ≡ cond (eq key q) (Some v) (get eq m q)) → (a : Named)
+    → declared_as n a ≡ cond (same_named (symbol_ref_name key) a) (Some (ref_name v)) (declared_as m a)
+declared_on eq alike m n key v put a =
+    ap (option_map ref_name) (symbols_changed eq alike m n key (Some v) put a)
+    ∙ through (same_named (symbol_ref_name key) a)
+    (get_by (λ s. same_named a (symbol_ref_name s)) m)
+  where
+    through : (t : Bool) (o : Option (Ref (Values TypeNode)))
+        → option_map ref_name (cond t (Some v) o) ≡ cond t (Some (ref_name v)) (option_map ref_name o)
+    through true o = refl
+    through false o = refl
 
 module _ {S : Type 0} (m n : HashMap SymbolRef (Ref (Values TypeNode)) S) where
   pub others_stay : (key : SymbolRef) (v : Name) (a : Named)

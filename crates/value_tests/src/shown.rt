@@ -2,7 +2,7 @@
 use crate::steps::is_equal;
 use crate::words::{Words, frees, intern_new};
 use intern_fixtures::{Word, allowed, drop_values, limited_values, make_word, new_values};
-use ra_ap_intern::{InternStorage, Interned, InternedRef, Limits, Refusal, Text};
+use ra_ap_intern::{InternStorage, Interned, InternedRef, Limits, Refusal, Refused, Text};
 use std::alloc::Global;
 use std::process::Abort;
 
@@ -94,6 +94,20 @@ fn a_refusal_is_passed_on(rt: HostRuntime) {
     );
     is_equal(&rt, Limits::default(), Limits::MAX);
     drop_values(storage);
+}
+
+#[test]
+fn what_comes_back_is_shown_by_the_reason(rt: HostRuntime) {
+    let refused = Refused {
+        why: Refusal::CountFull,
+        back: 1u64,
+    };
+    let shown: Result<_, _> = format!(in rt.alloc(); "{refused}");
+    is_equal(
+        &rt,
+        shown.expect(&rt, "memory").as_str(),
+        "the entry's count is at its limit; release an owner first",
+    );
 }
 
 /// The word of a text.
