@@ -1,6 +1,7 @@
 //! Slices.
+use crate::counts::is_told;
 use crate::marks::{marks_by, marks_of};
-use intern_store::{Entries, Refusal, Store};
+use intern_store::{Refusal, Store};
 use intern_table::SliceTable;
 use std::cmp::Eq;
 use std::hash::Hash;
@@ -157,8 +158,7 @@ fn a_walk_counts_slices(rt: HostRuntime) {
     let table = store.table();
     assert_eq!(rt; table.counts().count(), 3);
     for (spot, count) in table.counts() {
-        assert_eq!(rt; table.place(spot.birth), Some(spot.place));
-        assert_eq!(rt; count, if spot.birth == 1 { 1 } else { 0 });
+        is_told(&rt, table, spot, count, if spot.birth == 1 { 1 } else { 0 });
     }
 }
 

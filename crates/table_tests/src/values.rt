@@ -1,8 +1,9 @@
 //! Values.
 ghost use Rattle.std.specs.Prelude.{[], refl};
 
+use crate::counts::is_told;
 use crate::marks::{marks_by, marks_of};
-use intern_store::{Entries, Store};
+use intern_store::Store;
 use intern_table::Table;
 use std::cmp::Eq;
 use std::hash::{Hash, Hasher};
@@ -70,8 +71,7 @@ fn a_walk_counts_values(rt: HostRuntime) {
     let table = store.table();
     assert_eq!(rt; table.counts().count(), 3);
     for (spot, count) in table.counts() {
-        assert_eq!(rt; table.place(spot.birth), Some(spot.place));
-        assert_eq!(rt; count, if spot.birth == 1 { 2 } else { 1 });
+        is_told(&rt, table, spot, count, if spot.birth == 1 { 2 } else { 1 });
     }
 }
 

@@ -1,0 +1,9 @@
+//! What a walk over the counts tells.
+use intern_store::{Entries, Spot};
+use std::process::Abort;
+
+/// Checks that a walk tells the place of an entry, and this count.
+pub(crate) fn is_told(rt: &impl Abort, table: &impl Entries, spot: Spot, told: u64, count: u64) {
+    assert_eq!(rt; table.place(spot.birth), Some(spot.place));
+    assert_eq!(rt; told, count);
+}
