@@ -31,7 +31,7 @@ use crate::symbols::{Call, Symbols};
 use crate::two_texts::check_two_texts;
 use crate::values::{OneHash, Term};
 use crate::worlds::{check_keeping, check_new, check_one_value, check_runs};
-use ra_ap_intern::{InternSliceStorage, InternStorage, Text};
+use ra_ap_intern::{InternSliceStorage, InternStorage, NearSliceStorage, Text};
 use std::alloc::Global;
 use std::process::ExitCode;
 
@@ -41,6 +41,7 @@ fn check_all(rt: &(impl Print + Eprint), alloc: Global) -> Result<(), Fault> {
     check(rt, alloc, InternStorage::<OneHash>::new(alloc, 2))?;
     check(rt, alloc, InternStorage::<Term>::new(alloc, 3))?;
     check(rt, alloc, InternSliceStorage::<Row>::new(alloc, 4))?;
+    check(rt, alloc, NearSliceStorage::<Row, 2>::new(alloc, 5))?;
     check(rt, alloc, Symbols::new(alloc, Call::Intern))?;
     check(rt, alloc, Symbols::new(alloc, Call::Integer))?;
     check(rt, alloc, Symbols::new(alloc, Call::Generated))?;

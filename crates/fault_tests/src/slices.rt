@@ -5,8 +5,8 @@ use crate::fault::{Fault, ensure, refused};
 use crate::storage::Storage;
 use crate::values::text_of;
 use ra_ap_intern::{
-    HeaderSlice, InternSliceStorage, InternedSlice, InternedSliceRef, Refused, SliceInternable,
-    Text,
+    FixedState, HeaderSlice, InternSliceStorage, InternedSlice, InternedSliceRef, Layout, Refused,
+    SliceInternable, Text,
 };
 use std::alloc::{AllocError, Global};
 
@@ -53,12 +53,12 @@ impl Input {
     }
 }
 
-impl Storage for InternSliceStorage<Row> {
+impl<L: Layout<u64>> Storage for InternSliceStorage<Row, FixedState, L> {
     type Input = Input;
 
     type Offer = Text;
 
-    type Reference = InternedSliceRef<Row>;
+    type Reference = InternedSliceRef<Row, L>;
 
     fn call(&self) -> &'static str {
         "InternedSlice::from_header_and_slice"
@@ -72,7 +72,7 @@ impl Storage for InternSliceStorage<Row> {
         Text::new(alloc, input.header.as_str())
     }
 
-    fn store(&mut self, offer: Text, input: &Input) -> Result<InternedSliceRef<Row>, Fault> {
+    fn store(&mut self, offer: Text, input: &Input) -> Result<InternedSliceRef<Row, L>, Fault> {
         match InternedSlice::from_header_and_slice(self, offer, input.items.as_slice()) {
             Ok((reference, None)) => Ok(reference),
             Ok(_) => Err(Fault::Wrong("a new header came back")),
@@ -81,10 +81,11 @@ impl Storage for InternSliceStorage<Row> {
     }
 
     fn lengths(&self) -> (usize, usize) {
-        (self.len(), self.iter().count())
+        let len = self.len();
+        (len, self.iter().take(len.saturating_add(1)).count())
     }
 
-    fn shows(&self, reference: InternedSliceRef<Row>, input: &Input, number: u64) -> bool {
+    fn shows(&self, reference: InternedSliceRef<Row, L>, input: &Input, number: u64) -> bool {
         reference.name().birth == number
             && self.get(&input.header, input.items.as_slice()) == Some(reference)
             && input.is_read(reference.get(self))
@@ -95,13 +96,13 @@ impl Storage for InternSliceStorage<Row> {
         true
     }
 
-    fn free(&mut self, _reference: InternedSliceRef<Row>, _input: &Input) -> Result<(), Fault> {
+    fn free(&mut self, _reference: InternedSliceRef<Row, L>, _input: &Input) -> Result<(), Fault> {
         Err(Fault::Wrong("a slice stays"))
     }
 
     fn pass(
         &mut self,
-        reference: InternedSliceRef<Row>,
+        reference: InternedSliceRef<Row, L>,
         offer: Text,
         input: &Input,
     ) -> Result<(), Fault> {
@@ -113,9 +114,9 @@ impl Storage for InternSliceStorage<Row> {
 }
 
 // Interns a slice that is stored: its header comes back.
-fn intern_again(
-    storage: &mut InternSliceStorage<Row>,
-    reference: InternedSliceRef<Row>,
+fn intern_again<L: Layout<u64>>(
+    storage: &mut InternSliceStorage<Row, FixedState, L>,
+    reference: InternedSliceRef<Row, L>,
     offer: Text,
     input: &Input,
 ) -> Result<(), Fault> {
@@ -129,9 +130,9 @@ fn intern_again(
 }
 
 // Makes two owned handles, and releases the first. The second is dropped, and keeps its count.
-fn own_twice(
-    storage: &mut InternSliceStorage<Row>,
-    reference: InternedSliceRef<Row>,
+fn own_twice<L: Layout<u64>>(
+    storage: &mut InternSliceStorage<Row, FixedState, L>,
+    reference: InternedSliceRef<Row, L>,
     input: &Input,
 ) -> Result<(), Fault> {
     let owned = reference.to_owned(storage)?;

@@ -4,8 +4,8 @@ use anyhow::{Result, bail, ensure};
 
 /// How the program is called.
 pub(crate) const USAGE: &str =
-    "usage: intern_bench NAME GROUP N, where GROUP is sym, val, churn, slice, chain, fan, dag, \
-     churned, terms or terms_plain and N is a number of entries";
+    "usage: intern_bench NAME GROUP N, where GROUP is sym, val, churn, slice, near, chain, fan, \
+     dag, churned, terms or terms_plain and N is a number of entries";
 
 /// What is stored, and what happens to it.
 #[derive(Clone, Copy)]
@@ -18,6 +18,8 @@ pub(crate) enum Group {
     Churn,
     /// Collected slices of four items.
     Slices,
+    /// Such slices, whose items lie in their entries.
+    Near,
     /// Collected nodes, each of which refers to the one before it.
     Chain,
     /// Such nodes, all of which refer to one.
@@ -39,6 +41,7 @@ impl Group {
             "val" => Ok(Group::Values),
             "churn" => Ok(Group::Churn),
             "slice" => Ok(Group::Slices),
+            "near" => Ok(Group::Near),
             "chain" => Ok(Group::Chain),
             "fan" => Ok(Group::Fan),
             "dag" => Ok(Group::Dag),

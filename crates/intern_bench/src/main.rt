@@ -23,7 +23,7 @@ use arguments::{Group, Job, USAGE};
 use intern_terms::TermStore;
 use keepers::Bare;
 use memory::Memory;
-use ra_ap_intern::{InternSliceStorage, InternStorage, SymbolTable};
+use ra_ap_intern::{InternSliceStorage, InternStorage, NearSliceStorage, SymbolTable};
 use shapes::Shape;
 use slices::Row;
 use std::alloc::Global;
@@ -43,6 +43,7 @@ fn measure_group(rt: &(impl Clock + Memory + Print), alloc: Global, job: &Job<'_
         Group::Values => workload::measure_all::<InternStorage<Number>>(rt, alloc, job, &COUNTED),
         Group::Churn => churn::measure_all::<InternStorage<Number>>(rt, alloc, job),
         Group::Slices => workload::measure_all::<InternSliceStorage<Row>>(rt, alloc, job, &SLICES),
+        Group::Near => workload::measure_all::<NearSliceStorage<Row, 4>>(rt, alloc, job, &SLICES),
         Group::Chain => collections::measure_all(rt, alloc, job, Shape::chain(job.entries)),
         Group::Fan => collections::measure_all(rt, alloc, job, Shape::fan(job.entries)),
         Group::Dag => collections::measure_all(rt, alloc, job, Shape::dag(job.entries)),

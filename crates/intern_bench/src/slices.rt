@@ -5,7 +5,10 @@ ghost use Rattle.std.specs.Prelude.{true};
 
 use crate::numbers::Generator;
 use crate::storage::Storage;
-use ra_ap_intern::{InternSliceStorage, InternedSlice, InternedSliceRef, Refusal, SliceInternable};
+use ra_ap_intern::{
+    FixedState, InternSliceStorage, InternedSlice, InternedSliceRef, Layout, Refusal,
+    SliceInternable,
+};
 use std::alloc::{AllocError, Global};
 
 /// A header with its items.
@@ -25,12 +28,12 @@ impl SliceInternable for Row {
     ghost USE_GC = { true };
 }
 
-impl Storage for InternSliceStorage<Row> {
+impl<L: Layout<u32>> Storage for InternSliceStorage<Row, FixedState, L> {
     type Input = Row;
 
-    type Handle = InternedSliceRef<Row>;
+    type Handle = InternedSliceRef<Row, L>;
 
-    fn make(alloc: Global) -> InternSliceStorage<Row> {
+    fn make(alloc: Global) -> InternSliceStorage<Row, FixedState, L> {
         InternSliceStorage::new(alloc, 0)
     }
 
@@ -51,7 +54,7 @@ impl Storage for InternSliceStorage<Row> {
         self.len()
     }
 
-    fn intern(&mut self, input: &Row) -> Result<InternedSliceRef<Row>, Refusal> {
+    fn intern(&mut self, input: &Row) -> Result<InternedSliceRef<Row, L>, Refusal> {
         match InternedSlice::from_header_and_slice(self, input.header, input.items.as_slice()) {
             Ok((handle, _)) => Ok(handle),
             Err(refused) => Err(refused.why),
@@ -59,7 +62,7 @@ impl Storage for InternSliceStorage<Row> {
     }
 
     // The header, the number of items, and the items.
-    fn read(&self, handle: &InternedSliceRef<Row>) -> Result<u64, Refusal> {
+    fn read(&self, handle: &InternedSliceRef<Row, L>) -> Result<u64, Refusal> {
         let Some(row) = handle.get(self) else {
             return Err(Refusal::Gone);
         };
@@ -71,7 +74,7 @@ impl Storage for InternSliceStorage<Row> {
     }
 
     // A reference counts nothing.
-    fn release(&mut self, _handle: InternedSliceRef<Row>) -> Result<(), Refusal> {
+    fn release(&mut self, _handle: InternedSliceRef<Row, L>) -> Result<(), Refusal> {
         Ok(())
     }
 }

@@ -313,19 +313,20 @@ impl<T, N: Copy, B: Births> Index<T, N, B> {
 }
 
 impl<T, N: Copy> Index<T, N, BirthOrder> {
-    /// Where the entry of a rank in the order of births lies; none behind the last. `before` is what
-    /// was answered for the rank before, none for rank 0: births in row are looked for from there.
-    pub fn spot(&self, at: usize, before: Option<Spot>) -> Option<Spot>
+    /// The entry of a rank in the order of births: where it lies, its value and its payload; none
+    /// behind the last. `before` is where the entry of the rank before lies, none for rank 0: births
+    /// in row are looked for from there.
+    pub fn nth(&self, at: usize, before: Option<Spot>) -> Option<(Spot, &T, N)>
         requires within { at ≤ map.len self.now.entries }
         requires before { before ≡ spot_before self.now.entries at }
-        ensures { result ≡ spot_at self.now.entries at }
+        ensures spot { option_map (λ r. r.0) result ≡ spot_at self.now.entries at }
+        ensures entry { IfSome result (λ r. map.get self.now.entries r.0.birth
+            ≡ Some (record { place = r.0.place; value = r.1.now; payload = r.2 })) }
     {
         let place = self.births.place(&self.slots, at, before)?;
         let entry = &self.slots[place];
-        Some(Spot {
-            birth: entry.birth,
-            place,
-        })
+        let birth = entry.birth;
+        Some((Spot { birth, place }, &entry.value, entry.payload))
     }
 }
 

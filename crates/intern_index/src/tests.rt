@@ -329,13 +329,15 @@ fn ends_with(rt: &impl Abort, numbers: &Numbers<BirthOrder>, spots: &[Spot]) {
     let before = numbers.index.len().saturating_sub(spots.len());
     let mut last = None;
     for at in 0..numbers.index.len() {
-        let found = numbers.index.spot(at, last);
+        let (spot, _, _) = numbers
+            .index
+            .nth(at, last)
+            .expect(rt, "a rank has no entry");
         if at >= before {
-            let told = found.map(|it| (it.birth, it.place));
             let wanted = spots.get(at - before).map(|it| (it.birth, it.place));
-            assert_eq!(rt; told, wanted);
+            assert_eq!(rt; Some((spot.birth, spot.place)), wanted);
         }
-        last = found;
+        last = Some(spot);
     }
 }
 

@@ -1,6 +1,6 @@
 -- What an index of slices has with the items of all, and the entries that it is seen as.
-use Rattle.std.proofs.Common.{◌≡◌, ◌⊎◌, inl, inr, ℕ, ◌+◌, ◌-◌, ◌<◌, ◌≤◌, Bool, true, false, cond, List, [], ◌++◌, length, take, drop, Option, Some, None, IsSome, is_some, refl, sym, ap, subst, ◌∙◌, arith, append_assoc, length-append, length-drop}
-use Rattle.std.proofs.Math.Seq.{take_at, drop_at}
+use Rattle.std.proofs.Common.{◌≡◌, ◌⊎◌, inl, inr, ℕ, ◌+◌, ◌-◌, ◌<◌, ◌≤◌, Bool, true, false, cond, List, [], ◌++◌, length, take, drop, Option, Some, None, IfSome, IsSome, is_some, refl, sym, ap, subst, ◌∙◌, arith, append_assoc, length-append, length-drop}
+use Rattle.std.proofs.Math.Seq.{take-length, take_at, drop_at}
 use Rattle.std.proofs.lemmas.List.{append-nil, length-take, take-append-le, take-append-drop}
 use Rattle.std.specs.Option.{option_map}
 use Rattle.std.specs.Hash as fed
@@ -12,11 +12,12 @@ use Rattle.std.proofs.lemmas.Bool.{cases_eq, cases_lt, and_parts}
 use Rattle.std.proofs.lemmas.Option.{same_Some}
 use Rattle.intern_store.specs.Kept.{Kept, recounted}
 use Rattle.intern_store.proofs.Compared.{get-inserted, get-retained}
-use Rattle.intern_index.specs.IndexEntry.{IndexEntry, Indexed, IsLed, with_payload}
+use Rattle.intern_index.specs.IndexEntry.{Indexed, IsLed, with_payload}
 use Rattle.intern_store.specs.Maps.{map_values}
 use Rattle.intern_table.specs.Sliced.{Sliced, sliced_eq, sliced_input}
-use Rattle.intern_table.specs.Read.{shown}
-use Rattle.intern_table.specs.Joined.{end_of, read_entry, sliced_entry, sliced_hash, IsLaid, IsCovered, IsJoined}
+use Rattle.intern_table.specs.Read.{shown, shown_row}
+use Rattle.intern_table.specs.Joined.{Row, far, far_length, items_in, end_of, read_entry, sliced_entry, sliced_hash, IsLaid, IsCovered, IsJoined}
+use Rattle.intern_table.specs.declared.layout.SliceRow.{SliceRow}
 use Rattle.intern_table.specs.declared.pool.SlicePayload.{SlicePayload}
 use Rattle.intern_store.proofs.Chosen.{here, away}
 use Rattle.intern_index.proofs.Seen.{alike_led, changed_seen}
@@ -54,38 +55,53 @@ module _ {S : Type 0} where
   pub cut_back : (start : ℕ) (xs ys longer shorter : List S) → longer ≡ xs ++ ys → start ≡ length xs → shorter ≡ take start longer → shorter ≡ xs
   cut_back start xs ys longer shorter more begins cut = cut ∙ ap (take start) more ∙ take_at xs ys start (sym begins)
 
+  -- more items behind those in the vector change nothing that an entry reads
+  same_items : (own : Option (List S)) (start n : ℕ) (xs ys : List S) → start + far_length own n ≤ length xs → items_in own start n (xs ++ ys) ≡ items_in own start n xs
+  same_items (Some own) start n xs ys fits = refl
+  same_items None start n xs ys fits = same_part start n xs ys fits
+
+  -- an entry reads what was put behind all items, or what it has itself
+  pub added_items : (own : Option (List S)) (start : ℕ) (xs before items : List S) → IfSome own (λ zs. take (length xs) zs ≡ xs) → start ≡ length before → items ≡ before ++ take (far_length own (length xs)) xs → items_in own start (length xs) items ≡ xs
+  added_items (Some own) start xs before items has begins more = has
+  added_items None start xs before items has begins more = ap (λ zs. take (length xs) (drop start zs)) (more ∙ ap (λ zs. before ++ zs) (take-length xs)) ∙ last_part start (length xs) before xs begins refl
+
+  -- as many items are put there as are to lie there
+  pub added_length : (own : Option (List S)) (xs : List S) → far_length own (length xs) ≡ length (take (far_length own (length xs)) xs)
+  added_length (Some own) xs = refl
+  added_length None xs = sym (ap length (take-length xs))
+
 -- a payload with another count
 abbrev pub recount : (ℕ → ℕ) → SlicePayload → SlicePayload
 recount g p = record p { count = g p.count }
 
-module _ {H : Type 0} where
+module _ {H S A : Type 0} (near : A → Option (List S)) where
   -- lists that lie where others did lie in order
-  laid_by : (m n : FinMap nat_cmp (IndexEntry H SlicePayload)) (k : ℕ) → ((b : ℕ) (r : IndexEntry H SlicePayload) → get n b ≡ Some r → (s : IndexEntry H SlicePayload) × (get m b ≡ Some s) × (r.payload.start ≡ s.payload.start) × (r.payload.length ≡ s.payload.length))
-      → IsLaid m k → IsLaid n k
+  laid_by : (m n : FinMap nat_cmp (Row H A)) (k : ℕ) → ((b : ℕ) (r : Row H A) → get n b ≡ Some r → (s : Row H A) × (get m b ≡ Some s) × (r.payload.start ≡ s.payload.start) × (far near r ≡ far near s))
+      → IsLaid near m k → IsLaid near n k
   laid_by m n k was is = record {
     within = λ b r at.
         let w = was b r at in
         let starts : r.payload.start ≡ w.0.payload.start = w.2 in
-        let long : r.payload.length ≡ w.0.payload.length = w.3 in
-        let fits : w.0.payload.start + w.0.payload.length ≤ k = is.within b w.0 w.1 in
+        let long : far near r ≡ far near w.0 = w.3 in
+        let fits : end_of near w.0 ≤ k = is.within b w.0 w.1 in
         omega arith;
     apart = λ b c r s below at its.
         let w = was b r at in
         let x = was c s its in
         let starts : r.payload.start ≡ w.0.payload.start = w.2 in
-        let long : r.payload.length ≡ w.0.payload.length = w.3 in
+        let long : far near r ≡ far near w.0 = w.3 in
         let next : s.payload.start ≡ x.0.payload.start = x.2 in
-        let fits : w.0.payload.start + w.0.payload.length ≤ x.0.payload.start = is.apart b c w.0 x.0 below w.1 x.1 in
+        let fits : end_of near w.0 ≤ x.0.payload.start = is.apart b c w.0 x.0 below w.1 x.1 in
         omega arith;
   }
 
   -- lists that lie where others did have the items that those had
-  covered_by : (m n : FinMap nat_cmp (IndexEntry H SlicePayload)) (i : ℕ) → ((b : ℕ) (r : IndexEntry H SlicePayload) → get m b ≡ Some r → (s : IndexEntry H SlicePayload) × (get n b ≡ Some s) × (s.payload.start ≡ r.payload.start) × (s.payload.length ≡ r.payload.length))
-      → IsCovered m i → IsCovered n i
+  covered_by : (m n : FinMap nat_cmp (Row H A)) (i : ℕ) → ((b : ℕ) (r : Row H A) → get m b ≡ Some r → (s : Row H A) × (get n b ≡ Some s) × (s.payload.start ≡ r.payload.start) × (far near s ≡ far near r))
+      → IsCovered near m i → IsCovered near n i
   covered_by m n i will is =
       let w = will is.birth is.row is.there in
       let starts : w.0.payload.start ≡ is.row.payload.start = w.2 in
-      let long : w.0.payload.length ≡ is.row.payload.length = w.3 in
+      let long : far near w.0 ≡ far near is.row = w.3 in
       record {
         birth = is.birth;
         row = w.0;
@@ -95,42 +111,42 @@ module _ {H : Type 0} where
       }
 
   -- fewer lists lie in order
-  pub retained_laid : (m n : FinMap nat_cmp (IndexEntry H SlicePayload)) (marked : ℕ → Bool) (k : ℕ) → IsLaid m k → n ≡ retain_keys m marked → IsLaid n k
+  pub retained_laid : (m n : FinMap nat_cmp (Row H A)) (marked : ℕ → Bool) (k : ℕ) → IsLaid near m k → n ≡ retain_keys m marked → IsLaid near n k
   retained_laid m n marked k is retained = laid_by m n k (λ b r at. go (marked b) (get m b) r (sym (ap (λ x. get x b) retained ∙ get-retained m marked b) ∙ at)) is
     where
-      go : (t : Bool) (o : Option (IndexEntry H SlicePayload)) (r : IndexEntry H SlicePayload) → cond t o None ≡ Some r → (s : IndexEntry H SlicePayload) × (o ≡ Some s) × (r.payload.start ≡ s.payload.start) × (r.payload.length ≡ s.payload.length)
+      go : (t : Bool) (o : Option (Row H A)) (r : Row H A) → cond t o None ≡ Some r → (s : Row H A) × (o ≡ Some s) × (r.payload.start ≡ s.payload.start) × (far near r ≡ far near s)
       go true o r e = (r, e, refl, refl)
       go false o r e = absurd (cc)
 
-module _ {H S : Type 0} where
+module _ {H S A : Type 0} (near : A → Option (List S)) where
   -- the count of an entry is that of its payload
-  pub count_read : (index : FinMap nat_cmp (IndexEntry H SlicePayload)) (xs : List S) (m : FinMap nat_cmp (Kept (Sliced H S))) → map_values (sliced_entry xs) index ≡ m
+  pub count_read : (index : FinMap nat_cmp (Row H A)) (xs : List S) (m : FinMap nat_cmp (Kept (Sliced H S))) → map_values (sliced_entry near xs) index ≡ m
       → (b : ℕ) (n : Option SlicePayload) → n ≡ option_map (λ r. r.payload) (get index b) → option_map (λ n. n.count) n ≡ option_map (λ k. k.count) (get m b)
-  count_read index xs m view b n is = ap (option_map (λ n. n.count)) is ∙ go (get index b) ∙ read_seen (sliced_entry xs) index m view (λ k. k.count) b
+  count_read index xs m view b n is = ap (option_map (λ n. n.count)) is ∙ go (get index b) ∙ read_seen (sliced_entry near xs) index m view (λ k. k.count) b
     where
-      go : (o : Option (IndexEntry H SlicePayload)) → option_map (λ n. n.count) (option_map (λ r. r.payload) o) ≡ option_map (λ r. (sliced_entry xs r).count) o
+      go : (o : Option (Row H A)) → option_map (λ n. n.count) (option_map (λ r. r.payload) o) ≡ option_map (λ r. (sliced_entry near xs r).count) o
       go None = refl
       go (Some r) = refl
 
   -- a birth without a row shows nothing
-  pub unread : (index : FinMap nat_cmp (IndexEntry H SlicePayload)) (xs : List S) (m : FinMap nat_cmp (Kept (Sliced H S))) → map_values (sliced_entry xs) index ≡ m
+  pub unread : (index : FinMap nat_cmp (Row H A)) (xs : List S) (m : FinMap nat_cmp (Kept (Sliced H S))) → map_values (sliced_entry near xs) index ≡ m
       → (b : ℕ) → None ≡ option_map (λ r. r.payload) (get index b) → None ≡ option_map shown (get m b)
-  unread index xs m view b none = go (get index b) none ∙ read_seen (sliced_entry xs) index m view shown b
+  unread index xs m view b none = go (get index b) none ∙ read_seen (sliced_entry near xs) index m view shown b
     where
-      go : (o : Option (IndexEntry H SlicePayload)) → None ≡ option_map (λ r. r.payload) o → None ≡ option_map (λ r. shown (sliced_entry xs r)) o
+      go : (o : Option (Row H A)) → None ≡ option_map (λ r. r.payload) o → None ≡ option_map (λ r. shown (sliced_entry near xs r)) o
       go None none = refl
       go (Some r) none = absurd (cc)
 
-  pub still_seen : (index new : FinMap nat_cmp (IndexEntry H SlicePayload)) (items items' : List S) (m : FinMap nat_cmp (Kept (Sliced H S))) → map_values (sliced_entry items) index ≡ m → new ≡ index → items' ≡ items
-      → map_values (sliced_entry items') new ≡ m
-  still_seen index new items items' m view same_index same_items = ap (map_values (sliced_entry items')) same_index ∙ ap (λ xs. map_values (sliced_entry xs) index) same_items ∙ view
+  pub still_seen : (index new : FinMap nat_cmp (Row H A)) (items items' : List S) (m : FinMap nat_cmp (Kept (Sliced H S))) → map_values (sliced_entry near items) index ≡ m → new ≡ index → items' ≡ items
+      → map_values (sliced_entry near items') new ≡ m
+  still_seen index new items items' m view same_index same_items = ap (map_values (sliced_entry near items')) same_index ∙ ap (λ xs. map_values (sliced_entry near xs) index) same_items ∙ view
 
   -- where nothing has changed
-  pub still_joined : (index new : FinMap nat_cmp (IndexEntry H SlicePayload)) (items items' : List S) → IsJoined index items → new ≡ index → items' ≡ items → IsJoined new items'
-  still_joined index new items items' is same_index same_items = subst (λ m. IsJoined m items') (sym same_index) (subst (IsJoined index) (sym same_items) is)
+  pub still_joined : (index new : FinMap nat_cmp (Row H A)) (items items' : List S) → IsJoined near index items → new ≡ index → items' ≡ items → IsJoined near new items'
+  still_joined index new items items' is same_index same_items = subst (λ m. IsJoined near m items') (sym same_index) (subst (IsJoined near index) (sym same_items) is)
 
   -- a table of nothing
-  pub empty_joined : (index : FinMap nat_cmp (IndexEntry H SlicePayload)) (items : List S) → index ≡ empty → items ≡ [] → IsJoined index items
+  pub empty_joined : (index : FinMap nat_cmp (Row H A)) (items : List S) → index ≡ empty → items ≡ [] → IsJoined near index items
   empty_joined index items none nothing =
       let gone : (b : ℕ) → get index b ≡ None = λ b. ap (λ m. get m b) none ∙ get-empty nat_cmp b in
       record {
@@ -139,118 +155,103 @@ module _ {H S : Type 0} where
       }
 
   -- a row of before that reads as one of now
-  row_before : (items items' : List S) (o : Option (IndexEntry H SlicePayload)) (y : IndexEntry H SlicePayload) → Some (read_entry items' y) ≡ option_map (read_entry items) o → (x : IndexEntry H SlicePayload) × (o ≡ Some x) × (read_entry items' y ≡ read_entry items x)
+  row_before : (items items' : List S) (o : Option (Row H A)) (y : Row H A) → Some (read_entry near items' y) ≡ option_map (read_entry near items) o → (x : Row H A) × (o ≡ Some x) × (read_entry near items' y ≡ read_entry near items x)
   row_before items items' None y e = absurd (cc)
   row_before items items' (Some x) y e = (x, refl, same_Some _ _ e)
 
   module _ (hash : Sliced H S → ℕ) where
     -- more items behind them, or fewer, change no hash of rows that lie among these
-    module _ (i : Indexed H SlicePayload) (items more items' : List S) (laid : IsLaid i.entries (length items)) (longer : items' ≡ items ++ more) where
-      same_hash : (b : ℕ) (r : IndexEntry H SlicePayload) → get i.entries b ≡ Some r → sliced_hash hash items' r.value r.payload ≡ sliced_hash hash items r.value r.payload
+    module _ (i : Indexed (SliceRow H A) SlicePayload) (items more items' : List S) (laid : IsLaid near i.entries (length items)) (longer : items' ≡ items ++ more) where
+      same_hash : (b : ℕ) (r : Row H A) → get i.entries b ≡ Some r → sliced_hash near hash items' r.value r.payload ≡ sliced_hash near hash items r.value r.payload
       same_hash b r at =
-          ap (λ xs. sliced_hash hash xs r.value r.payload) longer
-          ∙ ap (λ xs. hash (record { header = r.value; items = xs })) (same_part r.payload.start r.payload.length items more (laid.within b r at))
+          ap (λ xs. sliced_hash near hash xs r.value r.payload) longer
+          ∙ ap (λ xs. hash (record { header = r.value.header; items = xs })) (same_items (near r.value.near) r.payload.start r.payload.length items more (laid.within b r at))
 
-      pub longer_led : IsLed (sliced_hash hash items) i → IsLed (sliced_hash hash items') i
-      longer_led is = alike_led (sliced_hash hash items) (sliced_hash hash items') i i refl (λ b r at. (r, at, refl, sym (same_hash b r at))) is
+      pub longer_led : IsLed (sliced_hash near hash items) i → IsLed (sliced_hash near hash items') i
+      longer_led is = alike_led (sliced_hash near hash items) (sliced_hash near hash items') i i refl (λ b r at. (r, at, refl, sym (same_hash b r at))) is
 
-      pub shorter_led : (n : Indexed H SlicePayload) (shorter : List S) → n.entries ≡ i.entries → shorter ≡ items → IsLed (sliced_hash hash items') n → IsLed (sliced_hash hash shorter) n
+      pub shorter_led : (n : Indexed (SliceRow H A) SlicePayload) (shorter : List S) → n.entries ≡ i.entries → shorter ≡ items → IsLed (sliced_hash near hash items') n → IsLed (sliced_hash near hash shorter) n
       shorter_led n shorter same cut is =
-          subst (λ xs. IsLed (sliced_hash hash xs) n) (sym cut)
-          (alike_led (sliced_hash hash items') (sliced_hash hash items) n n refl (λ b r at. (r, at, refl, same_hash b r (sym (ap (λ m. get m b) same) ∙ at))) is)
+          subst (λ xs. IsLed (sliced_hash near hash xs) n) (sym cut)
+          (alike_led (sliced_hash near hash items') (sliced_hash near hash items) n n refl (λ b r at. (r, at, refl, same_hash b r (sym (ap (λ m. get m b) same) ∙ at))) is)
 
     -- nor does a move of the items that each row reads
-    pub moved_led : (i n : Indexed H SlicePayload) (items items' : List S) → n.buckets ≡ i.buckets → ((b : ℕ) → option_map (read_entry items') (get n.entries b) ≡ option_map (read_entry items) (get i.entries b))
-        → IsLed (sliced_hash hash items) i → IsLed (sliced_hash hash items') n
+    pub moved_led : (i n : Indexed (SliceRow H A) SlicePayload) (items items' : List S) → n.buckets ≡ i.buckets → ((b : ℕ) → option_map (read_entry near items') (get n.entries b) ≡ option_map (read_entry near items) (get i.entries b))
+        → IsLed (sliced_hash near hash items) i → IsLed (sliced_hash near hash items') n
     moved_led i n items items' same reads is =
-        alike_led (sliced_hash hash items) (sliced_hash hash items') i n same (λ b y at.
-        let w = row_before items items' (get i.entries b) y (sym (ap (option_map (read_entry items')) at) ∙ reads b) in
+        alike_led (sliced_hash near hash items) (sliced_hash near hash items') i n same (λ b y at.
+        let w = row_before items items' (get i.entries b) y (sym (ap (option_map (read_entry near items')) at) ∙ reads b) in
         (w.0, w.1, ap (λ p. p.0) (sym w.2), ap (λ p. hash p.1.value) (sym w.2))) is
 
-  -- the items of what is added are its last part
-  pub added_hash : (hash : Sliced H S → ℕ) (items xs items' : List S) (h : H) (p : SlicePayload) → items' ≡ items ++ xs → p.start ≡ length items → p.length ≡ length xs → hash (record { header = h; items = xs }) ≡ sliced_hash hash items' h p
-  added_hash hash items xs items' h p more begins long =
-      sym (ap (λ zs. sliced_hash hash zs h p) more ∙ ap (λ zs. hash (record { header = h; items = zs })) (last_part p.start p.length items xs begins long))
+  -- what is read of a row
+  pub reads : (index : FinMap nat_cmp (Row H A)) (items : List S) (b : ℕ) (v : SliceRow H A) (n : SlicePayload) → Some v ≡ option_map (λ r. r.value) (get index b) → Some n ≡ option_map (λ r. r.payload) (get index b)
+      → Some (shown_row near items v n) ≡ option_map (λ r. shown (sliced_entry near items r)) (get index b)
+  reads index items b v n value payload = go (get index b) value payload
+    where
+      go : (o : Option (Row H A)) → Some v ≡ option_map (λ r. r.value) o → Some n ≡ option_map (λ r. r.payload) o
+          → Some (shown_row near items v n) ≡ option_map (λ r. shown (sliced_entry near items r)) o
+      go None value payload = absurd (cc)
+      go (Some r) value payload =
+          ap (λ w. Some (shown_row near items w n)) (same_Some _ _ value) ∙ ap (λ x. Some (shown_row near items r.value x)) (same_Some _ _ payload)
 
-  module _ (index : FinMap nat_cmp (IndexEntry H SlicePayload)) (items : List S) (is : IsJoined index items) where
-    -- what is read of a row
-    pub reads : (b : ℕ) (v : H) (n : SlicePayload) → Some v ≡ option_map (λ r. r.value) (get index b) → Some n ≡ option_map (λ r. r.payload) (get index b)
-        → Some (record { header = v; items = take n.length (drop n.start items) }, n.length) ≡ option_map (λ r. shown (sliced_entry items r)) (get index b)
-    reads b v n value payload = go (get index b) refl value payload
-      where
-        go : (o : Option (IndexEntry H SlicePayload)) → get index b ≡ o → Some v ≡ option_map (λ r. r.value) o → Some n ≡ option_map (λ r. r.payload) o
-            → Some (record { header = v; items = take n.length (drop n.start items) }, n.length) ≡ option_map (λ r. shown (sliced_entry items r)) o
-        go None at value payload = absurd (cc)
-        go (Some r) at value payload =
-            let is_value : v ≡ r.value = same_Some _ _ value in
-            let is_payload : n ≡ r.payload = same_Some _ _ payload in
-            let long : length (take r.payload.length (drop r.payload.start items)) ≡ r.payload.length = part_length r.payload.start r.payload.length items (is.laid.within b r at) in
-            ap (λ w. Some (record { header = w; items = take n.length (drop n.start items) }, n.length)) is_value
-            ∙ ap (λ (x : SlicePayload). Some (record { header = r.value; items = take x.length (drop x.start items) }, x.length)) is_payload
-            ∙ ap (λ k. Some (record { header = r.value; items = take r.payload.length (drop r.payload.start items) }, k)) (sym long)
-
+  module _ (index : FinMap nat_cmp (Row H A)) (items : List S) (is : IsJoined near index items) where
     -- a count is changed
-    module _ (g : ℕ → ℕ) (m : FinMap nat_cmp (Kept (Sliced H S))) (view : map_values (sliced_entry items) index ≡ m) (b : ℕ)
-        (index' : FinMap nat_cmp (IndexEntry H SlicePayload)) (changed : index' ≡ with_payload (recount g) index b (get index b))
+    module _ (g : ℕ → ℕ) (m : FinMap nat_cmp (Kept (Sliced H S))) (view : map_values (sliced_entry near items) index ≡ m) (b : ℕ)
+        (index' : FinMap nat_cmp (Row H A)) (changed : index' ≡ with_payload (recount g) index b (get index b))
       where
-        was : (q : ℕ) (y : IndexEntry H SlicePayload) → get index' q ≡ Some y → (x : IndexEntry H SlicePayload) × (get index q ≡ Some x) × (y.payload.start ≡ x.payload.start) × (y.payload.length ≡ x.payload.length)
+        was : (q : ℕ) (y : Row H A) → get index' q ≡ Some y → (x : Row H A) × (get index q ≡ Some x) × (y.payload.start ≡ x.payload.start) × (far near y ≡ far near x)
         was q y at = go (get index b) refl changed
           where
-            go : (o : Option (IndexEntry H SlicePayload)) → get index b ≡ o → index' ≡ with_payload (recount g) index b o
-                → (x : IndexEntry H SlicePayload) × (get index q ≡ Some x) × (y.payload.start ≡ x.payload.start) × (y.payload.length ≡ x.payload.length)
+            go : (o : Option (Row H A)) → get index b ≡ o → index' ≡ with_payload (recount g) index b o
+                → (x : Row H A) × (get index q ≡ Some x) × (y.payload.start ≡ x.payload.start) × (far near y ≡ far near x)
             go None had changed = (y, sym (ap (λ n. get n q) changed) ∙ at, refl, refl)
             go (Some r) had changed =
-                let new : IndexEntry H SlicePayload = record r { payload = recount g r.payload } in
+                let new : Row H A = record r { payload = recount g r.payload } in
                 let now = ap (λ n. get n q) changed ∙ get-inserted index b new q in
                 elim (cases_eq q b) [
                   | inl e ↦
                       let same : new ≡ y = same_Some _ _ (sym (now ∙ here q b _ _ e) ∙ at) in
-                      (r, ap (get index) e ∙ had, ap (λ x. x.payload.start) (sym same), ap (λ x. x.payload.length) (sym same))
+                      (r, ap (get index) e ∙ had, ap (λ x. x.payload.start) (sym same), ap (far near) (sym same))
                   | inr differs ↦ (y, sym (now ∙ away q b _ _ differs) ∙ at, refl, refl)
                 ]
 
-        will : (q : ℕ) (x : IndexEntry H SlicePayload) → get index q ≡ Some x → (y : IndexEntry H SlicePayload) × (get index' q ≡ Some y) × (y.payload.start ≡ x.payload.start) × (y.payload.length ≡ x.payload.length)
+        will : (q : ℕ) (x : Row H A) → get index q ≡ Some x → (y : Row H A) × (get index' q ≡ Some y) × (y.payload.start ≡ x.payload.start) × (far near y ≡ far near x)
         will q x at = go (get index b) refl changed
           where
-            go : (o : Option (IndexEntry H SlicePayload)) → get index b ≡ o → index' ≡ with_payload (recount g) index b o
-                → (y : IndexEntry H SlicePayload) × (get index' q ≡ Some y) × (y.payload.start ≡ x.payload.start) × (y.payload.length ≡ x.payload.length)
+            go : (o : Option (Row H A)) → get index b ≡ o → index' ≡ with_payload (recount g) index b o
+                → (y : Row H A) × (get index' q ≡ Some y) × (y.payload.start ≡ x.payload.start) × (far near y ≡ far near x)
             go None had changed = (x, ap (λ n. get n q) changed ∙ at, refl, refl)
             go (Some r) had changed =
-                let new : IndexEntry H SlicePayload = record r { payload = recount g r.payload } in
+                let new : Row H A = record r { payload = recount g r.payload } in
                 let now = ap (λ n. get n q) changed ∙ get-inserted index b new q in
                 elim (cases_eq q b) [
                   | inl e ↦
                       let same : r ≡ x = same_Some _ _ (sym (ap (get index) e ∙ had) ∙ at) in
-                      (new, now ∙ here q b _ _ e, ap (λ z. z.payload.start) same, ap (λ z. z.payload.length) same)
+                      (new, now ∙ here q b _ _ e, ap (λ z. z.payload.start) same, ap (far near) same)
                   | inr differs ↦ (x, now ∙ away q b _ _ differs ∙ at, refl, refl)
                 ]
 
-        pub changes_joined : IsJoined index' items
+        pub changes_joined : IsJoined near index' items
         changes_joined = record {
-          laid = laid_by index index' (length items) was is.laid;
-          full = λ i below. covered_by index index' i will (is.full i below);
+          laid = laid_by near index index' (length items) was is.laid;
+          full = λ i below. covered_by near index index' i will (is.full i below);
         }
 
-        pub changes_seen : map_values (sliced_entry items) index' ≡ recounted g m b (get m b)
-        changes_seen = changed_seen (sliced_entry items) (recount g) g (λ r. refl) index index' m b view changed
+        pub changes_seen : map_values (sliced_entry near items) index' ≡ recounted g m b (get m b)
+        changes_seen = changed_seen (sliced_entry near items) (recount g) g (λ r. refl) index index' m b view changed
 
     -- a list is added behind all others
-    module _ (b : ℕ) (above : (c : ℕ) → IsSome (get index c) → c < b) (index' : FinMap nat_cmp (IndexEntry H SlicePayload)) (items' : List S) (r : IndexEntry H SlicePayload) (xs : List S)
+    module _ (b : ℕ) (above : (c : ℕ) → IsSome (get index c) → c < b) (index' : FinMap nat_cmp (Row H A)) (items' : List S) (r : Row H A) (xs : List S)
         (more : items' ≡ items ++ xs) (added : index' ≡ insert index b r)
-        (begins : r.payload.start ≡ length items) (long : r.payload.length ≡ length xs)
+        (begins : r.payload.start ≡ length items) (long : far near r ≡ length xs)
       where
         -- the entries before it stay
-        stays : (c : ℕ) (y : IndexEntry H SlicePayload) → get index c ≡ Some y → sliced_entry items' y ≡ sliced_entry items y
+        stays : (c : ℕ) (y : Row H A) → get index c ≡ Some y → sliced_entry near items' y ≡ sliced_entry near items y
         stays c y at =
-            ap (λ zs. sliced_entry zs y) more
-            ∙ ap (λ zs. record { value = record { header = y.value; items = zs }; count = y.payload.count }) (same_part y.payload.start y.payload.length items xs (is.laid.within c y at))
+            ap (λ zs. sliced_entry near zs y) more
+            ∙ ap (λ zs. record { value = record { header = y.value.header; items = zs }; count = y.payload.count }) (same_items (near y.value.near) y.payload.start y.payload.length items xs (is.laid.within c y at))
 
-        enters : sliced_entry items' r ≡ record { value = record { header = r.value; items = xs }; count = r.payload.count }
-        enters =
-            ap (λ zs. sliced_entry zs r) more
-            ∙ ap (λ zs. record { value = record { header = r.value; items = zs }; count = r.payload.count }) (last_part r.payload.start r.payload.length items xs begins long)
-
-        either : (c : ℕ) (y : IndexEntry H SlicePayload) → get index' c ≡ Some y → ((c ≡ b) × (r ≡ y)) ⊎ ((c < b) × (get index c ≡ Some y))
+        either : (c : ℕ) (y : Row H A) → get index' c ≡ Some y → ((c ≡ b) × (r ≡ y)) ⊎ ((c < b) × (get index c ≡ Some y))
         either c y at =
             let now = ap (λ n. get n c) added ∙ get-inserted index b r c in
             elim (cases_eq c b) [
@@ -261,16 +262,16 @@ module _ {H S : Type 0} where
         longer : length items' ≡ length items + length xs
         longer = ap length more ∙ length-append items xs
 
-        adds_laid : IsLaid index' (length items')
+        adds_laid : IsLaid near index' (length items')
         adds_laid = record {
           within = λ c y at.
               elim (either c y at) [
                 | inl new ↦
-                    let ends : end_of r ≡ end_of y = ap end_of new.1 in
+                    let ends : end_of near r ≡ end_of near y = ap (end_of near) new.1 in
                     let size = longer in
                     omega arith
                 | inr old ↦
-                    let fits : end_of y ≤ length items = is.laid.within c y old.1 in
+                    let fits : end_of near y ≤ length items = is.laid.within c y old.1 in
                     let size = longer in
                     omega arith
               ];
@@ -284,7 +285,7 @@ module _ {H S : Type 0} where
                 | inr old ↦
                     elim (either d z its) [
                       | inl new ↦
-                          let fits : end_of y ≤ length items = is.laid.within c y old.1 in
+                          let fits : end_of near y ≤ length items = is.laid.within c y old.1 in
                           let starts : r.payload.start ≡ z.payload.start = ap (λ x. x.payload.start) new.1 in
                           omega arith
                       | inr also ↦ is.laid.apart c d y z below old.1 also.1
@@ -292,7 +293,7 @@ module _ {H S : Type 0} where
               ];
         }
 
-        keeps : (c : ℕ) (y : IndexEntry H SlicePayload) → get index c ≡ Some y → get index' c ≡ Some y
+        keeps : (c : ℕ) (y : Row H A) → get index c ≡ Some y → get index' c ≡ Some y
         keeps c y at =
             let now = ap (λ n. get n c) added ∙ get-inserted index b r c in
             let below : c < b = above c (ap is_some at) in
@@ -301,10 +302,10 @@ module _ {H S : Type 0} where
               | inr differs ↦ now ∙ away c b _ _ differs ∙ at
             ]
 
-        adds_full : (i : ℕ) → i < length items' → IsCovered index' i
+        adds_full : (i : ℕ) → i < length items' → IsCovered near index' i
         adds_full i below =
             elim (cases_lt i (length items)) [
-              | inl old ↦ covered_by index index' i (λ c y at. (y, keeps c y at, refl, refl)) (is.full i old)
+              | inl old ↦ covered_by near index index' i (λ c y at. (y, keeps c y at, refl, refl)) (is.full i old)
               | inr new ↦
                   let size = longer in
                   record {
@@ -316,29 +317,29 @@ module _ {H S : Type 0} where
                   }
             ]
 
-        pub adds_joined : IsJoined index' items'
+        pub adds_joined : IsJoined near index' items'
         adds_joined = record { laid = adds_laid; full = adds_full }
 
-        pub adds_seen : (m : FinMap nat_cmp (Kept (Sliced H S))) → map_values (sliced_entry items) index ≡ m
-            → map_values (sliced_entry items') index' ≡ insert m b (record { value = record { header = r.value; items = xs }; count = r.payload.count })
-        adds_seen m view =
-            map_values-insert (sliced_entry items') index index' b r added
-            ∙ ap (λ n. insert n b (sliced_entry items' r)) (map_values-same (sliced_entry items') (sliced_entry items) index stays ∙ view)
-            ∙ ap (insert m b) enters
+        pub adds_seen : (ys : List S) → items_in (near r.value.near) r.payload.start r.payload.length items' ≡ ys → (m : FinMap nat_cmp (Kept (Sliced H S))) → map_values (sliced_entry near items) index ≡ m
+            → map_values (sliced_entry near items') index' ≡ insert m b (record { value = record { header = r.value.header; items = ys }; count = r.payload.count })
+        adds_seen ys are m view =
+            map_values-insert (sliced_entry near items') index index' b r added
+            ∙ ap (λ n. insert n b (sliced_entry near items' r)) (map_values-same (sliced_entry near items') (sliced_entry near items) index stays ∙ view)
+            ∙ ap (λ zs. insert m b (record { value = record { header = r.value.header; items = zs }; count = r.payload.count })) are
 
   -- the lists of the births that are marked are moved down
-  module _ (index : FinMap nat_cmp (IndexEntry H SlicePayload)) (items : List S) (marked : ℕ → Bool) (kept new : FinMap nat_cmp (IndexEntry H SlicePayload)) (items' : List S) (keeps : kept ≡ retain_keys index marked)
-      (same : (b : ℕ) → option_map (read_entry items') (get new b) ≡ option_map (read_entry items) (get kept b))
+  module _ (index : FinMap nat_cmp (Row H A)) (items : List S) (marked : ℕ → Bool) (kept new : FinMap nat_cmp (Row H A)) (items' : List S) (keeps : kept ≡ retain_keys index marked)
+      (same : (b : ℕ) → option_map (read_entry near items') (get new b) ≡ option_map (read_entry near items) (get kept b))
     where
-      entries_same : (o p : Option (IndexEntry H SlicePayload)) → option_map (read_entry items') o ≡ option_map (read_entry items) p → option_map (sliced_entry items') o ≡ option_map (sliced_entry items) p
+      entries_same : (o p : Option (Row H A)) → option_map (read_entry near items') o ≡ option_map (read_entry near items) p → option_map (sliced_entry near items') o ≡ option_map (sliced_entry near items) p
       entries_same None None e = refl
       entries_same None (Some x) e = absurd (cc)
       entries_same (Some y) None e = absurd (cc)
-      entries_same (Some y) (Some x) e = ap (λ p. Some p.1) (same_Some (read_entry items' y) (read_entry items x) e)
+      entries_same (Some y) (Some x) e = ap (λ p. Some p.1) (same_Some (read_entry near items' y) (read_entry near items x) e)
 
-      pub keeps_seen : (m : FinMap nat_cmp (Kept (Sliced H S))) → map_values (sliced_entry items) index ≡ m → map_values (sliced_entry items') new ≡ retain_keys m marked
+      pub keeps_seen : (m : FinMap nat_cmp (Kept (Sliced H S))) → map_values (sliced_entry near items) index ≡ m → map_values (sliced_entry near items') new ≡ retain_keys m marked
       keeps_seen m view =
           same_map nat_cmp_total nat_cmp-IsAntisymmetric _ _ (λ b.
-          get-map_values (sliced_entry items') new b ∙ entries_same (get new b) (get kept b) (same b) ∙ sym (get-map_values (sliced_entry items) kept b))
-          ∙ map_values-retain (sliced_entry items) index kept marked keeps
+          get-map_values (sliced_entry near items') new b ∙ entries_same (get new b) (get kept b) (same b) ∙ sym (get-map_values (sliced_entry near items) kept b))
+          ∙ map_values-retain (sliced_entry near items) index kept marked keeps
           ∙ ap (λ n. retain_keys n marked) view

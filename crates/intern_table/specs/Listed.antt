@@ -1,10 +1,11 @@
 -- What the iterators of tables give.
-use Rattle.std.specs.Prelude.{ℕ, List, take, drop, map as list_map}
+use Rattle.std.specs.Prelude.{ℕ, List, Option, map as list_map}
 use Rattle.std.specs.Ordering.{nat_cmp}
 use Rattle.std.specs.FinMap.{FinMap, entries}
 use Rattle.intern_store.specs.Kept.{Kept}
-use Rattle.intern_table.specs.Read.{shown}
+use Rattle.intern_table.specs.Read.{shown, shown_row}
 use Rattle.intern_table.specs.Sliced.{Sliced}
+use Rattle.intern_table.specs.declared.layout.SliceRow.{SliceRow}
 use Rattle.intern_table.specs.declared.pool.SlicePayload.{SlicePayload}
 
 -- the count of a slice
@@ -24,12 +25,7 @@ module _ {H S : Type 0} where
   abbrev pub listed_slices : FinMap nat_cmp (Kept (Sliced H S)) → List (ℕ × (Sliced H S × ℕ))
   listed_slices m = list_map (λ e. (e.0, shown e.1)) (entries m)
 
-  -- what is given of a header whose items are among these
-  abbrev pub slice_among : List S → ℕ × (H × SlicePayload) → ℕ × (Sliced H S × ℕ)
-  slice_among xs e = (
-    e.0,
-    shown (record {
-      value = record { header = e.1.0; items = take e.1.1.length (drop e.1.1.start xs) };
-      count = e.1.1.count;
-    }),
-  )
+  -- what is given of a row, where these items lie in the vector
+  abbrev pub slice_among : {A : Type 0} → (A → Option (List S)) → List S
+      → ℕ × (SliceRow H A × SlicePayload) → ℕ × (Sliced H S × ℕ)
+  slice_among near xs e = (e.0, shown_row near xs e.1.0 e.1.1)

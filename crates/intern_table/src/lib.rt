@@ -4,6 +4,7 @@
 mod counted;
 mod counts;
 mod equivalent;
+mod layout;
 mod pool;
 mod slice;
 mod slice_iter;
@@ -14,6 +15,7 @@ mod text;
 pub use counted::{Counted, Counts};
 pub use equivalent::{Equivalent, FixedState};
 pub use intern_index::Iter;
+pub use layout::{Far, Layout, Near, NearItems, NoItems, OwnItems, SliceRow};
 pub use pool::SlicePayload;
 pub use slice::{HeaderSlice, HeaderWithLength, SliceValue};
 pub use slice_iter::SliceIter;

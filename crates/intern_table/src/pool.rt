@@ -1,12 +1,13 @@
-//! The items of all slices, in one vector.
+//! The items of slices, in one vector.
 ghost use Rattle.std.specs.Prelude.{◌≡◌, ◌<◌, ℕ, length, take, drop};
 ghost use Rattle.std.specs.Option.{option_map};
 ghost use Rattle.std.specs.FinMap.{get};
 ghost use Rattle.intern_table.specs.Joined.{read_entry, IsLaid, IsCovered};
 
+use crate::layout::{NearItems, SliceRow, far_length};
 use intern_index::{BirthOrder, Change, Index};
 
-/// Where the items of an entry lie among all, and the entry's count.
+/// Where the items of an entry begin among those in the vector, how many it has, and its count.
 #[derive(Clone, Copy)]
 pub struct SlicePayload {
     pub(crate) start: usize,
@@ -39,27 +40,28 @@ impl Change<SlicePayload> for MoveTo {
     }
 }
 
-/// Moves the items of all entries down, in the order of births, and cuts off what is behind the
-/// last. It takes no memory.
-pub(crate) fn compact<H, S: Copy>(
-    index: &mut Index<H, SlicePayload, BirthOrder>,
+/// Moves the items of all entries down that lie in the vector, in the order of births, and cuts off
+/// what is behind the last. It takes no memory.
+pub(crate) fn compact<H, S: Copy, A: NearItems<S>>(
+    index: &mut Index<SliceRow<H, A>, SlicePayload, BirthOrder>,
     items: &mut Vec<S>,
 )
-    requires { IsLaid index.old.entries (length items.old.items) }
-    ensures laid { IsLaid index.new.entries (length items.new.items) }
-    ensures same { (b : ℕ) → option_map (read_entry items.new.items) (get index.new.entries b)
-        ≡ option_map (read_entry items.old.items) (get index.old.entries b) }
-    ensures full { (i : ℕ) → i < length items.new.items → IsCovered index.new.entries i }
+    requires { IsLaid A.near_of index.old.entries (length items.old.items) }
+    ensures laid { IsLaid A.near_of index.new.entries (length items.new.items) }
+    ensures same { (b : ℕ) →
+        option_map (read_entry A.near_of items.new.items) (get index.new.entries b)
+        ≡ option_map (read_entry A.near_of items.old.items) (get index.old.entries b) }
+    ensures full { (i : ℕ) → i < length items.new.items →
+        IsCovered A.near_of index.new.entries i }
     ensures buckets { index.new.buckets ≡ index.old.buckets }
 {
     let mut end = 0;
     let mut last = None;
     for at in 0..index.len() {
-        let spot = index.spot(at, last).unwrap();
-        let SlicePayload { start, length, .. } = index
-            .change(spot, &MoveTo { start: end })
-            .unwrap();
-        items.copy_within(start..start + length, end);
+        let (spot, row, payload) = index.nth(at, last).unwrap();
+        let length = far_length(&row.near, payload.length);
+        index.change(spot, &MoveTo { start: end });
+        items.copy_within(payload.start..payload.start + length, end);
         end += length;
         last = Some(spot);
     }

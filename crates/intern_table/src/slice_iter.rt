@@ -2,31 +2,32 @@
 ghost use Rattle.std.specs.Iterator.{YieldsFirstBy, item_count};
 ghost use Rattle.intern_table.specs.Read.{read};
 
-use crate::pool::{SlicePayload, part};
-use crate::slice::{HeaderSlice, HeaderWithLength};
+use crate::layout::{NearItems, SliceRow};
+use crate::pool::SlicePayload;
+use crate::slice::HeaderSlice;
 use intern_index::Iter;
 use intern_store::Spot;
 use std::marker::Model;
 
 /// The entries of a table of slices, in no promised order, seen as the list of those that are left.
 #[derive(Drop)]
-pub struct SliceIter<'a, H, S> {
-    pub(crate) headers: Iter<'a, H, SlicePayload>,
-    // Where the slices lie.
+pub struct SliceIter<'a, H, S, A: NearItems<S>> {
+    pub(crate) rows: Iter<'a, SliceRow<H, A>, SlicePayload>,
+    // The items in the vector.
     pub(crate) items: &'a [S],
 }
 
-impl<'a, H, S> Model for SliceIter<'a, H, S> {
+impl<'a, H, S, A: NearItems<S>> Model for SliceIter<'a, H, S, A> {
     ghost use Rattle.std.specs.Prelude.{ℕ, List, map};
     ghost use Rattle.intern_table.specs.Listed.{slice_among};
     ghost use Rattle.intern_table.specs.Sliced.{Sliced};
 
     ghost Value = { List (ℕ × (Sliced H S × ℕ)) };
 
-    ghost view = { λ it. map (slice_among it.items.now) it.headers };
+    ghost view = { λ it. map (slice_among A.near_of it.items.now) it.rows };
 }
 
-impl<'a, H, S> Iterator for SliceIter<'a, H, S> {
+impl<'a, H, S, A: NearItems<S>> Iterator for SliceIter<'a, H, S, A> {
     type Item = (Spot, HeaderSlice<'a, H, S>);
 
     ghost next_gives = { YieldsFirstBy (λ e. (e.0.birth, read e.1)) (λ rest. rest) };
@@ -34,12 +35,7 @@ impl<'a, H, S> Iterator for SliceIter<'a, H, S> {
     ghost remaining = { item_count (λ rest. rest) };
 
     fn next(&mut self) -> Option<(Spot, HeaderSlice<'a, H, S>)> {
-        let (spot, header, payload) = self.headers.next()?;
-        let slice = part(self.items, payload.start, payload.length);
-        let header = HeaderWithLength {
-            header,
-            length: slice.len(),
-        };
-        Some((spot, HeaderSlice { header, slice }))
+        let (spot, row, payload) = self.rows.next()?;
+        Some((spot, row.read(payload, self.items)))
     }
 }

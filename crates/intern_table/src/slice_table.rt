@@ -1,18 +1,19 @@
 //! Headers with slices of items and counts, each stored once under a birth.
-ghost use Rattle.std.specs.Prelude.{◌≡◌, IsPermutation, length, take, drop};
+ghost use Rattle.std.specs.Prelude.{◌≡◌, IsPermutation, length};
 ghost use Rattle.std.specs.Option.{option_map};
 ghost use Rattle.std.specs.FinMap as map;
 ghost use Rattle.intern_table.specs.Sliced.{sliced_eq, sliced_input};
 ghost use Rattle.intern_table.specs.Hashes.{hash_of};
-ghost use Rattle.intern_table.specs.Joined.{sliced_hash};
+ghost use Rattle.intern_table.specs.Joined.{items_in, sliced_hash};
 ghost use Rattle.intern_table.specs.Listed.{listed_counts, listed_slices};
 ghost use Rattle.intern_table.specs.Read.{read, shown};
 
 use crate::counted::{Counted, Counts};
 use crate::counts::{Lower, OfCount, Raise};
-use crate::equivalent::{FixedState, hash_value};
-use crate::pool::{SlicePayload, compact, part};
-use crate::slice::{HeaderSlice, HeaderWithLength, SliceValue};
+use crate::equivalent::hash_value;
+use crate::layout::{NearItems, SliceRow, far_length};
+use crate::pool::{SlicePayload, compact};
+use crate::slice::{HeaderSlice, SliceValue};
 use crate::slice_iter::SliceIter;
 use intern_index::{BirthOrder, Hashes, Index, Query};
 use intern_store::{Entries, Finds, Keeps, Pools, Spot, Sweeps, Takes};
@@ -21,8 +22,8 @@ use std::cmp::Eq;
 use std::hash::{BuildHasher, Hash};
 use std::marker::Model;
 
-/// The table of slices: an index of the headers, and one vector with the items of every slice, in
-/// the order of births.
+/// The table of slices: an index of the headers, with the items that lie beside them (`A`), and one
+/// vector with the items of all other slices, in the order of births.
 ///
 /// Interning takes expected constant time, unless the hash table is built anew. It compares the
 /// slices of one hash, and others only where a bucket with the same 16 bits leads to them, as one
@@ -30,13 +31,14 @@ use std::marker::Model;
 /// a handle touches its entry, and a read its items too. Only an insertion and what reserves room
 /// take memory.
 #[derive(Drop)]
-pub struct SliceTable<H: Hash + Eq, S: Hash + Eq + Copy, B: BuildHasher = FixedState> {
-    index: Index<H, SlicePayload, BirthOrder>,
+pub struct SliceTable<H: Hash + Eq, S: Hash + Eq + Copy, A: NearItems<S>, B: BuildHasher> {
+    index: Index<SliceRow<H, A>, SlicePayload, BirthOrder>,
     items: Vec<S>,
     hasher: B,
 }
 
-impl<H: Hash + Eq, S: Hash + Eq + Copy, B: BuildHasher> Model for SliceTable<H, S, B> {
+impl<H: Hash + Eq, S: Hash + Eq + Copy, A: NearItems<S>, B: BuildHasher> Model
+    for SliceTable<H, S, A, B> {
     ghost use Rattle.intern_table.specs.Sliced.{Sliced, sliced_code, sliced_input};
     ghost use Rattle.intern_table.specs.Tabled.{Tabled, tabled_code};
 
@@ -50,13 +52,13 @@ impl<H: Hash + Eq, S: Hash + Eq + Copy, B: BuildHasher> Model for SliceTable<H, 
     ghost use Rattle.intern_table.specs.Hashes.{hash_of};
 
     ghost view = { λ a. record {
-      entries = map_values (sliced_entry a.items.items) a.index.entries;
+      entries = map_values (sliced_entry A.near_of a.items.items) a.index.entries;
       hasher = a.hasher;
       room = a.index.room;
       spare = vec_capacity a.items - vec_len a.items;
     } };
 
-    ghost invariant = { λ a. IsSliced (λ v.
+    ghost invariant = { λ a. IsSliced A.near_of (λ v.
         hash_of B.BuildHasher B.Hasher.Hasher a.hasher (sliced_input H.hash_input S.hash_input v))
         a.index a.items.items };
 }
@@ -66,65 +68,63 @@ impl<H: Hash + Eq, S: Hash + Eq + Copy, B: BuildHasher> Model for SliceTable<H, 
 struct EqualSlice<'a, H, S> {
     header: &'a H,
     items: &'a [S],
-    // Where the slices lie.
+    // The items in the vector.
     all: &'a [S],
 }
 
-impl<H: Eq, S: Eq> Query<H, SlicePayload> for EqualSlice<'_, H, S> {
+impl<H: Eq, S: Eq, A: NearItems<S>> Query<SliceRow<H, A>, SlicePayload> for EqualSlice<'_, H, S> {
     ghost fits = { λ q v p. sliced_eq H.eq S.eq
         (record { header = q.header.now; items = q.items.now })
-        (record { header = v; items = take p.length (drop p.start q.all.now) }) };
+        (record {
+          header = v.header;
+          items = items_in (A.near_of v.near) p.start p.length q.all.now;
+        }) };
 
-    fn fits(&self, value: &H, payload: SlicePayload) -> bool {
-        self.header == value && self.items == part(self.all, payload.start, payload.length)
+    fn fits(&self, row: &SliceRow<H, A>, payload: SlicePayload) -> bool {
+        self.header == &row.header && self.items == row.items(payload, self.all)
     }
 }
 
 // How stored headers are hashed, each with its slice.
 #[derive_where(Clone, Copy)]
 struct SliceHash<'a, S, B> {
-    // Where the slices lie.
+    // The items in the vector.
     all: &'a [S],
     hasher: &'a B,
 }
 
-impl<H: Hash, S: Hash, B: BuildHasher> Hashes<H, SlicePayload> for SliceHash<'_, S, B> {
-    ghost hash_of = { λ h v p. sliced_hash (λ s. hash_of B.BuildHasher B.Hasher.Hasher h.hasher.now
-        (sliced_input H.hash_input S.hash_input s)) h.all.now v p };
+impl<H: Hash, S: Hash, A: NearItems<S>, B: BuildHasher> Hashes<SliceRow<H, A>, SlicePayload>
+    for SliceHash<'_, S, B> {
+    ghost hash_of = { λ h v p. sliced_hash A.near_of (λ s.
+        hash_of B.BuildHasher B.Hasher.Hasher h.hasher.now (sliced_input H.hash_input S.hash_input s))
+        h.all.now v p };
 
-    fn hash_of(&self, header: &H, payload: SlicePayload) -> u64 {
-        let items = part(self.all, payload.start, payload.length);
-        hash_value(self.hasher, &(header, items))
+    fn hash_of(&self, row: &SliceRow<H, A>, payload: SlicePayload) -> u64 {
+        hash_value(self.hasher, &(&row.header, row.items(payload, self.all)))
     }
 }
 
-impl<H: Hash + Eq, S: Hash + Eq + Copy, B: BuildHasher> SliceTable<H, S, B> {
+impl<H: Hash + Eq, S: Hash + Eq + Copy, A: NearItems<S>, B: BuildHasher> SliceTable<H, S, A, B> {
     /// The header and the slice of an entry.
     pub fn get(&self, spot: Spot) -> Option<HeaderSlice<'_, H, S>>
         ensures { option_map read result ≡ option_map shown (map.get self.now.entries spot.birth) }
     {
-        let (header, payload) = self.index.read(spot)?;
-        Some(HeaderSlice {
-            header: HeaderWithLength {
-                header,
-                length: payload.length,
-            },
-            slice: part(self.items.as_slice(), payload.start, payload.length),
-        })
+        let (row, payload) = self.index.read(spot)?;
+        Some(row.read(payload, self.items.as_slice()))
     }
 
     /// The entries, in no promised order.
-    pub fn iter(&self) -> SliceIter<'_, H, S>
+    pub fn iter(&self) -> SliceIter<'_, H, S, A>
         ensures { IsPermutation result (listed_slices self.now.entries) }
     {
         SliceIter {
-            headers: self.index.iter(),
+            rows: self.index.iter(),
             items: self.items.as_slice(),
         }
     }
 
     /// The entries, each with its count, in no promised order.
-    pub fn counts(&self) -> Counts<'_, H, SlicePayload>
+    pub fn counts(&self) -> Counts<'_, SliceRow<H, A>, SlicePayload>
         ensures { IsPermutation result (listed_counts self.now.entries) }
     {
         let entries = self.index.iter();
@@ -139,7 +139,8 @@ fn count_of(payload: Option<SlicePayload>) -> Option<u64>
     Some(payload?.count())
 }
 
-impl<H: Hash + Eq, S: Hash + Eq + Copy, B: BuildHasher> Entries for SliceTable<H, S, B> {
+impl<H: Hash + Eq, S: Hash + Eq + Copy, A: NearItems<S>, B: BuildHasher> Entries
+    for SliceTable<H, S, A, B> {
     type Value = SliceValue<H, S>;
 
     type Hasher = B;
@@ -152,7 +153,7 @@ impl<H: Hash + Eq, S: Hash + Eq + Copy, B: BuildHasher> Entries for SliceTable<H
 
     ghost spare = { λ a. a.spare };
 
-    fn new(alloc: Global, hasher: B) -> SliceTable<H, S, B> {
+    fn new(alloc: Global, hasher: B) -> SliceTable<H, S, A, B> {
         SliceTable {
             index: Index::new(alloc),
             items: Vec::new(alloc),
@@ -189,15 +190,16 @@ impl<H: Hash + Eq, S: Hash + Eq + Copy, B: BuildHasher> Entries for SliceTable<H
     }
 }
 
-impl<H: Hash + Eq, S: Hash + Eq + Copy, B: BuildHasher> Pools for SliceTable<H, S, B> {
+impl<H: Hash + Eq, S: Hash + Eq + Copy, A: NearItems<S>, B: BuildHasher> Pools
+    for SliceTable<H, S, A, B> {
     fn reserve_outside(&mut self, additional: usize) -> Result<(), AllocError> {
         self.items.reserve(additional)
     }
 }
 
 // A header and a slice that are looked up, both borrowed.
-impl<'a, H: Hash + Eq, S: Hash + Eq + Copy, B: BuildHasher> Finds<(&'a H, &'a [S])>
-    for SliceTable<H, S, B> {
+impl<'a, H: Hash + Eq, S: Hash + Eq + Copy, A: NearItems<S>, B: BuildHasher> Finds<(&'a H, &'a [S])>
+    for SliceTable<H, S, A, B> {
     ghost value = { λ q. record { header = q.0.now; items = q.1.now } };
 
     ghost hash_of = { λ b q. hash_of B.BuildHasher B.Hasher.Hasher b
@@ -215,8 +217,8 @@ impl<'a, H: Hash + Eq, S: Hash + Eq + Copy, B: BuildHasher> Finds<(&'a H, &'a [S
 }
 
 // The same of a header that is offered.
-impl<'a, H: Hash + Eq, S: Hash + Eq + Copy, B: BuildHasher> Finds<(H, &'a [S])>
-    for SliceTable<H, S, B> {
+impl<'a, H: Hash + Eq, S: Hash + Eq + Copy, A: NearItems<S>, B: BuildHasher> Finds<(H, &'a [S])>
+    for SliceTable<H, S, A, B> {
     ghost value = { λ o. record { header = o.0; items = o.1.now } };
 
     ghost hash_of = { λ b o. hash_of B.BuildHasher B.Hasher.Hasher b
@@ -227,8 +229,8 @@ impl<'a, H: Hash + Eq, S: Hash + Eq + Copy, B: BuildHasher> Finds<(H, &'a [S])>
     }
 }
 
-impl<'a, H: Hash + Eq, S: Hash + Eq + Copy, B: BuildHasher> Takes<(H, &'a [S])>
-    for SliceTable<H, S, B> {
+impl<'a, H: Hash + Eq, S: Hash + Eq + Copy, A: NearItems<S>, B: BuildHasher> Takes<(H, &'a [S])>
+    for SliceTable<H, S, A, B> {
     ghost outside = { λ o. length o.1.now };
 
     fn insert(
@@ -239,8 +241,10 @@ impl<'a, H: Hash + Eq, S: Hash + Eq + Copy, B: BuildHasher> Takes<(H, &'a [S])>
         count: u64,
     ) -> Result<usize, (H, &'a [S])> {
         let (header, items) = offer;
+        let near = A::of(items);
         let start = self.items.len();
-        let Ok(()) = self.items.extend_from_slice(items) else {
+        let far = &items[..far_length(&near, items.len())];
+        let Ok(()) = self.items.extend_from_slice(far) else {
             return Err((header, items));
         };
         let payload = SlicePayload {
@@ -252,18 +256,19 @@ impl<'a, H: Hash + Eq, S: Hash + Eq + Copy, B: BuildHasher> Takes<(H, &'a [S])>
             all: self.items.as_slice(),
             hasher: &self.hasher,
         };
-        match self.index.insert(birth, hash, header, payload, &by) {
+        let row = SliceRow { header, near };
+        match self.index.insert(birth, hash, row, payload, &by) {
             Ok(place) => Ok(place),
-            Err(header) => {
+            Err(row) => {
                 self.items.truncate(start);
-                Err((header, items))
+                Err((row.header, items))
             }
         }
     }
 }
 
-impl<H: Hash + Eq + Drop, S: Hash + Eq + Copy, B: BuildHasher, M: Keeps> Sweeps<M>
-    for SliceTable<H, S, B> {
+impl<H: Hash + Eq + Drop, S: Hash + Eq + Copy, A: NearItems<S>, B: BuildHasher, M: Keeps> Sweeps<M>
+    for SliceTable<H, S, A, B> {
     fn keep(&mut self, marks: &M) {
         self.index.keep(marks);
         compact(&mut self.index, &mut self.items);

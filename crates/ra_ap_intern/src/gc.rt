@@ -28,6 +28,7 @@ use crate::intern_slice::{InternSliceStorage, InternedSliceRef, SliceInternable}
 pub use family::{Family, NoStorages, Numbered, Pair};
 use intern_marks::Marks;
 use intern_store::{EntryKey, Name, Spot};
+use intern_table::Layout;
 use std::alloc::{AllocError, Global};
 use std::hash::BuildHasher;
 use std::marker::Model;
@@ -94,10 +95,15 @@ impl GarbageCollector {
     }
 
     /// A family with one more storage of slices.
-    pub fn add_slice_storage<F: Family, T: GcInternedSliceVisit, B: BuildHasher>(
+    pub fn add_slice_storage<F, T, B, L>(
         family: F,
-        storage: InternSliceStorage<T, B>,
-    ) -> Pair<F, InternSliceStorage<T, B>>
+        storage: InternSliceStorage<T, B, L>,
+    ) -> Pair<F, InternSliceStorage<T, B, L>>
+    where
+        F: Family,
+        T: GcInternedSliceVisit,
+        B: BuildHasher,
+        L: Layout<T::SliceType>,
         requires { T.SliceInternable.USE_GC ≡ true }
         ensures first { result.first ≡ family }
         ensures second { result.second ≡ storage }
@@ -148,9 +154,9 @@ impl GarbageCollector {
     }
 
     /// The same for a reference to a slice.
-    pub fn mark_interned_slice_alive<T: SliceInternable>(
+    pub fn mark_interned_slice_alive<T: SliceInternable, L: Layout<T::SliceType>>(
         &mut self,
-        slice: InternedSliceRef<T>,
+        slice: InternedSliceRef<T, L>,
     ) -> ControlFlow<()>
         requires { T.SliceInternable.USE_GC ≡ true }
         ensures marks { self.new ≡ mark self.old (ref_name slice) }

@@ -1,7 +1,8 @@
 //! Interning of slices with headers.
 //!
 //! A storage keeps one copy of each equal pair of a header and a list of items, in collected mode:
-//! entries stay until a collection. The items of all entries lie in one vector.
+//! entries stay until a collection. The items of all entries lie in one vector, or, in a
+//! [`NearSliceStorage`], those of short lists in their entries.
 //!
 //! A handle that is dropped without `release` keeps its count.
 ghost use Rattle.std.specs.Prelude.{◌≡◌, ◌≤◌, if◌then◌else◌, None, IsOk, OnOk, length, true, Bool, IsPermutation, IfOk};
@@ -18,7 +19,7 @@ mod iter;
 use crate::kind::Slices;
 use crate::storage::{Owned, Ref, Reserved, Storage};
 use intern_store::{Refusal, Refused};
-use intern_table::{FixedState, HeaderSlice};
+use intern_table::{Far, FixedState, HeaderSlice, Layout, Near};
 pub use iter::SliceIter;
 use std::cmp::Eq;
 use std::hash::{BuildHasher, Hash};
@@ -43,18 +44,26 @@ pub trait SliceInternable {
 /// Two pairs are equal where their headers are, and their items one by one. An empty list is an
 /// ordinary value, and items may have size zero. Only interning a pair that isn't stored takes
 /// memory, where no room was reserved for it; its items are copied once.
-pub type InternSliceStorage<T, B = FixedState> = Storage<Slices<T>, B>;
+pub type InternSliceStorage<T, B = FixedState, L = Far> = Storage<Slices<T, L>, B>;
+
+/// A storage of headers with items, which keeps up to `N` items of a list in its entry and longer
+/// lists in one vector. Its calls and its handles are those of every storage of slices.
+///
+/// Each entry takes the room of `N` items, and of a mark whether they are there. In turn a list that
+/// lies in its entry is read and compared without a look at the vector, and a sweep moves the others
+/// alone. So it is for storages whose lists have mostly up to `N` items.
+pub type NearSliceStorage<T, const N: usize, B = FixedState> = InternSliceStorage<T, B, Near<N>>;
 
 /// An owned handle of a header with items, which counts one.
-pub type InternedSlice<T> = Owned<Slices<T>>;
+pub type InternedSlice<T, L = Far> = Owned<Slices<T, L>>;
 
 /// A reference to a header with items, which counts nothing.
-pub type InternedSliceRef<T> = Ref<Slices<T>>;
+pub type InternedSliceRef<T, L = Far> = Ref<Slices<T, L>>;
 
-impl<T: SliceInternable, B: BuildHasher> InternSliceStorage<T, B> {
+impl<T: SliceInternable, L: Layout<T::SliceType>, B: BuildHasher> InternSliceStorage<T, B, L> {
     /// A reference to the entry with this header and these items. None where no equal pair is
     /// stored. It takes no memory.
-    pub fn get(&self, header: &T::Header, slice: &[T::SliceType]) -> Option<InternedSliceRef<T>>
+    pub fn get(&self, header: &T::Header, slice: &[T::SliceType]) -> Option<InternedSliceRef<T, L>>
         ensures { let eq = sliced_eq T.Header.eq T.SliceType.eq in option_map ref_name result
             ≡ name_of_value eq self.now (slice_of header.now slice.now) }
     {
@@ -62,7 +71,7 @@ impl<T: SliceInternable, B: BuildHasher> InternSliceStorage<T, B> {
     }
 
     /// The entries, each with a reference to it, in no promised order. It takes no memory.
-    pub fn iter(&self) -> SliceIter<'_, T>
+    pub fn iter(&self) -> SliceIter<'_, T, L>
         ensures { IsPermutation result (named_slices self.now) }
     {
         SliceIter {
@@ -72,7 +81,7 @@ impl<T: SliceInternable, B: BuildHasher> InternSliceStorage<T, B> {
     }
 }
 
-impl<T: SliceInternable, B: BuildHasher> Reserved<Slices<T>, B> {
+impl<T: SliceInternable, L: Layout<T::SliceType>, B: BuildHasher> Reserved<Slices<T, L>, B> {
     /// Makes room for this many more items, of all slices together. Refused: `OutOfMemory`, where
     /// there isn't room for so many yet; what there was stays.
     pub fn reserve_items(&mut self, additional: usize) -> Result<(), Refusal>
@@ -92,7 +101,7 @@ impl<T: SliceInternable, B: BuildHasher> Reserved<Slices<T>, B> {
         &mut self,
         header: T::Header,
         slice: &[T::SliceType],
-    ) -> Result<(InternedSliceRef<T>, Option<T::Header>), Refused<T::Header>>
+    ) -> Result<(InternedSliceRef<T, L>, Option<T::Header>), Refused<T::Header>>
         requires { T.SliceInternable.USE_GC ≡ true }
         ensures name { let eq = sliced_eq T.Header.eq T.SliceType.eq in IfOk result (λ r.
             ref_name r.0 ≡ slice_name_in eq self.old.store.state header slice.now) }
@@ -122,7 +131,7 @@ impl<T: SliceInternable, B: BuildHasher> Reserved<Slices<T>, B> {
     }
 }
 
-impl<T: SliceInternable> InternedSlice<T> {
+impl<T: SliceInternable, L: Layout<T::SliceType>> InternedSlice<T, L> {
     /// A reference to the header and the items, which counts nothing.
     ///
     /// Where an equal pair is stored, that one stays and the header given comes back beside the
@@ -130,10 +139,10 @@ impl<T: SliceInternable> InternedSlice<T> {
     /// with count zero, which may take memory. Refused: `NumbersUsedUp` and `OutOfMemory` where no
     /// equal pair is stored.
     pub fn from_header_and_slice<B: BuildHasher>(
-        storage: &mut InternSliceStorage<T, B>,
+        storage: &mut InternSliceStorage<T, B, L>,
         header: T::Header,
         slice: &[T::SliceType],
-    ) -> Result<(InternedSliceRef<T>, Option<T::Header>), Refused<T::Header>>
+    ) -> Result<(InternedSliceRef<T, L>, Option<T::Header>), Refused<T::Header>>
         requires { T.SliceInternable.USE_GC ≡ true }
         ensures name { let eq = sliced_eq T.Header.eq T.SliceType.eq in
             IfOk result (λ r. ref_name r.0 ≡ slice_name_in eq storage.old header slice.now) }
@@ -153,7 +162,7 @@ impl<T: SliceInternable> InternedSlice<T> {
     /// None for a handle of another storage, or of an entry that is gone.
     pub fn get<'a, B: BuildHasher>(
         &self,
-        storage: &'a InternSliceStorage<T, B>,
+        storage: &'a InternSliceStorage<T, B, L>,
     ) -> Option<HeaderSlice<'a, T::Header, T::SliceType>>
         ensures { option_map read result
             ≡ option_map sized (reads storage.now (name_of self.now)) }
@@ -165,8 +174,8 @@ impl<T: SliceInternable> InternedSlice<T> {
     /// Refused, with the handle back: `Foreign`, `Gone`, `CountZero`.
     pub fn release<B: BuildHasher>(
         self,
-        storage: &mut InternSliceStorage<T, B>,
-    ) -> Result<(), Refused<InternedSlice<T>>>
+        storage: &mut InternSliceStorage<T, B, L>,
+    ) -> Result<(), Refused<InternedSlice<T, L>>>
         ensures refused { OwesBack result (due storage.old (name_of self) zero_count) self }
         ensures state { Becomes result storage.old storage.new
             (counted_down storage.old (name_of self).birth) }
@@ -179,12 +188,12 @@ impl<T: SliceInternable> InternedSlice<T> {
     }
 }
 
-impl<T: SliceInternable> InternedSliceRef<T> {
+impl<T: SliceInternable, L: Layout<T::SliceType>> InternedSliceRef<T, L> {
     /// The header and the items, borrowed from the storage.
     /// None for a reference of another storage, or of an entry that is gone.
     pub fn get<'a, B: BuildHasher>(
         self,
-        storage: &'a InternSliceStorage<T, B>,
+        storage: &'a InternSliceStorage<T, B, L>,
     ) -> Option<HeaderSlice<'a, T::Header, T::SliceType>>
         ensures { option_map read result
             ≡ option_map sized (reads storage.now (ref_name self)) }

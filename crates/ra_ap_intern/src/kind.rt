@@ -4,7 +4,7 @@ ghost use Rattle.std.specs.Prelude.{Bool};
 use crate::intern::Internable;
 use crate::intern_slice::SliceInternable;
 use intern_store::Entries;
-use intern_table::{SliceTable, Table};
+use intern_table::{Far, Layout, SliceTable, Table};
 use std::hash::BuildHasher;
 use std::marker::PhantomData;
 
@@ -27,9 +27,10 @@ pub struct Values<T> {
     marker: PhantomData<*const T>,
 }
 
-/// Headers with lists of items, of a kind.
-pub struct Slices<T> {
-    marker: PhantomData<*const T>,
+/// Headers with lists of items, of a kind, whose items lie where a layout says: in one vector
+/// ([`Far`]), or up to so many in the entry ([`Near`](crate::Near)).
+pub struct Slices<T, L = Far> {
+    marker: PhantomData<*const (T, L)>,
 }
 
 impl<T: Internable, B: BuildHasher> Kind<B> for Values<T> {
@@ -40,8 +41,8 @@ impl<T: Internable, B: BuildHasher> Kind<B> for Values<T> {
     ghost USE_GC = { T.Internable.USE_GC };
 }
 
-impl<T: SliceInternable, B: BuildHasher> Kind<B> for Slices<T> {
-    type Table = SliceTable<T::Header, T::SliceType, B>;
+impl<T: SliceInternable, L: Layout<T::SliceType>, B: BuildHasher> Kind<B> for Slices<T, L> {
+    type Table = SliceTable<T::Header, T::SliceType, L::Near, B>;
 
     const USE_GC: bool = T::USE_GC;
 

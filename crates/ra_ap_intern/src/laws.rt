@@ -15,6 +15,7 @@ ghost use Rattle.ra_ap_intern.specs.Handle.{handle_of, name_cmp, name_of, ref_na
 ghost use Rattle.ra_ap_intern.specs.Symbols.{IsTable, Named, Counted, symbol_name, symbol_ref_name, has_its_text, text_of, symbol_in, due_symbol, at_entry, is_new_text};
 ghost use Rattle.ra_ap_intern.specs.Symbols.Named.{preset, entry};
 ghost use Rattle.ra_ap_intern.specs.declared.gc.Collected.{Collected as Told};
+ghost use Rattle.intern_table.specs.declared.layout.Far.{Far};
 ghost use Rattle.ra_ap_intern.specs.declared.kind.Slices.{Slices as SliceKind};
 ghost use Rattle.ra_ap_intern.specs.declared.kind.Values.{Values as ValueKind};
 ghost use Rattle.ra_ap_intern.specs.declared.owed.Owed.{Owed as ToRelease};
@@ -216,9 +217,9 @@ pub fn a_stored_slice_is_found<T: SliceInternable>()
 
 /// Owned handles of slices are equal exactly if their names are, and equal ones hash alike.
 pub fn owned_slices_are_names<T>()
-    ensures equal { (a b : Handle (SliceKind T)) →
+    ensures equal { (a b : Handle (SliceKind T Far)) →
         (⟦<InternedSlice<T> as PartialEq>⟧.eq a b ≡ true) ↔ (name_of a ≡ name_of b) }
-    ensures hashed { (a b : Handle (SliceKind T)) → name_of a ≡ name_of b →
+    ensures hashed { (a b : Handle (SliceKind T Far)) → name_of a ≡ name_of b →
         ⟦<InternedSlice<T> as Hash>⟧.hash_input a ≡ ⟦<InternedSlice<T> as Hash>⟧.hash_input b }
 {
     handles_are_names::<Slices<T>>();
@@ -226,10 +227,10 @@ pub fn owned_slices_are_names<T>()
 
 /// References to slices are equal exactly if their names are, and equal ones hash alike.
 pub fn slice_references_are_names<T>()
-    ensures equal { (a b : Reference (SliceKind T)) →
+    ensures equal { (a b : Reference (SliceKind T Far)) →
         (⟦<InternedSliceRef<T> as PartialEq>⟧.eq a b ≡ true)
         ↔ (ref_name a ≡ ref_name b) }
-    ensures hashed { (a b : Reference (SliceKind T)) → ref_name a ≡ ref_name b →
+    ensures hashed { (a b : Reference (SliceKind T Far)) → ref_name a ≡ ref_name b →
         ⟦<InternedSliceRef<T> as Hash>⟧.hash_input a
         ≡ ⟦<InternedSliceRef<T> as Hash>⟧.hash_input b }
 {

@@ -18,10 +18,11 @@ pub use gc::{
 };
 pub use intern::{InternHandle, InternStorage, Internable, Interned, InternedRef, Iter};
 pub use intern_slice::{
-    InternSliceStorage, InternedSlice, InternedSliceRef, SliceInternable, SliceIter,
+    InternSliceStorage, InternedSlice, InternedSliceRef, NearSliceStorage, SliceInternable,
+    SliceIter,
 };
 pub use intern_store::{Limits, Name, Refusal, Refused};
-pub use intern_table::{FixedState, HeaderSlice, HeaderWithLength, Text};
+pub use intern_table::{Far, FixedState, HeaderSlice, HeaderWithLength, Layout, Near, Text};
 pub use kind::{Kind, Slices, Values};
 pub use optional::{OptionalInternedRef, OptionalInternedSliceRef, OptionalRef};
 pub use owed::{Owed, OwedSlice, OwedValue};

@@ -12,6 +12,7 @@ use crate::gc::{GarbageCollector, GcInternedVisit};
 use crate::kind::{Slices, Values};
 use crate::storage::Ref;
 use intern_store::{EntryKey, Name, Spot};
+use intern_table::Far;
 use std::cmp::{Eq, Ordering};
 use std::fmt;
 use std::hash::{Hash, Hasher};
@@ -34,7 +35,7 @@ pub struct OptionalRef<K> {
 pub type OptionalInternedRef<T> = OptionalRef<Values<T>>;
 
 /// A reference to a header with items, or none.
-pub type OptionalInternedSliceRef<T> = OptionalRef<Slices<T>>;
+pub type OptionalInternedSliceRef<T, L = Far> = OptionalRef<Slices<T, L>>;
 
 impl<K> OptionalRef<K> {
     /// No reference.

@@ -15,7 +15,7 @@ use crate::intern_slice::{InternSliceStorage, SliceInternable};
 use crate::kind::{Kind, Slices, Values};
 use crate::storage::{Owned, Ref, Storage};
 use intern_store::{Name, Refusal, Refused};
-use intern_table::HeaderSlice;
+use intern_table::{Far, HeaderSlice, Layout};
 use std::fmt;
 use std::hash::BuildHasher;
 
@@ -32,7 +32,7 @@ pub struct Owed<K> {
 pub type OwedValue<T> = Owed<Values<T>>;
 
 /// An owned handle of a header with items that must be released.
-pub type OwedSlice<T> = Owed<Slices<T>>;
+pub type OwedSlice<T, L = Far> = Owed<Slices<T, L>>;
 
 impl<K> fmt::Debug for Owed<K> {
     fn fmt<W: fmt::Write>(&self, f: &mut fmt::Formatter<W>) -> fmt::Result {
@@ -120,12 +120,12 @@ impl<T: Internable> OwedValue<T> {
     }
 }
 
-impl<T: SliceInternable> OwedSlice<T> {
+impl<T: SliceInternable, L: Layout<T::SliceType>> OwedSlice<T, L> {
     /// The header and the items, borrowed from the storage.
     /// None for a handle of another storage, or of an entry that is gone.
     pub fn get<'a, B: BuildHasher>(
         &self,
-        storage: &'a InternSliceStorage<T, B>,
+        storage: &'a InternSliceStorage<T, B, L>,
     ) -> Option<HeaderSlice<'a, T::Header, T::SliceType>>
         ensures { option_map read result
             ≡ option_map sized (reads storage.now (name_of (handle_of self.now))) }
@@ -137,8 +137,8 @@ impl<T: SliceInternable> OwedSlice<T> {
     /// Refused, with the handle back: `Foreign`, `Gone`, `CountZero`.
     pub fn release<B: BuildHasher>(
         self,
-        storage: &mut InternSliceStorage<T, B>,
-    ) -> Result<(), Refused<OwedSlice<T>>>
+        storage: &mut InternSliceStorage<T, B, L>,
+    ) -> Result<(), Refused<OwedSlice<T, L>>>
         ensures refused { OwesBack result
             (due storage.old (name_of (handle_of self)) zero_count) self }
         ensures state { Becomes result storage.old storage.new

@@ -17,6 +17,8 @@ mod large;
 #[cfg(test)]
 mod limits;
 #[cfg(test)]
+mod near;
+#[cfg(test)]
 mod owed;
 #[cfg(test)]
 mod pairs;

@@ -17,7 +17,7 @@ use crate::kind::{Kind, Slices, Values};
 use crate::storage::Storage;
 use intern_marks::Marks;
 use intern_store::{EntryKey, Keeps};
-use intern_table::{Counted, Counts, SlicePayload};
+use intern_table::{Counted, Counts, Layout, SlicePayload, SliceRow};
 use std::alloc::AllocError;
 use std::hash::BuildHasher;
 
@@ -79,24 +79,24 @@ impl<T: Internable + GcInternedVisit + Drop, B: BuildHasher> Visits<B> for Value
     }
 }
 
-impl<T: GcInternedSliceVisit, B: BuildHasher> Visits<B> for Slices<T>
+impl<T: GcInternedSliceVisit, L: Layout<T::SliceType>, B: BuildHasher> Visits<B> for Slices<T, L>
 where
     T::Header: Drop,
 {
     ghost use Rattle.ra_ap_intern.specs.Families.{sliced_children};
 
-    type Stored = T::Header;
+    type Stored = SliceRow<T::Header, L::Near>;
 
     type Payload = SlicePayload;
 
     ghost children = { sliced_children T.header_children T.slice_children };
 
-    fn counts(table: &Self::Table) -> Counts<'_, T::Header, SlicePayload> {
+    fn counts(table: &Self::Table) -> Counts<'_, SliceRow<T::Header, L::Near>, SlicePayload> {
         table.counts()
     }
 
     fn visit_entry(
-        storage: &Storage<Slices<T>, B>,
+        storage: &Storage<Slices<T, L>, B>,
         key: EntryKey,
         gc: &mut GarbageCollector,
     ) -> bool {
@@ -108,7 +108,7 @@ where
         true
     }
 
-    fn keep<M: Keeps>(storage: &mut Storage<Slices<T>, B>, marks: &M) {
+    fn keep<M: Keeps>(storage: &mut Storage<Slices<T, L>, B>, marks: &M) {
         storage.inner.store.keep(marks);
     }
 }

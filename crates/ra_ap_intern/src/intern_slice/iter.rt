@@ -6,18 +6,18 @@ ghost use Rattle.ra_ap_intern.specs.Handle.{ref_name};
 use super::{InternedSliceRef, SliceInternable};
 use crate::storage::Ref;
 use intern_store::EntryKey;
-use intern_table::{HeaderSlice, SliceIter as TableIter};
+use intern_table::{Far, HeaderSlice, Layout, SliceIter as TableIter};
 use std::marker::Model;
 
 /// The entries of a storage of slices, each with a reference to it. It is seen as the list of those
 /// that are left.
 #[derive(Drop)]
-pub struct SliceIter<'a, T: SliceInternable> {
+pub struct SliceIter<'a, T: SliceInternable, L: Layout<T::SliceType> = Far> {
     pub(super) number: u64,
-    pub(super) entries: TableIter<'a, T::Header, T::SliceType>,
+    pub(super) entries: TableIter<'a, T::Header, T::SliceType, L::Near>,
 }
 
-impl<'a, T: SliceInternable> Model for SliceIter<'a, T> {
+impl<'a, T: SliceInternable, L: Layout<T::SliceType>> Model for SliceIter<'a, T, L> {
     ghost use Rattle.std.specs.Prelude.{ℕ, List, map};
     ghost use Rattle.intern_store.specs.declared.names.Name.{Name};
     ghost use Rattle.intern_table.specs.Sliced.{Sliced};
@@ -29,9 +29,9 @@ impl<'a, T: SliceInternable> Model for SliceIter<'a, T> {
     ghost view = { λ it. map (slice_with_name it.number) it.entries };
 }
 
-impl<'a, T: SliceInternable> Iterator for SliceIter<'a, T> {
+impl<'a, T: SliceInternable, L: Layout<T::SliceType>> Iterator for SliceIter<'a, T, L> {
     type Item = (
-        InternedSliceRef<T>,
+        InternedSliceRef<T, L>,
         HeaderSlice<'a, T::Header, T::SliceType>,
     );
 
@@ -43,7 +43,7 @@ impl<'a, T: SliceInternable> Iterator for SliceIter<'a, T> {
         &mut self,
     ) -> Option<
         (
-            InternedSliceRef<T>,
+            InternedSliceRef<T, L>,
             HeaderSlice<'a, T::Header, T::SliceType>,
         ),
     > {

@@ -5,7 +5,7 @@ use Rattle.intern_table.proofs.pool.compact.Given as goal
 
 abbrev pub invariant-loop-at : goal.invariant-loop-at
 invariant-loop-at g l = record {
-  moved : IsMoved l.fn.index.entries l.fn.items.items l.index.entries l.items.items l.at l.end;
+  moved : IsMoved g.A.NearItems.near_of l.fn.index.entries l.fn.items.items l.index.entries l.items.items l.at l.end;
   last : l.last ≡ spot_before l.fn.index.entries l.at;
   buckets : l.index.buckets ≡ l.fn.index.buckets;
 }

@@ -6,4 +6,4 @@ use Rattle.intern_table.proofs.Tabled.{seen_entries}
 use Rattle.intern_table.proofs.slice_table.SliceTable.counts.Goals as goal
 
 pub returns : goal.returns
-returns g c = counted slice_count (sliced_entry c.self.inside.items.items) (λ r. refl) _ _ (seen_entries c.self.view_is) _ c.iter-entries.ensures
+returns g c = counted slice_count (sliced_entry g.A.NearItems.near_of c.self.inside.items.items) (λ r. refl) _ _ (seen_entries c.self.view_is) _ c.iter-entries.ensures

@@ -14,8 +14,9 @@ use Rattle.intern_table.proofs.slice_table.SliceTable.iter.Goals as goal
 pub returns : goal.returns
 returns g c =
     let xs = c.self.inside.items.items in
+    let among = slice_among g.A.NearItems.near_of xs in
     rw c.as_slice.ensures.value (
-    subst (IsPermutation (list_map (slice_among xs) c.iter.result))
-    (map-map (slice_among xs) listed_of (entries c.self.inside.index.entries)
-    ∙ listed_through (sliced_entry xs) (λ e. slice_among xs (listed_of e)) (λ e. (e.0, shown e.1)) (λ e. refl) _ _ (seen_entries c.self.view_is))
-    (IsPermutation-map (slice_among xs) _ _ c.iter.ensures))
+    subst (IsPermutation (list_map among c.iter.result))
+    (map-map among listed_of (entries c.self.inside.index.entries)
+    ∙ listed_through (sliced_entry g.A.NearItems.near_of xs) (λ e. among (listed_of e)) (λ e. (e.0, shown e.1)) (λ e. refl) _ _ (seen_entries c.self.view_is))
+    (IsPermutation-map among _ _ c.iter.ensures))

@@ -6,4 +6,4 @@ use Rattle.intern_table.proofs.Tabled.{seen_entries}
 use Rattle.intern_table.proofs.slice_table.SliceTableEntries.len.Goals as goal
 
 pub returns : goal.returns
-returns g c = c.len.ensures ∙ sym (len-map_values (sliced_entry c.self.inside.items.items) _) ∙ ap len (seen_entries c.self.view_is)
+returns g c = c.len.ensures ∙ sym (len-map_values (sliced_entry g.A.NearItems.near_of c.self.inside.items.items) _) ∙ ap len (seen_entries c.self.view_is)

@@ -5,4 +5,4 @@ use Rattle.intern_table.proofs.Tabled.{seen_entries}
 use Rattle.intern_table.proofs.slice_table.SliceTableEntries.place.Goals as goal
 
 pub returns : goal.returns
-returns g c = ap is_some c.place.ensures ∙ placed (sliced_entry c.self.inside.items.items) _ _ (seen_entries c.self.view_is) c.args.birth
+returns g c = ap is_some c.place.ensures ∙ placed (sliced_entry g.A.NearItems.near_of c.self.inside.items.items) _ _ (seen_entries c.self.view_is) c.args.birth

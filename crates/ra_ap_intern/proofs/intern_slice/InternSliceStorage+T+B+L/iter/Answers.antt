@@ -1,7 +1,7 @@
 use Rattle.intern_table.specs.Read.{shown}
 use Rattle.ra_ap_intern.specs.Slices.{slice_with_name}
 use Rattle.ra_ap_intern.proofs.Listings.{named_entries}
-use Rattle.ra_ap_intern.proofs.intern_slice.InternSliceStorage+T+B.iter.Goals as goal
+use Rattle.ra_ap_intern.proofs.intern_slice.InternSliceStorage+T+B+L.iter.Goals as goal
 
 pub returns : goal.returns
 returns g c =
