@@ -107,6 +107,45 @@ impl GcInternedSliceVisit for UnitSlice {
     fn visit_slice(_slice: &[()], _gc: &mut GarbageCollector) {}
 }
 
+/// A number. It declares nothing.
+#[derive(Drop, PartialEq, Eq, Hash)]
+pub struct Plain(pub u64);
+
+impl Internable for Plain {
+    const USE_GC: bool = true;
+
+    ghost USE_GC = { true };
+}
+
+impl GcInternedVisit for Plain {
+    ghost children = { λ _. [] };
+
+    fn visit_with(&self, _gc: &mut GarbageCollector) {}
+}
+
+/// Numbers behind a number. They declare nothing.
+pub struct List;
+
+impl SliceInternable for List {
+    type Header = u64;
+
+    type SliceType = u64;
+
+    const USE_GC: bool = true;
+
+    ghost USE_GC = { true };
+}
+
+impl GcInternedSliceVisit for List {
+    ghost header_children = { λ _. [] };
+
+    ghost slice_children = { λ _. [] };
+
+    fn visit_header(_header: &u64, _gc: &mut GarbageCollector) {}
+
+    fn visit_slice(_slice: &[u64], _gc: &mut GarbageCollector) {}
+}
+
 /// A number whose hash writes nothing, so that all have the same hash. It declares nothing.
 #[derive(Clone, Copy, PartialEq, Eq)]
 pub struct Alike(pub u64);

@@ -1,5 +1,5 @@
 //! A hash table of places.
-ghost use Rattle.std.specs.Prelude.{◌≡◌, ◌↔◌, ℕ, ◌+◌, ◌<◌, ◌≤◌, ◌^◌};
+ghost use Rattle.std.specs.Prelude.{◌≡◌, ◌↔◌, ℕ, ◌+◌, ◌-◌, ◌*◌, ◌<◌, ◌≤◌, ◌^◌, min};
 ghost use Rattle.std.specs.Prelude.{length, Some, true, IfSome, IfOk, OnOk, IsOk, IsTrue};
 ghost use Rattle.intern_buckets.specs.Probing.{home, bucket, is_empty};
 
@@ -140,6 +140,13 @@ impl Buckets {
             }
         }
         self.buckets.push_reserved(bucket);
+    }
+
+    /// The bytes that the table holds: eight a bucket.
+    pub fn memory(&self) -> usize
+        ensures { result ≡ min (capacity_of self.now * 8) (2 ^ 64 - 1) }
+    {
+        self.buckets.capacity().saturating_mul(size_of::<Bucket>())
     }
 
     /// How many buckets there is room for.

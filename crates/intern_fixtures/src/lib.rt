@@ -3,6 +3,7 @@
 #![tactic(auto)]
 
 mod answers;
+mod dice;
 mod keys;
 mod nodes;
 mod slices;
@@ -10,6 +11,7 @@ mod storages;
 mod values;
 
 pub use answers::{allowed, refusal, told};
+pub use dice::Dice;
 pub use keys::{a_map_tells_apart, a_set_tells_apart};
 pub use nodes::{GcString, Node, make_gc_string, make_node};
 pub use slices::{NodeSlice, StringSlice};

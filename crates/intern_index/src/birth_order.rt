@@ -206,6 +206,10 @@ impl Births for BirthOrder {
         }
     }
 
+    fn memory(&self) -> usize {
+        self.places.capacity().saturating_mul(size_of::<usize>())
+    }
+
     fn enter(&mut self, _birth: u64, place: usize) {
         if self.row.is_none() {
             self.places.push_reserved(place);

@@ -137,6 +137,10 @@ impl Births for BirthTable {
         self.others.reserve(alloc, slots, additional, &self.row)
     }
 
+    fn memory(&self) -> usize {
+        self.others.buckets.memory()
+    }
+
     fn enter(&mut self, birth: u64, place: usize) {
         if !self.row.has(birth, place) {
             self.others.enter(mix(birth), place);

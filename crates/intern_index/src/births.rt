@@ -59,6 +59,9 @@ pub trait Births: Sized {
         ensures finds { IsFor self.new (birth_at slots.now) }
         ensures free { OnOk result (additional ≤ free self.new (slab_len slots.now)) };
 
+    /// The bytes that it holds.
+    fn memory(&self) -> usize;
+
     /// Enters a birth above all others.
     fn enter(&mut self, birth: u64, place: usize)
         requires room { HasRoom self.old birth place }

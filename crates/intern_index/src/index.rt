@@ -6,6 +6,7 @@ ghost use Rattle.std.specs.FinMap as map;
 ghost use Rattle.intern_index.specs.Entries.{seen};
 ghost use Rattle.intern_index.specs.IndexEntry.{IndexEntry, Indexed, IsLed, has_hash, is_sought, repaid, spot_at, spot_before};
 ghost use Rattle.intern_index.specs.Listed.{listed};
+ghost use Rattle.intern_store.specs.Memory.{least_memory};
 ghost use Rattle.intern_store.specs.Outcome.{Spends};
 
 use crate::birth_order::BirthOrder;
@@ -15,6 +16,7 @@ use crate::entry::Entry;
 use crate::iter::Iter;
 use crate::offer::Offer;
 use crate::query::{Fitting, Hashes, Query};
+use crate::size::size_of_option;
 use crate::sweep::keep_marked;
 use crate::table::{Key, Table};
 use intern_buckets::{PLACES, search};
@@ -89,6 +91,18 @@ impl<T, N: Copy, B: Births> Index<T, N, B> {
         ensures { result ≡ map.len self.now.entries }
     {
         self.slots.len()
+    }
+
+    /// The bytes that the index holds: its slots, used or not, and what finds them.
+    pub fn memory(&self) -> usize
+        ensures { least_memory (map.len self.now.entries) ≤ result }
+    {
+        // A vacant slot holds the place of the next one.
+        let slot = size_of_option::<Entry<T, N>>().max(size_of::<usize>());
+        let slots = self.slots.capacity().saturating_mul(slot);
+        slots
+            .saturating_add(self.by_hash.buckets.memory())
+            .saturating_add(self.births.memory())
     }
 
     /// The place of a birth.

@@ -11,6 +11,7 @@ mod iter;
 mod offer;
 mod query;
 mod row;
+mod size;
 mod sweep;
 mod table;
 #[cfg(test)]
@@ -25,3 +26,4 @@ pub use index::Index;
 pub use iter::Iter;
 pub use offer::Offer;
 pub use query::{Hashes, Query};
+pub use size::size_of_one;

@@ -4,6 +4,7 @@ ghost use Rattle.std.specs.Option.{option_map};
 ghost use Rattle.std.specs.FinMap as map;
 ghost use Rattle.std.specs.Ordering.{nat_cmp};
 ghost use Rattle.intern_store.specs.Kept.{Kept, is_at, raised, recounted};
+ghost use Rattle.intern_store.specs.Memory.{least_memory};
 ghost use Rattle.intern_store.specs.Outcome.{Spends};
 
 use crate::names::Spot;
@@ -45,6 +46,11 @@ pub trait Entries: Sized {
     /// How many entries there are.
     fn len(&self) -> usize
         ensures { result ≡ map.len (entries self.now) };
+
+    /// The bytes that the table has asked for and still holds: its slots, used or not, and what finds
+    /// them. What values hold elsewhere is not counted.
+    fn memory(&self) -> usize
+        ensures { least_memory (map.len (entries self.now)) ≤ result };
 
     /// Where the entry of a birth lies.
     fn place(&self, birth: u64) -> Option<usize>

@@ -3,6 +3,7 @@ ghost use Rattle.std.specs.Prelude.{◌≡◌, ◌<◌, ◌≤◌, ◌==◌, if�
 ghost use Rattle.std.specs.Result.{result_ok};
 ghost use Rattle.std.specs.FinMap as map;
 ghost use Rattle.std.specs.Option.{option_map};
+ghost use Rattle.intern_store.specs.Memory.{least_memory};
 ghost use Rattle.intern_store.specs.Named.{key_name};
 ghost use Rattle.intern_store.specs.Outcome.{Owes, OwesBack, MayWant, MayWantBack, Becomes, Spends};
 ghost use Rattle.intern_store.specs.State.{HasRoom, IsState, new_state, name_in, entry_at, count_at, counts, counted_up, counted_down, taken, added_with, birth_of, is_new, interned, interned_name, interned_counted, given_back, name_of_value, due, due_at, due_adding, due_interning, due_found_full, found_counted, full, zero_count, any_count, freed, released, kept};
@@ -116,6 +117,13 @@ impl<E: Entries> Store<E> {
         ensures { result ≡ (map.len self.now.state.map == 0) }
     {
         self.len() == 0
+    }
+
+    /// The bytes that the table holds.
+    pub fn memory(&self) -> usize
+        ensures { least_memory (map.len self.now.state.map) ≤ result }
+    {
+        self.table.memory()
     }
 
     // Where the entry of a key is looked for. A key of another storage is refused.

@@ -15,7 +15,7 @@ use crate::layout::{NearItems, SliceRow, far_length};
 use crate::pool::{SlicePayload, compact};
 use crate::slice::{HeaderSlice, SliceValue};
 use crate::slice_iter::SliceIter;
-use intern_index::{BirthOrder, Hashes, Index, Query};
+use intern_index::{BirthOrder, Hashes, Index, Query, size_of_one};
 use intern_store::{Entries, Finds, Keeps, Pools, Spot, Sweeps, Takes};
 use std::alloc::{AllocError, Global};
 use std::cmp::Eq;
@@ -171,6 +171,11 @@ impl<H: Hash + Eq, S: Hash + Eq + Copy, A: NearItems<S>, B: BuildHasher> Entries
 
     fn len(&self) -> usize {
         self.index.len()
+    }
+
+    fn memory(&self) -> usize {
+        let items = self.items.capacity().saturating_mul(size_of_one::<S>());
+        self.index.memory().saturating_add(items)
     }
 
     fn place(&self, birth: u64) -> Option<usize> {

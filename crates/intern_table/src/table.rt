@@ -120,6 +120,10 @@ impl<T: Hash + Eq, B: BuildHasher> Entries for Table<T, B> {
         self.index.len()
     }
 
+    fn memory(&self) -> usize {
+        self.index.memory()
+    }
+
     fn place(&self, birth: u64) -> Option<usize> {
         self.index.place(birth)
     }

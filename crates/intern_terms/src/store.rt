@@ -1,9 +1,10 @@
 //! The store of terms.
-ghost use Rattle.std.specs.Prelude.{◌≡◌, ◌<◌, ◌==◌, List, map as list_map, Some, None, IsSome, is_some, IsPermutation, IfOk, OnErr};
+ghost use Rattle.std.specs.Prelude.{◌≡◌, ◌<◌, ◌≤◌, ◌==◌, List, map as list_map, Some, None, IsSome, is_some, IsPermutation, IfOk, OnErr};
 ghost use Rattle.std.specs.FinMap as map;
 ghost use Rattle.std.specs.Option.{option_map};
 ghost use Rattle.ra_ap_intern.specs.Names.{has};
 ghost use Rattle.ra_ap_intern.specs.Families.{IsCollection, kept_named};
+ghost use Rattle.ra_ap_intern.specs.Memory.{least_memory};
 ghost use Rattle.ra_ap_intern.specs.Name.{Name as TermName};
 ghost use Rattle.ra_ap_intern.specs.Outcome.{Owes, OwesBack, MayWantBack, Becomes};
 ghost use Rattle.ra_ap_intern.specs.Reach.{starts, starts_with};
@@ -113,6 +114,14 @@ impl<B: BuildHasher> TermStore<B> {
         ensures { result ≡ (map.len self.now.map == 0) }
     {
         self.terms.is_empty()
+    }
+
+    /// The bytes of memory that the store holds: its slots, used or not, what finds them, and the
+    /// arguments of terms; eight for each term at least. The store itself is not counted.
+    pub fn memory(&self) -> usize
+        ensures { least_memory (map.len self.now.map) ≤ result }
+    {
+        self.terms.memory()
     }
 
     /// The term with this head over these arguments.

@@ -127,6 +127,8 @@ fn check_storage(
         "InternSliceStorage::number, InternSliceStorage::len, InternSliceStorage::is_empty",
     );
     ensure(storage.number() == 1 && storage.len() == 3 && !storage.is_empty())?;
+    takes_none(rt, "InternSliceStorage::memory");
+    ensure(storage.memory() > 0)?;
     takes_none(rt, "InternSliceStorage::get");
     ensure(
         storage.get(&live, ITEMS) == Some(handles.live.as_ref()) && storage.get(&live, &[]) == None,

@@ -90,6 +90,8 @@ fn check_table(rt: &impl Eprint, table: &SymbolTable, symbols: &Symbols) -> Resu
         "SymbolTable::number, SymbolTable::len, SymbolTable::is_empty",
     );
     ensure(table.number() == 1 && table.len() == 4 && !table.is_empty())?;
+    takes_none(rt, "SymbolTable::memory");
+    ensure(table.memory() > 0)?;
     takes_none(rt, "SymbolTable::get");
     ensure(
         table.get(LIVE) == Some(symbols.live.as_ref())

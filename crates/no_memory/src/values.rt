@@ -112,6 +112,8 @@ fn check_storage(
         "InternStorage::number, InternStorage::len, InternStorage::is_empty",
     );
     ensure(storage.number() == 1 && storage.len() == 3 && !storage.is_empty())?;
+    takes_none(rt, "InternStorage::memory");
+    ensure(storage.memory() > 0)?;
     takes_none(rt, "InternStorage::get");
     ensure(storage.get(&live) == Some(handles.live.as_ref()) && storage.get(&gone) == None)?;
     takes_none(rt, "InternStorage::iter");

@@ -16,6 +16,7 @@ pub use Rattle.intern_marks.specs.Trace
 pub use Rattle.intern_presets.specs.Numbers
 pub use Rattle.intern_presets.specs.Presets
 pub use Rattle.intern_store.specs.Kept
+pub use Rattle.intern_store.specs.Memory
 pub use Rattle.intern_store.specs.Named
 pub use Rattle.intern_store.specs.Outcome
 pub use Rattle.intern_store.specs.State

@@ -5,6 +5,7 @@
 ghost use Rattle.std.specs.Prelude.{◌≡◌, ◌<◌, ◌≤◌, ◌==◌, None, true, is_some, IfOk};
 ghost use Rattle.std.specs.Borrow.{sem};
 ghost use Rattle.std.specs.FinMap as map;
+ghost use Rattle.intern_store.specs.Memory.{least_memory};
 ghost use Rattle.intern_store.specs.Named.{key_name};
 ghost use Rattle.intern_store.specs.Outcome.{Owes, MayWant, Becomes};
 ghost use Rattle.intern_store.specs.State.{IsState, new_state, reads, counts, counted_up, counted_down, due, full, zero_count};
@@ -162,6 +163,15 @@ impl<K: Kind<B>, B> Storage<K, B> {
         ensures { result ≡ (map.len self.now.map == 0) }
     {
         self.inner.store.is_empty()
+    }
+
+    /// The bytes of memory that the storage holds: its slots, used or not, what finds them, and the
+    /// items of slices; eight for each entry at least. What values hold elsewhere, as a `String` its
+    /// text, is not counted, and neither is the storage itself.
+    pub fn memory(&self) -> usize
+        ensures { least_memory (map.len self.now.map) ≤ result }
+    {
+        self.inner.store.memory()
     }
 
     /// The count of the entry that a reference names: how many owners it has.

@@ -9,6 +9,7 @@ ghost use Rattle.std.specs.Borrow.{sem};
 ghost use Rattle.std.specs.FinMap as map;
 ghost use Rattle.std.specs.Option.{option_map};
 ghost use Rattle.std.specs.Str.{bytes_eq};
+ghost use Rattle.intern_store.specs.Memory.{least_memory};
 ghost use Rattle.intern_store.specs.Outcome.{Owes, OwesBack, MayWant, Becomes, Spends};
 ghost use Rattle.intern_store.specs.State.{IsState, new_state, counted_up, full, any_count, released};
 ghost use Rattle.ra_ap_intern.specs.Symbols.{IsTable, symbol_name, symbol_ref_name, named_in, named_texts, entry_name, own_text, text_of, count_of, symbol_in, due_of, due_symbol, is_new_text, at_entry};
@@ -160,6 +161,15 @@ impl<B: BuildHasher> SymbolTable<B> {
         ensures { result ≡ (map.len self.now.map == 0) }
     {
         self.inner.store.is_empty()
+    }
+
+    /// The bytes of memory that the table holds: its slots, used or not, with texts of up to 24
+    /// bytes, and what finds them; eight for each text at least. Longer texts lie elsewhere and are
+    /// not counted, and neither is the table itself.
+    pub fn memory(&self) -> usize
+        ensures { least_memory (map.len self.now.map) ≤ result }
+    {
+        self.inner.store.memory()
     }
 
     /// A reference to the symbol of a text: a preset's, or that of a text that the table keeps.

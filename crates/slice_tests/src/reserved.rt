@@ -44,6 +44,21 @@ fn slices_in_room(rt: HostRuntime) {
 }
 
 #[test]
+fn memory_follows_items(rt: HostRuntime) {
+    let alloc = rt.alloc();
+    let mut storage = new_slices(alloc, 1);
+    is_equal(&rt, storage.memory(), 0);
+    let _ = intern_new(&rt, alloc, &mut storage, ("x", &[1; 10]), 0);
+    let stored = storage.memory();
+    let room = storage.reserve(1).expect(&rt, "memory");
+    reserve(&rt, room, 1000);
+    // An item has eight bytes.
+    let grown = storage.memory().saturating_sub(stored);
+    assert!(rt; grown >= 900 * 8 && grown < 2000 * 8);
+    drop_slices(storage);
+}
+
+#[test]
 fn room_for_too_many_items_is_refused(rt: HostRuntime) {
     let alloc = rt.alloc();
     let mut storage = new_slices(alloc, 1);

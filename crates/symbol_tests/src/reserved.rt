@@ -30,6 +30,18 @@ fn texts_in_room(rt: HostRuntime) {
 }
 
 #[test]
+fn memory_follows_texts(rt: HostRuntime) {
+    let mut table = new_table(rt.alloc(), 1);
+    is_equal(&rt, table.memory(), 0);
+    let _ = Symbol::intern(&mut table, "Clone").expect(&rt, "a preset");
+    is_equal(&rt, table.memory(), 0);
+    let _ = table.reserve(100).expect(&rt, "memory");
+    // A text of up to 24 bytes lies in its entry.
+    assert!(rt; table.memory() >= 100 * 40 && table.memory() < 100 * 200);
+    drop_table(table);
+}
+
+#[test]
 fn too_much_room_is_refused(rt: HostRuntime) {
     let mut table = new_table(rt.alloc(), 1);
     let why = refusal(table.reserve(usize::MAX).map(|_| ())).expect(&rt, "refused");

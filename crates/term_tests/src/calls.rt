@@ -247,6 +247,14 @@ fn references_are_hashed(rt: HostRuntime) {
 }
 
 #[test]
+fn memory_follows_terms(rt: HostRuntime) {
+    let mut stage = made(&rt, rt.alloc());
+    // A term is a birth, a head, a count and where its arguments lie, and these are 24 bytes each.
+    let memory = stage.scene(&rt, HERE).store.memory();
+    assert!(rt; memory >= 3 * 72 + 2 * 24 && memory < 10_000);
+}
+
+#[test]
 fn references_are_put_in_order(rt: HostRuntime) {
     let stage = made(&rt, rt.alloc());
     let mut set = BTreeSet::new(rt.alloc());

@@ -3,6 +3,7 @@ ghost use Rattle.std.specs.Prelude.{◌<◌};
 
 use crate::sides::Side;
 use crate::texts::{is_equal, push};
+use intern_fixtures::Dice;
 use intern_terms::{Term, TermRef};
 use std::alloc::Global;
 use std::process::Abort;
@@ -42,7 +43,7 @@ fn new_run(rt: &impl Abort, alloc: Global) -> Run {
         alloc,
         sides: Vec::new(alloc),
         owners: Vec::new(alloc),
-        dice: Dice(1),
+        dice: Dice::new(1),
         call: 0,
         met: Vec::new(alloc),
     };
@@ -65,7 +66,7 @@ impl Run {
     /// Makes a call that is drawn, on a store that is drawn.
     fn call(&mut self, rt: &impl Abort) {
         let store = self.dice.below(3) as usize;
-        self.call = self.dice.call();
+        self.call = draw_call(&mut self.dice);
         match self.call {
             0 => self.make(rt, store),
             1 => self.make_again(rt, store),
@@ -92,13 +93,13 @@ impl Run {
     /// Draws a term that a store gave, one of the last or any.
     fn draw_of(&mut self, rt: &impl Abort, store: usize) -> TermRef {
         let births = self.side(rt, store).trees.births();
-        let birth = self.dice.birth(births as u64) as usize;
+        let birth = draw_birth(&mut self.dice, births as u64) as usize;
         self.side(rt, store).trees.term_at(rt, birth)
     }
 
     /// Draws a term for this call, mostly one that this store can read.
     fn draw(&mut self, rt: &impl Abort, store: usize) -> TermRef {
-        let from = self.dice.near(store, 16);
+        let from = draw_store(&mut self.dice, store, 16);
         let term = self.draw_readable(rt, from);
         self.meet(rt, store, term);
         term
@@ -195,7 +196,7 @@ impl Run {
 
     fn clone(&mut self, rt: &impl Abort) {
         if let Some(owner) = self.take() {
-            let store = self.dice.near(store_of(&owner), 8);
+            let store = draw_store(&mut self.dice, store_of(&owner), 8);
             let second = self.side_mut(rt, store).clone(rt, &owner);
             push(rt, &mut self.owners, owner);
             self.put(rt, second);
@@ -204,7 +205,7 @@ impl Run {
 
     fn release(&mut self, rt: &impl Abort) {
         if let Some(owner) = self.take() {
-            let store = self.dice.near(store_of(&owner), 8);
+            let store = draw_store(&mut self.dice, store_of(&owner), 8);
             let back = self.side_mut(rt, store).release(rt, owner);
             self.put(rt, back);
         }
@@ -234,53 +235,35 @@ fn store_of(owner: &Term) -> usize {
     owner.as_ref().name().storage.saturating_sub(3) as usize
 }
 
-/// A linear congruential generator, with the constants of Knuth's MMIX.
-#[derive(Drop)]
-struct Dice(u64);
-
-impl Dice {
-    /// The next number, below this one.
-    fn below(&mut self, sides: u64) -> u64
-        requires { 0 < sides }
-        ensures { result < sides }
-    {
-        self.0 = self
-            .0
-            .wrapping_mul(6_364_136_223_846_793_005)
-            .wrapping_add(1_442_695_040_888_963_407);
-        (self.0 >> 33) % sides
+/// The number of a call. Terms are made, read, kept and released more often than the others.
+fn draw_call(dice: &mut Dice) -> usize {
+    match dice.below(17) {
+        0 | 1 | 2 | 3 => 0,
+        4 => 3,
+        5 => 5,
+        6 => 10,
+        number => number.saturating_sub(6) as usize,
     }
+}
 
-    /// The number of a call. Terms are made, read, kept and released more often than the others.
-    fn call(&mut self) -> usize {
-        match self.below(17) {
-            0 | 1 | 2 | 3 => 0,
-            4 => 3,
-            5 => 5,
-            6 => 10,
-            number => number.saturating_sub(6) as usize,
-        }
+/// This store, or once in so many times any of the three.
+fn draw_store(dice: &mut Dice, store: usize, times: u64) -> usize
+    requires { 0 < times }
+{
+    if dice.below(times) == 0 {
+        dice.below(3) as usize
+    } else {
+        store
     }
+}
 
-    /// This store, or once in so many times any of the three.
-    fn near(&mut self, store: usize, times: u64) -> usize
-        requires { 0 < times }
-    {
-        if self.below(times) == 0 {
-            self.below(3) as usize
-        } else {
-            store
-        }
-    }
-
-    /// A birth out of so many, half the time one of the last six.
-    fn birth(&mut self, births: u64) -> u64 {
-        if births == 0 {
-            0
-        } else if self.below(2) == 0 {
-            births.saturating_sub(1 + self.below(6))
-        } else {
-            self.below(births)
-        }
+/// A birth out of so many, half the time one of the last six.
+fn draw_birth(dice: &mut Dice, births: u64) -> u64 {
+    if births == 0 {
+        0
+    } else if dice.below(2) == 0 {
+        births.saturating_sub(1 + dice.below(6))
+    } else {
+        dice.below(births)
     }
 }

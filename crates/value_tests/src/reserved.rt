@@ -69,6 +69,19 @@ fn room_over_entries_keeps_them(rt: HostRuntime) {
 }
 
 #[test]
+fn memory_follows_entries_and_room(rt: HostRuntime) {
+    let mut storage = new_values(rt.alloc(), 1);
+    is_equal(&rt, storage.memory(), 0);
+    store(&rt, &mut storage, 100);
+    let stored = storage.memory();
+    // An entry is a birth, a number and a count beside the slab's mark, and eight bytes lead to it.
+    assert!(rt; stored >= 100 * 40 && stored < 100 * 100);
+    let _ = reserve(&rt, &mut storage, 1000);
+    assert!(rt; storage.memory().saturating_sub(stored) >= 900 * 40);
+    drop_values(storage);
+}
+
+#[test]
 fn too_much_room_is_refused(rt: HostRuntime) {
     let mut storage = new_values(rt.alloc(), 1);
     store(&rt, &mut storage, 3);

@@ -4,6 +4,7 @@ ghost use Rattle.std.specs.Prelude.{◌<◌};
 use crate::model::{GENERATED, INTEGERS, KeyRow, Model};
 use crate::rows::tells;
 use crate::worlds::{Texts, drop_world, new_world, push};
+use intern_fixtures::Dice;
 use intern_world::{Kind, Which};
 use std::alloc::Global;
 use std::process::Abort;
@@ -21,7 +22,7 @@ fn ten_thousand_calls(rt: HostRuntime) {
 
 /// Draws 10,000 calls, each with the model's reply.
 fn draw_all(rt: &impl Abort, alloc: Global, model: &mut Model) -> Vec<KeyRow> {
-    let mut dice = Dice(1);
+    let mut dice = Dice::new(1);
     let mut rows = Vec::new(alloc);
     for _ in 0..10_000 {
         push(rt, &mut rows, draw(rt, model, &mut dice));
@@ -136,23 +137,5 @@ fn draw_part(dice: &mut Dice) -> Which {
         1 => Which::Values,
         2 => Which::Slices,
         _ => Which::Symbols,
-    }
-}
-
-/// A linear congruential generator, with the constants of Knuth's MMIX.
-#[derive(Drop)]
-struct Dice(u64);
-
-impl Dice {
-    /// The next number, below this one.
-    fn below(&mut self, sides: u64) -> u64
-        requires { 0 < sides }
-        ensures { result < sides }
-    {
-        self.0 = self
-            .0
-            .wrapping_mul(6_364_136_223_846_793_005)
-            .wrapping_add(1_442_695_040_888_963_407);
-        (self.0 >> 33) % sides
     }
 }
