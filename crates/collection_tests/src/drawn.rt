@@ -1,13 +1,14 @@
-//! A million calls on a storage of each kind, in the order that a generator draws, beside a list of
-//! what the storage keeps.
+//! A million calls on a storage of each kind, beside a list of what the storage keeps: a quarter of
+//! them is drawn, and after each its number is looked up, read and counted.
 ghost use Rattle.std.specs.Prelude.{◌≡◌, true};
 
 use crate::kinds::{List, Plain};
 use crate::steps::{is_equal, push};
-use intern_fixtures::{Dice, allowed};
+use intern_fixtures::{Dice, allowed, drop_slices, drop_values, new_slices, new_values};
 use ra_ap_intern::{
-    Family, Far, FixedState, GarbageCollector, Interned, InternedSlice, Kind, Layout, Near, Ref,
-    Refusal, Slices, Storage, Values,
+    Family, GarbageCollector, InternSliceStorage, InternStorage, Interned, InternedRef,
+    InternedSlice, InternedSliceRef, Layout, NearSliceStorage, Ref, Refusal, Slices, Storage,
+    Values,
 };
 use std::alloc::Global;
 use std::process::Abort;
@@ -15,65 +16,87 @@ use std::process::Abort;
 /// How many numbers there are, each of which has at most one entry.
 const NUMBERS: u64 = 1_000;
 
-/// How many rounds of calls are made, with a collection after each.
-const ROUNDS: u64 = 100;
+/// How many rounds there are, with a collection after each.
+const ROUNDS: u64 = 25;
 
-/// How many calls a round has.
+/// How many calls are drawn in a round.
 const CALLS: u64 = 10_000;
 
-/// A kind in collected mode, whose entries stand for numbers.
-trait OfNumbers: Kind<FixedState> + Sized {
+/// A storage in collected mode, whose entries stand for numbers.
+trait Shelf<K> {
     /// The entry of a number, and whether it is new.
-    fn intern(storage: &mut Storage<Self>, number: u64) -> Result<(Ref<Self>, bool), Refusal>;
+    fn intern(&mut self, number: u64) -> Result<(Ref<K>, bool), Refusal>;
 
     /// The entry of a number, if there is one.
-    fn find(storage: &Storage<Self>, number: u64) -> Option<Ref<Self>>;
+    fn find(&self, number: u64) -> Option<Ref<K>>;
 
     /// The number of an entry, if that is there.
-    fn read(storage: &Storage<Self>, entry: Ref<Self>) -> Option<u64>;
+    fn read(&self, entry: Ref<K>) -> Option<u64>;
+
+    /// The count of an entry, if that is there.
+    fn count(&self, entry: Ref<K>) -> Option<u64>;
+
+    /// Counts an entry once more.
+    fn own(&mut self, entry: Ref<K>) -> Result<(), Refusal>;
+
+    /// Counts an entry once less.
+    fn disown(&mut self, entry: Ref<K>) -> Result<(), Refusal>;
 
     /// Removes the entries that aren't counted, and tells how many these were.
-    fn collect(storage: &mut Storage<Self>, alloc: Global) -> Option<usize>;
+    fn collect(&mut self, alloc: Global) -> Option<usize>;
 }
 
-impl OfNumbers for Values<Plain> {
-    fn intern(storage: &mut Storage<Self>, number: u64) -> Result<(Ref<Self>, bool), Refusal> {
-        let (entry, back) = allowed(Interned::new_gc(storage, Plain(number)))?;
+impl Shelf<Values<Plain>> for InternStorage<Plain> {
+    fn intern(&mut self, number: u64) -> Result<(InternedRef<Plain>, bool), Refusal> {
+        let (entry, back) = allowed(Interned::new_gc(self, Plain(number)))?;
         Ok((entry, back.is_none()))
     }
 
-    fn find(storage: &Storage<Self>, number: u64) -> Option<Ref<Self>> {
-        storage.get(&Plain(number))
+    fn find(&self, number: u64) -> Option<InternedRef<Plain>> {
+        self.get(&Plain(number))
     }
 
-    fn read(storage: &Storage<Self>, entry: Ref<Self>) -> Option<u64> {
-        Some(entry.get(storage)?.0)
+    fn read(&self, entry: InternedRef<Plain>) -> Option<u64> {
+        Some(entry.get(self)?.0)
     }
 
-    fn collect(storage: &mut Storage<Self>, alloc: Global) -> Option<usize> {
-        removed(storage, alloc)
+    fn count(&self, entry: InternedRef<Plain>) -> Option<u64> {
+        self.count(entry)
+    }
+
+    fn own(&mut self, entry: InternedRef<Plain>) -> Result<(), Refusal> {
+        let _ = entry.to_owned(self)?;
+        Ok(())
+    }
+
+    fn disown(&mut self, entry: InternedRef<Plain>) -> Result<(), Refusal> {
+        entry.decrement_refcount(self)
+    }
+
+    fn collect(&mut self, alloc: Global) -> Option<usize> {
+        removed(self, alloc)
     }
 }
 
-/// The list of a number: it is repeated up to four times behind itself.
+/// The list of a number: none to four times the number itself.
 fn items(list: &[u64; 4]) -> &[u64] {
     &list[..(list[0] % 5) as usize]
 }
 
-impl<L: Layout<u64>> OfNumbers for Slices<List, L> {
-    fn intern(storage: &mut Storage<Self>, number: u64) -> Result<(Ref<Self>, bool), Refusal> {
+impl<L: Layout<u64>> Shelf<Slices<List, L>> for Storage<Slices<List, L>> {
+    fn intern(&mut self, number: u64) -> Result<(InternedSliceRef<List, L>, bool), Refusal> {
         let list = [number; 4];
-        let answer = InternedSlice::from_header_and_slice(storage, number, items(&list));
+        let answer = InternedSlice::from_header_and_slice(self, number, items(&list));
         let (entry, back) = allowed(answer)?;
         Ok((entry, back.is_none()))
     }
 
-    fn find(storage: &Storage<Self>, number: u64) -> Option<Ref<Self>> {
-        storage.get(&number, items(&[number; 4]))
+    fn find(&self, number: u64) -> Option<InternedSliceRef<List, L>> {
+        self.get(&number, items(&[number; 4]))
     }
 
-    fn read(storage: &Storage<Self>, entry: Ref<Self>) -> Option<u64> {
-        let list = entry.get(storage)?;
+    fn read(&self, entry: InternedSliceRef<List, L>) -> Option<u64> {
+        let list = entry.get(self)?;
         let number = *list.header.header;
         if list.slice == items(&[number; 4]) {
             Some(number)
@@ -82,8 +105,21 @@ impl<L: Layout<u64>> OfNumbers for Slices<List, L> {
         }
     }
 
-    fn collect(storage: &mut Storage<Self>, alloc: Global) -> Option<usize> {
-        removed(storage, alloc)
+    fn count(&self, entry: InternedSliceRef<List, L>) -> Option<u64> {
+        self.count(entry)
+    }
+
+    fn own(&mut self, entry: InternedSliceRef<List, L>) -> Result<(), Refusal> {
+        let _ = entry.to_owned(self)?;
+        Ok(())
+    }
+
+    fn disown(&mut self, entry: InternedSliceRef<List, L>) -> Result<(), Refusal> {
+        entry.decrement_refcount(self)
+    }
+
+    fn collect(&mut self, alloc: Global) -> Option<usize> {
+        removed(self, alloc)
     }
 }
 
@@ -106,14 +142,15 @@ struct Known<K> {
 }
 
 /// A storage, what is known of each number, and how many births were given.
-struct Run<K: OfNumbers> {
-    storage: Storage<K>,
+#[derive(Drop)]
+struct Run<'a, K, S: Shelf<K>> {
+    storage: &'a mut S,
     known: Vec<Known<K>>,
     births: u64,
 }
 
-impl<K: OfNumbers> Run<K> {
-    fn new(rt: &impl Abort, alloc: Global) -> Run<K> {
+impl<'a, K, S: Shelf<K>> Run<'a, K, S> {
+    fn new(rt: &impl Abort, alloc: Global, storage: &'a mut S) -> Run<'a, K, S> {
         let mut known = Vec::new(alloc);
         for _ in 0..NUMBERS {
             push(
@@ -126,7 +163,7 @@ impl<K: OfNumbers> Run<K> {
             );
         }
         Run {
-            storage: Storage::new(alloc, 1),
+            storage,
             known,
             births: 0,
         }
@@ -153,7 +190,7 @@ impl<K: OfNumbers> Run<K> {
 
     /// Interns a number, which gets the next birth if it isn't stored.
     fn intern(&mut self, rt: &impl Abort, number: u64, known: Known<K>) -> Known<K> {
-        let (entry, is_new) = K::intern(&mut self.storage, number).expect(rt, "interned");
+        let (entry, is_new) = self.storage.intern(number).expect(rt, "interned");
         is_equal(rt, is_new, known.count.is_none());
         if is_new {
             is_equal(rt, entry.name().birth, self.births);
@@ -172,7 +209,7 @@ impl<K: OfNumbers> Run<K> {
         let Some(entry) = known.entry else {
             return known;
         };
-        let answer = entry.to_owned(&mut self.storage).map(|_| ());
+        let answer = self.storage.own(entry);
         is_equal(rt, answer, known.count.map(|_| ()).ok_or(Refusal::Gone));
         Known {
             count: known.count.map(|count| count.wrapping_add(1)),
@@ -185,7 +222,7 @@ impl<K: OfNumbers> Run<K> {
         let Some(entry) = known.entry else {
             return known;
         };
-        let answer = entry.decrement_refcount(&mut self.storage);
+        let answer = self.storage.disown(entry);
         let (expected, count) = match known.count {
             None => (Err(Refusal::Gone), None),
             Some(0) => (Err(Refusal::CountZero), Some(0)),
@@ -198,16 +235,12 @@ impl<K: OfNumbers> Run<K> {
     /// The number is found, read and counted as is known, and its last entry once it is gone is not.
     fn is_as_told(&self, rt: &impl Abort, number: u64, known: Known<K>) {
         let Some(entry) = known.entry else {
-            assert!(rt; K::find(&self.storage, number).is_none());
+            assert!(rt; self.storage.find(number).is_none());
             return;
         };
         let stored = known.count.map(|_| entry);
-        assert!(rt; K::find(&self.storage, number) == stored);
-        is_equal(
-            rt,
-            K::read(&self.storage, entry),
-            known.count.map(|_| number),
-        );
+        assert!(rt; self.storage.find(number) == stored);
+        is_equal(rt, self.storage.read(entry), known.count.map(|_| number));
         is_equal(rt, self.storage.count(entry), known.count);
     }
 
@@ -220,16 +253,16 @@ impl<K: OfNumbers> Run<K> {
                 gone = gone.wrapping_add(1);
             }
         }
-        is_equal(rt, K::collect(&mut self.storage, alloc), Some(gone));
+        is_equal(rt, self.storage.collect(alloc), Some(gone));
         for (number, known) in self.known.iter().enumerate() {
             self.is_as_told(rt, number as u64, *known);
         }
     }
 }
 
-/// Draws a million calls, and collects after each ten thousand.
-fn draws<K: OfNumbers>(rt: &impl Abort, alloc: Global) {
-    let mut run: Run<K> = Run::new(rt, alloc);
+/// Draws the calls of all rounds, and collects after each.
+fn draws<K, S: Shelf<K>>(rt: &impl Abort, alloc: Global, storage: &mut S) {
+    let mut run = Run::new(rt, alloc, storage);
     let mut dice = Dice::new(1);
     for _ in 0..ROUNDS {
         for _ in 0..CALLS {
@@ -241,15 +274,20 @@ fn draws<K: OfNumbers>(rt: &impl Abort, alloc: Global) {
 
 #[test]
 fn a_million_calls_on_values(rt: HostRuntime) {
-    draws::<Values<Plain>>(&rt, rt.alloc());
+    let mut storage: InternStorage<Plain> = new_values(rt.alloc(), 1);
+    draws(&rt, rt.alloc(), &mut storage);
+    drop_values(storage);
 }
 
 #[test]
 fn a_million_calls_on_slices(rt: HostRuntime) {
-    draws::<Slices<List, Far>>(&rt, rt.alloc());
+    let mut storage: InternSliceStorage<List> = new_slices(rt.alloc(), 1);
+    draws(&rt, rt.alloc(), &mut storage);
+    drop_slices(storage);
 }
 
 #[test]
 fn a_million_calls_on_near_slices(rt: HostRuntime) {
-    draws::<Slices<List, Near<2>>>(&rt, rt.alloc());
+    let mut storage: NearSliceStorage<List, 2> = NearSliceStorage::new(rt.alloc(), 1);
+    draws(&rt, rt.alloc(), &mut storage);
 }
