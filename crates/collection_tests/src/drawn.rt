@@ -180,8 +180,7 @@ impl<'a, K, S: Shelf<K>> Run<'a, K, S> {
         let now = match call {
             0 | 1 => self.intern(rt, number, known),
             2 => self.own(rt, known),
-            3 | 4 => self.disown(rt, known),
-            _ => known,
+            _ => self.disown(rt, known),
         };
         self.is_as_told(rt, number, now);
         let place = self.known.get_mut(number as usize).expect(rt, "a number");
@@ -266,7 +265,7 @@ fn draws<K, S: Shelf<K>>(rt: &impl Abort, alloc: Global, storage: &mut S) {
     let mut dice = Dice::new(1);
     for _ in 0..ROUNDS {
         for _ in 0..CALLS {
-            run.call(rt, dice.below(NUMBERS), dice.below(6));
+            run.call(rt, dice.below(NUMBERS), dice.below(5));
         }
         run.collect(rt, alloc);
     }
