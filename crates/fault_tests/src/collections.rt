@@ -99,8 +99,8 @@ impl Collection {
         self.check_on(rt, alloc, &mut grove, wanted)
     }
 
-    // Makes the call on a family of all entries, and once more on what is left, where many places
-    // are vacant.
+    // Makes the call on a family of all entries, once more on what is left, where many places are
+    // vacant, and once more where these were used again.
     fn check_on(
         self,
         rt: &impl Eprint,
@@ -108,14 +108,15 @@ impl Collection {
         grove: &mut Grove,
         wanted: Collected,
     ) -> Result<(), Fault> {
-        self.check_once(rt, alloc, grove, Left::All, wanted)?;
+        self.check_once(rt, alloc, grove, Some(Left::All), wanted)?;
         let nothing_removed = Collected {
             removed: 0,
             ..wanted
         };
-        self.check_once(rt, alloc, grove, self.left(), nothing_removed)?;
+        self.check_once(rt, alloc, grove, Some(self.left()), nothing_removed)?;
         marks::prepares(rt);
-        grove.store_again(self.left())
+        grove.store_again(self.left())?;
+        self.check_once(rt, alloc, grove, None, wanted)
     }
 
     // Makes the call. Where it is refused, the family is as it was, and the call is made once more.
@@ -124,12 +125,12 @@ impl Collection {
         rt: &impl Eprint,
         alloc: Global,
         grove: &mut Grove,
-        before: Left,
+        before: Option<Left>,
     ) -> Result<Collected, Fault> {
         match self.collect(rt, alloc, grove) {
             Err(Fault::NoMemory) => {
                 marks::refused(rt, self.name());
-                grove.check(before)?;
+                grove.check_before(before)?;
                 self.collect(rt, alloc, grove)
             }
             collected => collected,
@@ -142,11 +143,11 @@ impl Collection {
         rt: &impl Eprint,
         alloc: Global,
         grove: &mut Grove,
-        before: Left,
+        before: Option<Left>,
         wanted: Collected,
     ) -> Result<(), Fault> {
         marks::takes_none(rt, "reads");
-        grove.check(before)?;
+        grove.check_before(before)?;
         let collected = self.collect_surely(rt, alloc, grove, before)?;
         marks::takes_none(rt, "reads");
         ensure(collected == wanted, "a collection tells something else")?;

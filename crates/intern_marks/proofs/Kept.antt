@@ -96,18 +96,18 @@ module _ {s : Slots} {t : Table} {size : ℕ} {slots : List ℕ} {visits capacit
     pub same_marked : names_at next slots ≡ marked
     same_marked k = list_map (λ i. name_in (same i k)) slots
 
-    pub same_kept : Follow 0 next.parts.items (slot_count next) → IsKept next t size slots visits capacity
-    same_kept follow = record {
-      tied = subst (λ l. IsTied next t size l visits capacity) (sym same_marked) (same_tied kept.tied next same count follow);
+    pub same_kept : Follow 0 next.parts.items (slot_count next) → (u : Table) → IsLed s u → IsKept next u size slots visits capacity
+    same_kept follow u led = record {
+      tied = subst (λ l. IsTied next u size l visits capacity) (sym same_marked) (same_tied kept.tied next same count follow u led);
       taken = All-weaker (λ i. IsSome (registered_at s i)) (λ i. IsSome (registered_at next i)) (λ i some. ap is_some (same i) ∙ some) slots kept.taken;
     }
 
   -- the name in a slot is marked that wasn't
   module _ (i : ℕ) (x : Name) (f : Flags) (at : IsAt s i x f) (bare : f.is_marked ≡ false)
-      (next : Slots) (parts : next.parts.items ≡ s.parts.items) (births : next.births.items ≡ s.births.items)
+      (next : Slots) (parts : next.parts.items ≡ s.parts.items) (row : next.in_row ≡ s.in_row) (births : next.births.items ≡ s.births.items)
       (flags : next.flags.items ≡ set s.flags.items i (Some (with_mark f))) where
     write : IsWritten (registered_at s) (registered_at next) i (record { name = x; flags = with_mark f })
-    write = mark_written s next i (record { name = x; flags = f }) at parts births flags
+    write = mark_written s next i (record { name = x; flags = f }) at parts row births flags
 
     stays : (q : Registered) → registered_at s i ≡ Some q → q.name ≡ x
     stays q is = ap (λ (r : Registered). r.name) (same_Some _ _ (sym is ∙ at))
@@ -117,7 +117,7 @@ module _ {s : Slots} {t : Table} {size : ℕ} {slots : List ℕ} {visits capacit
 
     pub marked_kept : (u : Table) → IsLed s u → IsKept next u size (slots ++ i ∷ []) visits capacity
     marked_kept u led = record {
-      tied = subst (λ l. IsTied next u size l visits capacity) (sym marked_more) (marked_tied kept.tied i x f at bare next parts births flags u led);
+      tied = subst (λ l. IsTied next u size l visits capacity) (sym marked_more) (marked_tied kept.tied i x f at bare next parts row births flags u led);
       taken = taken_more s next i _ write stays slots kept.taken;
     }
 

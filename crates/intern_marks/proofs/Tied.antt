@@ -2,11 +2,11 @@
 use Rattle.std.proofs.Common.{◌≡◌, ◌≢◌, inl, inr, ℕ, ◌+◌, ◌-◌, ◌<◌, ◌≤◌, ◌^◌, Bool, true, false, not, cond, ◌&&◌, ◌||◌, List, [], ◌∷◌, ◌++◌, length, set, Some, None, is_some, refl, sym, ap, ◌∙◌, subst, arith, length-append}
 use Rattle.std.specs.Option.{option_map}
 use Rattle.std.specs.FinMap.{FinMap, get, insert, empty, len, len-empty, len-insert}
+use Rattle.std.proofs.lemmas.List.{length-set}
 use Rattle.std.proofs.lemmas.Bool.{cases_eq, false_from_ne_true, false≢true}
 use Rattle.std.proofs.Math.Bool.{or-false}
 use Rattle.std.proofs.lemmas.Option.{none-some}
 use Rattle.intern_store.specs.declared.names.Name.{Name}
-use Rattle.intern_store.specs.Named.{same_name}
 use Rattle.intern_marks.specs.Names.{has, name_cmp}
 use Rattle.intern_marks.specs.Marks.{Marks, may_be, is_next, placed, IsSound}
 use Rattle.intern_marks.specs.Parts.{Follow}
@@ -105,16 +105,16 @@ module _ {s : Slots} {t : Table} {size : ℕ} {marked : List Name} {visits capac
         let room = tied.room in
         omega arith
 
-    module _ (next : Slots) (parts : next.parts.items ≡ s.parts.items) (births : next.births.items ≡ s.births.items)
+    module _ (next : Slots) (parts : next.parts.items ≡ s.parts.items) (row : next.in_row ≡ s.in_row) (births : next.births.items ≡ s.births.items)
         (flags : next.flags.items ≡ set s.flags.items i (Some (with_mark f))) where
       abbrev with : Registered
       with = record { name = x; flags = with_mark f }
 
       written : (j : ℕ) → registered_at next j ≡ cond (Rattle.std.proofs.Common.nat_eq j i) (Some with) (registered_at s j)
-      written = mark_written s next i (record { name = x; flags = f }) here parts births flags
+      written = mark_written s next i (record { name = x; flags = f }) here parts row births flags
 
       count : slot_count next ≡ slot_count s
-      count = ap length births
+      count = ap length flags ∙ length-set s.flags.items i (Some (with_mark f))
 
       same_slot : (j : ℕ) → j < slot_count s → (m : FinMap name_cmp Bool) → with_slot (registered_at next j) m ≡ with_slot (registered_at s j) m
       same_slot j below m = elim (cases_eq j i) [
@@ -157,11 +157,11 @@ module _ {s : Slots} {t : Table} {size : ℕ} {marked : List Name} {visits capac
     pub same_names_in : names_in next ≡ names_in s
     same_names_in k = names_below (λ i. same i k) (count k)
 
-    pub same_tied : Follow 0 next.parts.items (slot_count next) → IsTied next t size marked visits capacity
-    same_tied follow = record {
+    pub same_tied : Follow 0 next.parts.items (slot_count next) → (u : Table) → IsLed s u → IsTied next u size marked visits capacity
+    same_tied follow u led = record {
       follow = follow;
       apart = λ i j q r one two. tied.apart i j q r (sym (same i) ∙ one) (sym (same j) ∙ two);
-      led = λ filled i x at. tied.led filled i x (ap (option_map (λ (r : Registered). r.name)) (sym (same i)) ∙ at);
+      led = λ filled i x at. led filled i x (ap (option_map (λ (r : Registered). r.name)) (sym (same i)) ∙ at);
       told = let told = tied.told in omega arith;
       sized = tied.sized ∙ ap len (sym same_names_in);
       flagged = λ i x f at. tied.flagged i x f (sym (same i) ∙ at);

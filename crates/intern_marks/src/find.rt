@@ -1,11 +1,11 @@
-//! How a name is found: by its place, by its hash, or by a look at all slots.
+//! How a name is found: by its place, by its birth, by its hash, or by a look at all slots.
 ghost use Rattle.std.specs.Prelude.{◌≡◌, ℕ, ◌+◌, ◌<◌, ◌≤◌, ◌^◌, true, Some, None, IfSome, IfNone, IsTrue};
 ghost use Rattle.intern_store.specs.Named.{key_name};
 ghost use Rattle.intern_store.specs.declared.names.Name.{Name as EntryName};
 ghost use Rattle.intern_buckets.specs.Filling.{HasRoom};
 ghost use Rattle.intern_buckets.specs.Leading.{leads};
-ghost use Rattle.intern_marks.specs.Parts.{Follow, part_of};
-ghost use Rattle.intern_marks.specs.Slotted.{slot_count, registered_at, name_at, has_name, IsAt};
+ghost use Rattle.intern_marks.specs.Parts.{covers, Follow, part_of};
+ghost use Rattle.intern_marks.specs.Slotted.{slot_count, registered_at, name_at, has_name, IsAt, IsThere};
 ghost use Rattle.intern_marks.specs.Tied.{hash_of, IsFound, IsNowhere, IsLed};
 ghost use Rattle.intern_marks.specs.declared.flags.Flags.{Flags};
 
@@ -53,6 +53,39 @@ fn search_for(slots: &Slots, buckets: &Buckets, name: Name) -> Option<Found>
     Some(Found { slot, flags })
 }
 
+// Finds a name by its birth in a part, where births are in row.
+fn found_in(slots: &Slots, part: Part, name: Name) -> Option<Found>
+    requires row { slots.now.in_row ≡ true }
+    requires here { IsThere slots.now part }
+    ensures found { IfSome result (λ f. IsFound slots.now name f) }
+    ensures none { IfNone result ((i : ℕ) (f : Flags) → covers i part ≡ true
+        → IsAt slots.now i name f → ⊥) }
+{
+    if part.number != name.storage {
+        return None;
+    }
+    let slot = part.slot_of_birth(name.birth)?;
+    let flags = slots.flags(slot)?;
+    Some(Found { slot, flags })
+}
+
+// Finds a name by its birth, where births are in row.
+#[cold]
+fn find_in_row(slots: &Slots, name: Name) -> Option<Found>
+    requires row { slots.now.in_row ≡ true }
+    requires follow { Follow 0 slots.now.parts.items (slot_count slots.now) }
+    ensures found { IfSome result (λ f. IsFound slots.now name f) }
+    ensures none { IfNone result (IsNowhere slots.now name) }
+{
+    for index in 0..slots.parts.len() {
+        let found = found_in(slots, slots.parts[index], name);
+        if found.is_some() {
+            return found;
+        }
+    }
+    None
+}
+
 // Finds a name by a look at all slots.
 fn scan_for(slots: &Slots, name: Name) -> Option<Found>
     ensures found { IfSome result (λ f. IsFound slots.now name f) }
@@ -86,12 +119,12 @@ fn fill_buckets(slots: &Slots, buckets: &mut Buckets) -> bool
     true
 }
 
-/// Fills a table where it has the room for that. It takes no memory.
+/// Fills a table where it has the room for that, unless births are in row. It takes no memory.
 pub(crate) fn fill(slots: &Slots, table: &mut Table)
     requires { slot_count slots.now < 2 ^ 48 }
     ensures { IsLed slots.now table.new }
 {
-    table.is_filled = fill_buckets(slots, &mut table.buckets);
+    table.is_filled = !slots.in_row && fill_buckets(slots, &mut table.buckets);
 }
 
 // The name of a key, where it is in the slot of its place in a part.
@@ -100,9 +133,10 @@ fn hinted(slots: &Slots, part: Option<Part>, key: EntryKey) -> Option<Found>
     requires part { part ≡ part_of slots.now.parts.items key.storage }
     ensures { IfSome result (λ f. IsFound slots.now (key_name key) f) }
 {
-    let slot = part?.slot(key.spot.place)?;
+    let part = part?;
+    let slot = part.slot(key.spot.place)?;
     let flags = slots.flags(slot)?;
-    if slots.births[slot] == key.spot.birth {
+    if slots.birth(part, slot) == key.spot.birth {
         Some(Found { slot, flags })
     } else {
         None
@@ -112,12 +146,15 @@ fn hinted(slots: &Slots, part: Option<Part>, key: EntryKey) -> Option<Found>
 // Finds a name wherever it is.
 #[cold]
 fn search_all(slots: &Slots, table: &Table, name: Name) -> Option<Found>
+    requires follow { Follow 0 slots.now.parts.items (slot_count slots.now) }
     requires led { IsLed slots.now table.now }
     requires told { slot_count slots.now < 2 ^ 48 }
     ensures found { IfSome result (λ f. IsFound slots.now name f) }
     ensures none { IfNone result (IsNowhere slots.now name) }
 {
-    if table.is_filled {
+    if slots.in_row {
+        find_in_row(slots, name)
+    } else if table.is_filled {
         search_for(slots, &table.buckets, name)
     } else {
         scan_for(slots, name)
@@ -158,6 +195,7 @@ pub(crate) fn locate(slots: &Slots, table: &mut Table, key: EntryKey) -> Option<
 // Finds a name wherever it is, once the table is filled.
 #[cold]
 fn fill_and_search(slots: &Slots, table: &mut Table, name: Name) -> Option<Found>
+    requires follow { Follow 0 slots.now.parts.items (slot_count slots.now) }
     requires led { IsLed slots.now table.old }
     requires told { slot_count slots.now < 2 ^ 48 }
     ensures found { IfSome result (λ f. IsFound slots.now name f) }

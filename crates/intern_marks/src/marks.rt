@@ -13,7 +13,6 @@ use crate::found::Table;
 use crate::part::part_of;
 use crate::slots::Slots;
 use crate::storage_marks::StorageMarks;
-use intern_buckets::Buckets;
 use intern_store::EntryKey;
 use std::alloc::{AllocError, Global};
 use std::marker::Model;
@@ -22,10 +21,12 @@ use std::ops::ControlFlow;
 /// The names of a family, which of them are marked, and which of these were visited.
 ///
 /// Where entries are added in the order of their places, each is in the slot of its place, counted
-/// from the first slot of its storage. A name is looked up there first, and then in a hash table, so a
-/// mark call and a visit take expected constant time, beside a walk over the storages. The table is
-/// filled when a mark call or a root first asks for a name that isn't in the slot of its place, in time
-/// linear in the slots. Only `with_room` and `add` take memory: 11 bytes a slot and 17 an entry.
+/// from the first slot of its storage. A name is looked up there first. While births are in row, which
+/// is as long as in each storage birth and place differ by one number, any other name is in the slot
+/// that its birth tells; afterwards births are listed, and it is looked up in a hash table. So a mark
+/// call and a visit take expected constant time, beside a walk over the storages. The table is filled
+/// when a mark call or a root first asks it, in time linear in the slots. Only `with_room` and `add`
+/// take memory: 3 bytes a slot and 8 an entry, and 17 more a slot once births aren't in row.
 #[derive(Drop)]
 pub struct Marks {
     slots: Slots,
@@ -73,10 +74,7 @@ impl Marks {
     {
         Marks {
             slots: Slots::new(alloc),
-            table: Table {
-                buckets: Buckets::new(alloc),
-                is_filled: false,
-            },
+            table: Table::new(alloc),
             size: 0,
             marked: Vec::new(alloc),
             visits: 0,
@@ -91,10 +89,7 @@ impl Marks {
     {
         Ok(Marks {
             slots: Slots::with_room(alloc, entries)?,
-            table: Table {
-                buckets: Buckets::with_room(alloc, entries)?,
-                is_filled: false,
-            },
+            table: Table::new(alloc),
             size: 0,
             marked: Vec::with_capacity(alloc, entries)?,
             visits: 0,
@@ -114,10 +109,10 @@ impl Marks {
             (self.new ≡ added self.old (key_name key) flags.is_counted flags.is_marked) }
         ensures err { OnErr result (self.new ≡ self.old) }
     {
-        let slot = self.slots.make_room(key.storage, key.spot.place)?;
+        let slot = self.slots.make_room(key)?;
+        self.table.make_room(&self.slots)?;
         self.marked.reserve(self.size + 1 - self.marked.len())?;
-        self.slots.put(slot, key.spot.birth, flags);
-        self.table.is_filled = false;
+        self.slots.put(slot, key, flags);
         self.size += 1;
         if flags.is_marked {
             self.marked.push_reserved(slot);
@@ -126,7 +121,8 @@ impl Marks {
     }
 
     /// Makes `is_marked` take expected constant time for names without places too, in time linear in
-    /// the slots. A mark call for such a name does so itself. It takes no memory.
+    /// the slots unless births are in row. A mark call for such a name does so itself. It takes no
+    /// memory.
     ///
     /// Where the hash table has no room for all entries, which takes hashes that are nearly all alike,
     /// or more entries than it was made for, it stays out of use, and searches look at all slots.

@@ -92,14 +92,13 @@ fn check_table(rt: &impl Eprint, table: &SymbolTable, symbols: &Symbols) -> Resu
     ensure(table.number() == 1 && table.len() == 4 && !table.is_empty())?;
     takes_none(rt, "SymbolTable::memory");
     ensure(table.memory() > 0)?;
+    check_walk(rt, table)?;
     takes_none(rt, "SymbolTable::get");
     ensure(
         table.get(LIVE) == Some(symbols.live.as_ref())
             && table.get("Clone") == Some(sym::Clone.as_ref())
             && table.get(GONE) == None,
     )?;
-    takes_none(rt, "SymbolTable::iter");
-    ensure(table.iter().count() == 4)?;
     takes_none(rt, "SymbolTable::count");
     ensure(
         table.count(&symbols.full) == Some(2)
@@ -107,6 +106,11 @@ fn check_table(rt: &impl Eprint, table: &SymbolTable, symbols: &Symbols) -> Resu
             && table.count(&symbols.gone) == None
             && table.count(&symbols.foreign) == None,
     )
+}
+
+fn check_walk(rt: &impl Eprint, table: &SymbolTable) -> Result<(), Fault> {
+    takes_none(rt, "SymbolTable::iter");
+    ensure(table.iter().count() == 4)
 }
 
 fn check_reads(rt: &impl Eprint, table: &SymbolTable, symbols: &Symbols) -> Result<(), Fault> {

@@ -1,5 +1,5 @@
 -- Symbols and the texts that they name: what a table names after an interning.
-use Rattle.std.proofs.Common.{◌≡◌, ◌↔◌, ℕ, Bool, true, false, cond, List, Option, Some, None, refl, sym, ap, subst, ◌∙◌}
+use Rattle.std.proofs.Common.{◌≡◌, ◌↔◌, ℕ, ◌-◌, ◌^◌, Bool, true, false, cond, List, Option, Some, None, refl, sym, ap, subst, ◌∙◌}
 use Rattle.std.specs.HashMap.{HashMap, get, get_by}
 use Rattle.std.specs.Option.{option_map}
 use Rattle.std.specs.Str.{bytes_eq}
@@ -11,9 +11,8 @@ use Rattle.ra_ap_intern.specs.Presets.{place_of}
 use Rattle.ra_ap_intern.specs.Name.{Name}
 use Rattle.ra_ap_intern.specs.Named.{same_name}
 use Rattle.ra_ap_intern.specs.State.{State, IsState, reads, name_in, name_of_value, birth_of, or_added, interned, interned_counted}
-use Rattle.ra_ap_intern.specs.Symbols.{Named, same_named, symbol_ref_name, text_of, named_in, named_at, symbol_in, symbol_at, due_symbol, due_symbol_at}
+use Rattle.ra_ap_intern.specs.Symbols.{Named, same_named, source_of, symbol_ref_name, text_of, named_in, named_at, symbol_in, symbol_at, due_symbol, due_symbol_at}
 use Rattle.ra_ap_intern.specs.Symbols.Named.{preset, entry}
-use Rattle.ra_ap_intern.specs.declared.symbol.Source.TheVariants.{Preset, Runtime}
 use Rattle.ra_ap_intern.specs.declared.symbol.SymbolRef.{SymbolRef}
 use Rattle.intern_store.proofs.Named.{names_same, same_names}
 use Rattle.ra_ap_intern.proofs.CallerInterning.{found_reads, read_found, interned_counted_reads}
@@ -35,11 +34,11 @@ same_nameds (entry n) = same_names n n refl
 
 -- each preset, and each name, has a reference
 pub named_by : (a : Named) → (r : SymbolRef) × (symbol_ref_name r ≡ a)
-named_by (preset p) = let r : SymbolRef = record { 0 = Preset p } in (r, refl)
+unfolding source_of
+named_by (preset p) =
+    let r : SymbolRef = record { 0 = record { 0 = 0; 1 = p; 2 = 2 ^ 64 - 1 } } in (r, refl)
 named_by (entry n) =
-    let r : SymbolRef = record {
-      0 = Runtime (record { storage = n.storage; spot = record { birth = n.birth; place = 0 } });
-    } in (r, refl)
+    let r : SymbolRef = record { 0 = record { 0 = n.storage; 1 = n.birth; 2 = 0 } } in (r, refl)
 
 -- an equality of references that tells what they name is the test of that
 pub references_tested : (eq : SymbolRef → SymbolRef → Bool)

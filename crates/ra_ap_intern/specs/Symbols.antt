@@ -1,5 +1,5 @@
 -- What symbols are, and what a table of texts holds.
-use Rattle.std.specs.Prelude.{◌≡◌, ℕ, ◌<◌, ◌==◌, Bool, false, ◌&&◌, List, Option, Some, None, is_none, map as list_map}
+use Rattle.std.specs.Prelude.{◌≡◌, ℕ, ◌<◌, ◌==◌, Bool, false, ◌&&◌, List, Option, Some, None, is_none, map as list_map, ◌-◌, ◌^◌, if◌then◌else◌}
 use Rattle.std.specs.FinMap as map
 use Rattle.std.specs.Option.{option_eq, option_map}
 use Rattle.std.specs.Str.{bytes_eq}
@@ -11,8 +11,9 @@ use Rattle.intern_store.specs.declared.names.Name.{Name}
 use Rattle.intern_store.specs.declared.refusal.Refusal.{Refusal}
 use Rattle.ra_ap_intern.specs.declared.symbol.Symbol.{Symbol}
 use Rattle.ra_ap_intern.specs.declared.symbol.SymbolRef.{SymbolRef}
-use Rattle.ra_ap_intern.specs.declared.symbol.Source.{Source}
-use Rattle.ra_ap_intern.specs.declared.symbol.Source.TheVariants.{Preset, Runtime}
+use Rattle.ra_ap_intern.specs.declared.symbol.packed.Packed.{Packed}
+use Rattle.ra_ap_intern.specs.declared.symbol.packed.Source.{Source}
+use Rattle.ra_ap_intern.specs.declared.symbol.packed.Source.TheVariants.{Preset, Runtime}
 
 -- every text is counted, and none is a preset
 pub record IsTable (s : State (List ℕ)) : Type 0 where
@@ -31,15 +32,21 @@ same_named (preset p) (entry m) = false
 same_named (entry n) (preset q) = false
 same_named (entry n) (entry m) = same_name n m
 
+-- what a symbol holds: a preset stands as the birth of what lies nowhere
+unfoldable pub source_of : Packed → Source
+source_of p =
+    if p.2 == 2 ^ 64 - 1 then Preset p.1
+    else Runtime (record { storage = p.0; spot = record { birth = p.1; place = p.2 } })
+
 abbrev pub source_name : Source → Named
 source_name (Preset place) = preset place
 source_name (Runtime key) = entry (key_name key)
 
 abbrev pub symbol_name : Symbol → Named
-symbol_name s = source_name s.0
+symbol_name s = source_name (source_of s.0)
 
 abbrev pub symbol_ref_name : SymbolRef → Named
-symbol_ref_name s = source_name s.0
+symbol_ref_name s = source_name (source_of s.0)
 
 -- the name of a symbol's entry; presets have none
 abbrev pub entry_name : Named → Option Name

@@ -18,8 +18,8 @@ use std::fmt;
 use std::hash::{Hash, Hasher};
 use std::marker::PhantomData;
 
-// The place that tells that there is no reference. No entry lies there.
-const NOWHERE: usize = usize::MAX;
+// The place at which no entry lies: what it stands with is no handle.
+pub(crate) const NOWHERE: usize = usize::MAX;
 
 /// A reference, or none. It takes 24 bytes, as a reference does, where an `Option` of one takes 32:
 /// for the fields of values of which a storage keeps many. It is compared, ordered, hashed and shown by

@@ -18,12 +18,14 @@ ghost use Rattle.ra_ap_intern.specs.declared.symbol.symbols.TheConstants as sym;
 mod display;
 mod iter;
 mod numbered;
+mod packed;
 pub mod symbols;
 
 pub use display::SymbolDisplay;
 use intern_store::{EntryKey, Limits, Name, Refusal, Refused, Store};
 use intern_table::{FixedState, Table, Text};
 pub use iter::SymbolIter;
+use packed::{Packed, Source, text_of_preset};
 use std::alloc::Global;
 use std::hash::BuildHasher;
 use std::marker::Model;
@@ -67,19 +69,12 @@ impl<B: BuildHasher> Model for SymbolTable<B> {
 /// exactly if their texts are. Their order is that of presets and then of names, and not of texts.
 #[derive(Drop)]
 #[derive(PartialEq, Eq, PartialOrd, Ord, Hash)]
-pub struct Symbol(Source);
+pub struct Symbol(Packed);
 
 /// A reference to a symbol, which counts nothing. It is compared, ordered and hashed by what it
 /// names alone.
 #[derive(Clone, Copy, PartialEq, Eq, PartialOrd, Ord, Hash)]
-pub struct SymbolRef(Source);
-
-// Where the text of a symbol is.
-#[derive(Clone, Copy, PartialEq, Eq, PartialOrd, Ord, Hash)]
-enum Source {
-    Preset(u16),
-    Runtime(EntryKey),
-}
+pub struct SymbolRef(Packed);
 
 impl SymbolTable {
     /// An empty table with the largest limits. It takes no memory.
@@ -178,11 +173,11 @@ impl<B: BuildHasher> SymbolTable<B> {
         ensures { option_map symbol_ref_name result ≡ named_in self.now text.now }
     {
         // No table keeps a preset's text.
-        let source = match self.inner.store.find(&text) {
-            Some(key) => Source::Runtime(key),
-            None => Source::Preset(intern_presets::place(text)?),
+        let packed = match self.inner.store.find(&text) {
+            Some(key) => Packed::runtime(key),
+            None => Packed::preset(intern_presets::place(text)?),
         };
-        Some(SymbolRef(source))
+        Some(SymbolRef(packed))
     }
 
     /// The texts that the table keeps, each with a reference to its symbol, in no promised order.
@@ -201,7 +196,7 @@ impl<B: BuildHasher> SymbolTable<B> {
     pub fn count(&self, symbol: &Symbol) -> Option<u64>
         ensures { result ≡ count_of self.now (symbol_name symbol.now) }
     {
-        match symbol.0 {
+        match symbol.0.source() {
             Source::Preset(_) => None,
             Source::Runtime(key) => self.inner.store.count(key),
         }
@@ -225,15 +220,15 @@ impl<B: BuildHasher> ReservedTexts<B> {
     {
         // No table keeps a preset's text, so the presets are looked at only for what isn't stored.
         let hash = match self.store.count_up_stored(&text) {
-            Ok(Ok(key)) => return Ok(Symbol(Source::Runtime(key))),
+            Ok(Ok(key)) => return Ok(Symbol(Packed::runtime(key))),
             Ok(Err(hash)) => hash,
             Err(why) => return Err(why),
         };
         if let Some(preset) = intern_presets::place(text) {
-            return Ok(Symbol(Source::Preset(preset)));
+            return Ok(Symbol(Packed::preset(preset)));
         }
         match self.store.add_counted(hash, text) {
-            Ok(key) => Ok(Symbol(Source::Runtime(key))),
+            Ok(key) => Ok(Symbol(Packed::runtime(key))),
             Err(Refused { why, .. }) => Err(why),
         }
     }
@@ -342,7 +337,7 @@ impl SymbolRef {
     pub fn name(self) -> Option<Name>
         ensures { result ≡ entry_name (symbol_ref_name self) }
     {
-        let Source::Runtime(key) = self.0 else {
+        let Source::Runtime(key) = self.0.source() else {
             return None;
         };
         Some(key.name())
@@ -353,8 +348,8 @@ impl SymbolRef {
     pub fn as_str<'a, B: BuildHasher>(self, table: &'a SymbolTable<B>) -> Option<&'a str>
         ensures { option_map (λ t. t.now) result ≡ text_of table.now (symbol_ref_name self) }
     {
-        match self.0 {
-            Source::Preset(place) => intern_presets::text(place),
+        match self.0.source() {
+            Source::Preset(place) => text_of_preset(place),
             Source::Runtime(key) => {
                 let text = table.inner.store.own(key.storage)?.get(key.spot)?;
                 Some(text.as_str())
@@ -379,7 +374,7 @@ impl SymbolRef {
         ensures state { Becomes result table.old table.new
             (at_entry counted_up table.old (symbol_ref_name self)) }
     {
-        match self.0 {
+        match self.0.source() {
             Source::Preset(_) => Ok(Symbol(self.0)),
             Source::Runtime(key) => {
                 table.inner.store.count_up(key)?;
@@ -399,7 +394,7 @@ impl SymbolRef {
         ensures state { Becomes result table.old table.new
             (at_entry (released false) table.old (symbol_ref_name self)) }
     {
-        match self.0 {
+        match self.0.source() {
             Source::Preset(_) => Ok(()),
             Source::Runtime(key) => {
                 table.inner.store.release(key, false)?;
@@ -414,8 +409,8 @@ impl SymbolRef {
     fn preset_text(self) -> Option<&'static str>
         ensures { option_map (λ t. t.now) result ≡ own_text (symbol_ref_name self) }
     {
-        match self.0 {
-            Source::Preset(place) => intern_presets::text(place),
+        match self.0.source() {
+            Source::Preset(place) => text_of_preset(place),
             Source::Runtime(_) => None,
         }
     }

@@ -4,7 +4,7 @@ use Rattle.std.specs.Prelude.{◌⊎◌, ◌↔◌, option_and_then}
 use Rattle.std.proofs.lemmas.Option.{same_Some}
 use Rattle.intern_terms.specs.Tree.{Tree, Trees, tree, no_more, one_more, UnfoldsTo, AllUnfold}
 use Rattle.ra_ap_intern.specs.Name.{Name}
-use Rattle.ra_ap_intern.specs.Symbols.{Named, symbol_name, same_named}
+use Rattle.ra_ap_intern.specs.Symbols.{Named, source_of, symbol_name, same_named}
 use Rattle.ra_ap_intern.specs.declared.symbol.symbols.TheConstants as constant
 use Rattle.syntax.specs.Lexeme.{Lexeme, mark, operator_of}
 use Rattle.syntax.specs.Machine.{Reading, definition, binding, with_last, run, whole_items, program}
@@ -93,6 +93,7 @@ IsItemRead items l r rest head =
 item_read_as : (items : Trees) (head : Named) (l r : Tree) (rest : List Lexeme)
     → (head ≡ symbol_name constant.fn_) ⊎ (head ≡ symbol_name constant.let_)
     → IsItemRead items l r rest head
+unfolding source_of
 item_read_as items head l r rest (inl is) =
     subst (IsItemRead items l r rest) (sym is)
     (then_rest (tokens_of l) l (tree_read l) items (frame definition no_more) []

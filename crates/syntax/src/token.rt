@@ -102,6 +102,7 @@ impl Operator {
     }
 
     /// The operator of a head, if it is one.
+    #[tactic(auto, unfolding(ra_ap_intern::specs::Symbols::source_of))]
     pub fn of(head: &Symbol) -> Option<Operator>
         ensures { result ≡ operator_of (symbol_name head.now) }
     {

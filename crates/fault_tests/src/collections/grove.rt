@@ -204,6 +204,32 @@ impl Grove {
         self.check_branches(left)
     }
 
+    /// The same before a call. With `None` all entries are there, those that had gone again.
+    pub(crate) fn check_before(&self, left: Option<Left>) -> Result<(), Fault> {
+        match left {
+            Some(left) => self.check(left),
+            None => self.check_stored(),
+        }
+    }
+
+    // Fails unless the family has exactly the values that were stored, of whichever births.
+    fn check_stored(&self) -> Result<(), Fault> {
+        self.check_lengths(Left::All)?;
+        let (nodes, branches) = (&self.storages.first.second, &self.storages.second);
+        for number in 0..self.nodes.len() {
+            ensure(nodes.get(&self.node(number)).is_some(), "a node is gone")?;
+        }
+        for number in 0..self.branches.len() {
+            ensure(
+                branches
+                    .get(&self.header(number), items_of(number))
+                    .is_some(),
+                "a slice is gone",
+            )?;
+        }
+        Ok(())
+    }
+
     fn check_nodes(&self, left: Left) -> Result<(), Fault> {
         for (reference, number) in self.nodes.iter().zip(0..) {
             ensure(

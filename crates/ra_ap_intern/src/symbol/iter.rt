@@ -2,7 +2,7 @@
 ghost use Rattle.std.specs.Iterator.{YieldsFirstBy, item_count};
 ghost use Rattle.ra_ap_intern.specs.Symbols.{symbol_ref_name};
 
-use super::{Source, SymbolRef};
+use super::{Packed, SymbolRef};
 use intern_store::EntryKey;
 use intern_table::{Iter as TableIter, Text};
 use std::marker::Model;
@@ -36,7 +36,7 @@ impl<'a> Iterator for SymbolIter<'a> {
     fn next(&mut self) -> Option<(SymbolRef, &'a str)> {
         let (spot, text, _) = self.entries.next()?;
         let storage = self.number;
-        let symbol = SymbolRef(Source::Runtime(EntryKey { storage, spot }));
+        let symbol = SymbolRef(Packed::runtime(EntryKey { storage, spot }));
         Some((symbol, text.as_str()))
     }
 }

@@ -6,1077 +6,1078 @@
 //! in words: `proc_dash_macro` is `proc-macro`, `fn_` is `fn`.
 #![allow(non_upper_case_globals)]
 
-use super::Source::Preset;
 use super::Symbol;
 pub use super::numbered::{Integer, RaGeneratedName};
+use super::packed::Packed;
+use crate::optional::NOWHERE;
 
 /// `...`
-pub const dotdotdot: Symbol = Symbol(Preset(516));
+pub const dotdotdot: Symbol = Symbol(Packed(0, 516, NOWHERE));
 /// The empty text.
-pub const _empty_sym: Symbol = Symbol(Preset(512));
+pub const _empty_sym: Symbol = Symbol(Packed(0, 512, NOWHERE));
 /// `unsafe`
-pub const unsafe_: Symbol = Symbol(Preset(1030));
+pub const unsafe_: Symbol = Symbol(Packed(0, 1030, NOWHERE));
 /// `in`
-pub const in_: Symbol = Symbol(Preset(795));
+pub const in_: Symbol = Symbol(Packed(0, 795, NOWHERE));
 /// `super`
-pub const super_: Symbol = Symbol(Preset(993));
+pub const super_: Symbol = Symbol(Packed(0, 993, NOWHERE));
 /// `self`
-pub const self_: Symbol = Symbol(Preset(970));
+pub const self_: Symbol = Symbol(Packed(0, 970, NOWHERE));
 /// `Self`
-pub const Self_: Symbol = Symbol(Preset(588));
+pub const Self_: Symbol = Symbol(Packed(0, 588, NOWHERE));
 /// `'static`
-pub const tick_static: Symbol = Symbol(Preset(515));
+pub const tick_static: Symbol = Symbol(Packed(0, 515, NOWHERE));
 /// `'_`
-pub const tick_underscore: Symbol = Symbol(Preset(514));
+pub const tick_underscore: Symbol = Symbol(Packed(0, 514, NOWHERE));
 /// `$crate`
-pub const dollar_crate: Symbol = Symbol(Preset(513));
+pub const dollar_crate: Symbol = Symbol(Packed(0, 513, NOWHERE));
 /// `[missing name]`
-pub const MISSING_NAME: Symbol = Symbol(Preset(595));
+pub const MISSING_NAME: Symbol = Symbol(Packed(0, 595, NOWHERE));
 /// `fn`
-pub const fn_: Symbol = Symbol(Preset(747));
+pub const fn_: Symbol = Symbol(Packed(0, 747, NOWHERE));
 /// `crate`
-pub const crate_: Symbol = Symbol(Preset(696));
+pub const crate_: Symbol = Symbol(Packed(0, 696, NOWHERE));
 /// `_`
-pub const underscore: Symbol = Symbol(Preset(596));
+pub const underscore: Symbol = Symbol(Packed(0, 596, NOWHERE));
 /// `true`
-pub const true_: Symbol = Symbol(Preset(1014));
+pub const true_: Symbol = Symbol(Packed(0, 1014, NOWHERE));
 /// `false`
-pub const false_: Symbol = Symbol(Preset(735));
+pub const false_: Symbol = Symbol(Packed(0, 735, NOWHERE));
 /// `let`
-pub const let_: Symbol = Symbol(Preset(817));
+pub const let_: Symbol = Symbol(Packed(0, 817, NOWHERE));
 /// `const`
-pub const const_: Symbol = Symbol(Preset(680));
+pub const const_: Symbol = Symbol(Packed(0, 680, NOWHERE));
 /// `impl`
-pub const kw_impl: Symbol = Symbol(Preset(794));
+pub const kw_impl: Symbol = Symbol(Packed(0, 794, NOWHERE));
 /// `proc-macro`
-pub const proc_dash_macro: Symbol = Symbol(Preset(914));
+pub const proc_dash_macro: Symbol = Symbol(Packed(0, 914, NOWHERE));
 /// `aapcs-unwind`
-pub const aapcs_dash_unwind: Symbol = Symbol(Preset(599));
+pub const aapcs_dash_unwind: Symbol = Symbol(Packed(0, 599, NOWHERE));
 /// `avr-interrupt`
-pub const avr_dash_interrupt: Symbol = Symbol(Preset(634));
+pub const avr_dash_interrupt: Symbol = Symbol(Packed(0, 634, NOWHERE));
 /// `avr-non-blocking-interrupt`
-pub const avr_dash_non_dash_blocking_dash_interrupt: Symbol = Symbol(Preset(635));
+pub const avr_dash_non_dash_blocking_dash_interrupt: Symbol = Symbol(Packed(0, 635, NOWHERE));
 /// `C-cmse-nonsecure-call`
-pub const C_dash_cmse_dash_nonsecure_dash_call: Symbol = Symbol(Preset(523));
+pub const C_dash_cmse_dash_nonsecure_dash_call: Symbol = Symbol(Packed(0, 523, NOWHERE));
 /// `C-cmse-nonsecure-entry`
-pub const C_dash_cmse_dash_nonsecure_dash_entry: Symbol = Symbol(Preset(524));
+pub const C_dash_cmse_dash_nonsecure_dash_entry: Symbol = Symbol(Packed(0, 524, NOWHERE));
 /// `C-unwind`
-pub const C_dash_unwind: Symbol = Symbol(Preset(525));
+pub const C_dash_unwind: Symbol = Symbol(Packed(0, 525, NOWHERE));
 /// `cdecl-unwind`
-pub const cdecl_dash_unwind: Symbol = Symbol(Preset(659));
+pub const cdecl_dash_unwind: Symbol = Symbol(Packed(0, 659, NOWHERE));
 /// `fastcall-unwind`
-pub const fastcall_dash_unwind: Symbol = Symbol(Preset(737));
+pub const fastcall_dash_unwind: Symbol = Symbol(Packed(0, 737, NOWHERE));
 /// `msp430-interrupt`
-pub const msp430_dash_interrupt: Symbol = Symbol(Preset(841));
+pub const msp430_dash_interrupt: Symbol = Symbol(Packed(0, 841, NOWHERE));
 /// `ptx-kernel`
-pub const ptx_dash_kernel: Symbol = Symbol(Preset(919));
+pub const ptx_dash_kernel: Symbol = Symbol(Packed(0, 919, NOWHERE));
 /// `riscv-interrupt-m`
-pub const riscv_dash_interrupt_dash_m: Symbol = Symbol(Preset(935));
+pub const riscv_dash_interrupt_dash_m: Symbol = Symbol(Packed(0, 935, NOWHERE));
 /// `riscv-interrupt-s`
-pub const riscv_dash_interrupt_dash_s: Symbol = Symbol(Preset(936));
+pub const riscv_dash_interrupt_dash_s: Symbol = Symbol(Packed(0, 936, NOWHERE));
 /// `rust-call`
-pub const rust_dash_call: Symbol = Symbol(Preset(937));
+pub const rust_dash_call: Symbol = Symbol(Packed(0, 937, NOWHERE));
 /// `rust-cold`
-pub const rust_dash_cold: Symbol = Symbol(Preset(938));
+pub const rust_dash_cold: Symbol = Symbol(Packed(0, 938, NOWHERE));
 /// `rust-intrinsic`
-pub const rust_dash_intrinsic: Symbol = Symbol(Preset(939));
+pub const rust_dash_intrinsic: Symbol = Symbol(Packed(0, 939, NOWHERE));
 /// `stdcall-unwind`
-pub const stdcall_dash_unwind: Symbol = Symbol(Preset(985));
+pub const stdcall_dash_unwind: Symbol = Symbol(Packed(0, 985, NOWHERE));
 /// `system-unwind`
-pub const system_dash_unwind: Symbol = Symbol(Preset(997));
+pub const system_dash_unwind: Symbol = Symbol(Packed(0, 997, NOWHERE));
 /// `sysv64-unwind`
-pub const sysv64_dash_unwind: Symbol = Symbol(Preset(999));
+pub const sysv64_dash_unwind: Symbol = Symbol(Packed(0, 999, NOWHERE));
 /// `thiscall-unwind`
-pub const thiscall_dash_unwind: Symbol = Symbol(Preset(1007));
+pub const thiscall_dash_unwind: Symbol = Symbol(Packed(0, 1007, NOWHERE));
 /// `vectorcall-unwind`
-pub const vectorcall_dash_unwind: Symbol = Symbol(Preset(1041));
+pub const vectorcall_dash_unwind: Symbol = Symbol(Packed(0, 1041, NOWHERE));
 /// `win64-unwind`
-pub const win64_dash_unwind: Symbol = Symbol(Preset(1045));
+pub const win64_dash_unwind: Symbol = Symbol(Packed(0, 1045, NOWHERE));
 /// `x86-interrupt`
-pub const x86_dash_interrupt: Symbol = Symbol(Preset(1046));
+pub const x86_dash_interrupt: Symbol = Symbol(Packed(0, 1046, NOWHERE));
 /// `preserve-none`
-pub const rust_dash_preserve_dash_none: Symbol = Symbol(Preset(913));
+pub const rust_dash_preserve_dash_none: Symbol = Symbol(Packed(0, 913, NOWHERE));
 /// `0_u8`
-pub const _0_u8: Symbol = Symbol(Preset(517));
+pub const _0_u8: Symbol = Symbol(Packed(0, 517, NOWHERE));
 /// `__ra_fixup`
-pub const _ra_fixup_sym: Symbol = Symbol(Preset(597));
+pub const _ra_fixup_sym: Symbol = Symbol(Packed(0, 597, NOWHERE));
 /// `aapcs`
-pub const aapcs: Symbol = Symbol(Preset(598));
+pub const aapcs: Symbol = Symbol(Packed(0, 598, NOWHERE));
 /// `add_assign`
-pub const add_assign: Symbol = Symbol(Preset(602));
+pub const add_assign: Symbol = Symbol(Packed(0, 602, NOWHERE));
 /// `add`
-pub const add: Symbol = Symbol(Preset(601));
+pub const add: Symbol = Symbol(Packed(0, 601, NOWHERE));
 /// `alias`
-pub const alias: Symbol = Symbol(Preset(603));
+pub const alias: Symbol = Symbol(Packed(0, 603, NOWHERE));
 /// `align_offset`
-pub const align_offset: Symbol = Symbol(Preset(605));
+pub const align_offset: Symbol = Symbol(Packed(0, 605, NOWHERE));
 /// `align`
-pub const align: Symbol = Symbol(Preset(604));
+pub const align: Symbol = Symbol(Packed(0, 604, NOWHERE));
 /// `all`
-pub const all: Symbol = Symbol(Preset(606));
+pub const all: Symbol = Symbol(Packed(0, 606, NOWHERE));
 /// `alloc_layout`
-pub const alloc_layout: Symbol = Symbol(Preset(608));
+pub const alloc_layout: Symbol = Symbol(Packed(0, 608, NOWHERE));
 /// `alloc`
-pub const alloc: Symbol = Symbol(Preset(607));
+pub const alloc: Symbol = Symbol(Packed(0, 607, NOWHERE));
 /// `allow`
-pub const allow: Symbol = Symbol(Preset(610));
+pub const allow: Symbol = Symbol(Packed(0, 610, NOWHERE));
 /// `any`
-pub const any: Symbol = Symbol(Preset(613));
+pub const any: Symbol = Symbol(Packed(0, 613, NOWHERE));
 /// `as_str`
-pub const as_str: Symbol = Symbol(Preset(618));
+pub const as_str: Symbol = Symbol(Packed(0, 618, NOWHERE));
 /// `asm`
-pub const asm: Symbol = Symbol(Preset(619));
+pub const asm: Symbol = Symbol(Packed(0, 619, NOWHERE));
 /// `assert`
-pub const assert: Symbol = Symbol(Preset(620));
+pub const assert: Symbol = Symbol(Packed(0, 620, NOWHERE));
 /// `async_iter`
-pub const async_iter: Symbol = Symbol(Preset(630));
+pub const async_iter: Symbol = Symbol(Packed(0, 630, NOWHERE));
 /// `async_iterator`
-pub const async_iterator: Symbol = Symbol(Preset(631));
+pub const async_iterator: Symbol = Symbol(Packed(0, 631, NOWHERE));
 /// `AsyncIterator`
-pub const AsyncIterator: Symbol = Symbol(Preset(519));
+pub const AsyncIterator: Symbol = Symbol(Packed(0, 519, NOWHERE));
 /// `attr`
-pub const attr: Symbol = Symbol(Preset(632));
+pub const attr: Symbol = Symbol(Packed(0, 632, NOWHERE));
 /// `attributes`
-pub const attributes: Symbol = Symbol(Preset(633));
+pub const attributes: Symbol = Symbol(Packed(0, 633, NOWHERE));
 /// `begin_panic`
-pub const begin_panic: Symbol = Symbol(Preset(636));
+pub const begin_panic: Symbol = Symbol(Packed(0, 636, NOWHERE));
 /// `bench`
-pub const bench: Symbol = Symbol(Preset(637));
+pub const bench: Symbol = Symbol(Packed(0, 637, NOWHERE));
 /// `bitand_assign`
-pub const bitand_assign: Symbol = Symbol(Preset(640));
+pub const bitand_assign: Symbol = Symbol(Packed(0, 640, NOWHERE));
 /// `bitand`
-pub const bitand: Symbol = Symbol(Preset(639));
+pub const bitand: Symbol = Symbol(Packed(0, 639, NOWHERE));
 /// `bitor_assign`
-pub const bitor_assign: Symbol = Symbol(Preset(642));
+pub const bitor_assign: Symbol = Symbol(Packed(0, 642, NOWHERE));
 /// `bitor`
-pub const bitor: Symbol = Symbol(Preset(641));
+pub const bitor: Symbol = Symbol(Packed(0, 641, NOWHERE));
 /// `bitxor_assign`
-pub const bitxor_assign: Symbol = Symbol(Preset(644));
+pub const bitxor_assign: Symbol = Symbol(Packed(0, 644, NOWHERE));
 /// `bitxor`
-pub const bitxor: Symbol = Symbol(Preset(643));
+pub const bitxor: Symbol = Symbol(Packed(0, 643, NOWHERE));
 /// `bool`
-pub const bool: Symbol = Symbol(Preset(645));
+pub const bool: Symbol = Symbol(Packed(0, 645, NOWHERE));
 /// `bootstrap`
-pub const bootstrap: Symbol = Symbol(Preset(646));
+pub const bootstrap: Symbol = Symbol(Packed(0, 646, NOWHERE));
 /// `box_free`
-pub const box_free: Symbol = Symbol(Preset(647));
+pub const box_free: Symbol = Symbol(Packed(0, 647, NOWHERE));
 /// `Box`
-pub const Box: Symbol = Symbol(Preset(520));
+pub const Box: Symbol = Symbol(Packed(0, 520, NOWHERE));
 /// `boxed`
-pub const boxed: Symbol = Symbol(Preset(648));
+pub const boxed: Symbol = Symbol(Packed(0, 648, NOWHERE));
 /// `branch`
-pub const branch: Symbol = Symbol(Preset(650));
+pub const branch: Symbol = Symbol(Packed(0, 650, NOWHERE));
 /// `Break`
-pub const Break: Symbol = Symbol(Preset(521));
+pub const Break: Symbol = Symbol(Packed(0, 521, NOWHERE));
 /// `c_void`
-pub const c_void: Symbol = Symbol(Preset(652));
+pub const c_void: Symbol = Symbol(Packed(0, 652, NOWHERE));
 /// `C`
-pub const C: Symbol = Symbol(Preset(522));
+pub const C: Symbol = Symbol(Packed(0, 522, NOWHERE));
 /// `call_mut`
-pub const call_mut: Symbol = Symbol(Preset(654));
+pub const call_mut: Symbol = Symbol(Packed(0, 654, NOWHERE));
 /// `call_once`
-pub const call_once: Symbol = Symbol(Preset(655));
+pub const call_once: Symbol = Symbol(Packed(0, 655, NOWHERE));
 /// `async_call_once`
-pub const async_call_once: Symbol = Symbol(Preset(623));
+pub const async_call_once: Symbol = Symbol(Packed(0, 623, NOWHERE));
 /// `async_call_mut`
-pub const async_call_mut: Symbol = Symbol(Preset(622));
+pub const async_call_mut: Symbol = Symbol(Packed(0, 622, NOWHERE));
 /// `async_call`
-pub const async_call: Symbol = Symbol(Preset(621));
+pub const async_call: Symbol = Symbol(Packed(0, 621, NOWHERE));
 /// `call`
-pub const call: Symbol = Symbol(Preset(653));
+pub const call: Symbol = Symbol(Packed(0, 653, NOWHERE));
 /// `cdecl`
-pub const cdecl: Symbol = Symbol(Preset(658));
+pub const cdecl: Symbol = Symbol(Packed(0, 658, NOWHERE));
 /// `Center`
-pub const Center: Symbol = Symbol(Preset(529));
+pub const Center: Symbol = Symbol(Packed(0, 529, NOWHERE));
 /// `cfg_accessible`
-pub const cfg_accessible: Symbol = Symbol(Preset(661));
+pub const cfg_accessible: Symbol = Symbol(Packed(0, 661, NOWHERE));
 /// `cfg_attr`
-pub const cfg_attr: Symbol = Symbol(Preset(662));
+pub const cfg_attr: Symbol = Symbol(Packed(0, 662, NOWHERE));
 /// `cfg_eval`
-pub const cfg_eval: Symbol = Symbol(Preset(664));
+pub const cfg_eval: Symbol = Symbol(Packed(0, 664, NOWHERE));
 /// `cfg`
-pub const cfg: Symbol = Symbol(Preset(660));
+pub const cfg: Symbol = Symbol(Packed(0, 660, NOWHERE));
 /// `cfg_select`
-pub const cfg_select: Symbol = Symbol(Preset(665));
+pub const cfg_select: Symbol = Symbol(Packed(0, 665, NOWHERE));
 /// `char`
-pub const char: Symbol = Symbol(Preset(667));
+pub const char: Symbol = Symbol(Packed(0, 667, NOWHERE));
 /// `clone`
-pub const clone: Symbol = Symbol(Preset(668));
+pub const clone: Symbol = Symbol(Packed(0, 668, NOWHERE));
 /// `trivial_clone`
-pub const trivial_clone: Symbol = Symbol(Preset(1013));
+pub const trivial_clone: Symbol = Symbol(Packed(0, 1013, NOWHERE));
 /// `Clone`
-pub const Clone: Symbol = Symbol(Preset(530));
+pub const Clone: Symbol = Symbol(Packed(0, 530, NOWHERE));
 /// `code`
-pub const code: Symbol = Symbol(Preset(670));
+pub const code: Symbol = Symbol(Packed(0, 670, NOWHERE));
 /// `coerce_shared`
-pub const coerce_shared: Symbol = Symbol(Preset(671));
+pub const coerce_shared: Symbol = Symbol(Packed(0, 671, NOWHERE));
 /// `coerce_unsized`
-pub const coerce_unsized: Symbol = Symbol(Preset(672));
+pub const coerce_unsized: Symbol = Symbol(Packed(0, 672, NOWHERE));
 /// `column`
-pub const column: Symbol = Symbol(Preset(673));
+pub const column: Symbol = Symbol(Packed(0, 673, NOWHERE));
 /// `completion`
-pub const completion: Symbol = Symbol(Preset(676));
+pub const completion: Symbol = Symbol(Packed(0, 676, NOWHERE));
 /// `compile_error`
-pub const compile_error: Symbol = Symbol(Preset(674));
+pub const compile_error: Symbol = Symbol(Packed(0, 674, NOWHERE));
 /// `concat_bytes`
-pub const concat_bytes: Symbol = Symbol(Preset(679));
+pub const concat_bytes: Symbol = Symbol(Packed(0, 679, NOWHERE));
 /// `concat`
-pub const concat: Symbol = Symbol(Preset(678));
+pub const concat: Symbol = Symbol(Packed(0, 678, NOWHERE));
 /// `const_format_args`
-pub const const_format_args: Symbol = Symbol(Preset(681));
+pub const const_format_args: Symbol = Symbol(Packed(0, 681, NOWHERE));
 /// `const_panic_fmt`
-pub const const_panic_fmt: Symbol = Symbol(Preset(682));
+pub const const_panic_fmt: Symbol = Symbol(Packed(0, 682, NOWHERE));
 /// `const_param_ty`
-pub const const_param_ty: Symbol = Symbol(Preset(683));
+pub const const_param_ty: Symbol = Symbol(Packed(0, 683, NOWHERE));
 /// `Context`
-pub const Context: Symbol = Symbol(Preset(534));
+pub const Context: Symbol = Symbol(Packed(0, 534, NOWHERE));
 /// `Continue`
-pub const Continue: Symbol = Symbol(Preset(535));
+pub const Continue: Symbol = Symbol(Packed(0, 535, NOWHERE));
 /// `convert`
-pub const convert: Symbol = Symbol(Preset(685));
+pub const convert: Symbol = Symbol(Packed(0, 685, NOWHERE));
 /// `copy`
-pub const copy: Symbol = Symbol(Preset(686));
+pub const copy: Symbol = Symbol(Packed(0, 686, NOWHERE));
 /// `use_cloned`
-pub const use_cloned: Symbol = Symbol(Preset(1036));
+pub const use_cloned: Symbol = Symbol(Packed(0, 1036, NOWHERE));
 /// `Copy`
-pub const Copy: Symbol = Symbol(Preset(536));
+pub const Copy: Symbol = Symbol(Packed(0, 536, NOWHERE));
 /// `core_panic`
-pub const core_panic: Symbol = Symbol(Preset(689));
+pub const core_panic: Symbol = Symbol(Packed(0, 689, NOWHERE));
 /// `core`
-pub const core: Symbol = Symbol(Preset(687));
+pub const core: Symbol = Symbol(Packed(0, 687, NOWHERE));
 /// `coroutine_state`
-pub const coroutine_state: Symbol = Symbol(Preset(692));
+pub const coroutine_state: Symbol = Symbol(Packed(0, 692, NOWHERE));
 /// `coroutine`
-pub const coroutine: Symbol = Symbol(Preset(690));
+pub const coroutine: Symbol = Symbol(Packed(0, 690, NOWHERE));
 /// `coroutine_return`
-pub const coroutine_return: Symbol = Symbol(Preset(691));
+pub const coroutine_return: Symbol = Symbol(Packed(0, 691, NOWHERE));
 /// `coroutine_yield`
-pub const coroutine_yield: Symbol = Symbol(Preset(693));
+pub const coroutine_yield: Symbol = Symbol(Packed(0, 693, NOWHERE));
 /// `count`
-pub const count: Symbol = Symbol(Preset(694));
+pub const count: Symbol = Symbol(Packed(0, 694, NOWHERE));
 /// `crate_type`
-pub const crate_type: Symbol = Symbol(Preset(697));
+pub const crate_type: Symbol = Symbol(Packed(0, 697, NOWHERE));
 /// `CStr`
-pub const CStr: Symbol = Symbol(Preset(526));
+pub const CStr: Symbol = Symbol(Packed(0, 526, NOWHERE));
 /// `debug_assertions`
-pub const debug_assertions: Symbol = Symbol(Preset(699));
+pub const debug_assertions: Symbol = Symbol(Packed(0, 699, NOWHERE));
 /// `Debug`
-pub const Debug: Symbol = Symbol(Preset(537));
+pub const Debug: Symbol = Symbol(Packed(0, 537, NOWHERE));
 /// `default`
-pub const default: Symbol = Symbol(Preset(700));
+pub const default: Symbol = Symbol(Packed(0, 700, NOWHERE));
 /// `Default`
-pub const Default: Symbol = Symbol(Preset(538));
+pub const Default: Symbol = Symbol(Packed(0, 538, NOWHERE));
 /// `deprecated`
-pub const deprecated: Symbol = Symbol(Preset(702));
+pub const deprecated: Symbol = Symbol(Packed(0, 702, NOWHERE));
 /// `deref_mut`
-pub const deref_mut: Symbol = Symbol(Preset(704));
+pub const deref_mut: Symbol = Symbol(Packed(0, 704, NOWHERE));
 /// `deref_pure`
-pub const deref_pure: Symbol = Symbol(Preset(706));
+pub const deref_pure: Symbol = Symbol(Packed(0, 706, NOWHERE));
 /// `deref_target`
-pub const deref_target: Symbol = Symbol(Preset(707));
+pub const deref_target: Symbol = Symbol(Packed(0, 707, NOWHERE));
 /// `deref`
-pub const deref: Symbol = Symbol(Preset(703));
+pub const deref: Symbol = Symbol(Packed(0, 703, NOWHERE));
 /// `derive_const`
-pub const derive_const: Symbol = Symbol(Preset(709));
+pub const derive_const: Symbol = Symbol(Packed(0, 709, NOWHERE));
 /// `derive`
-pub const derive: Symbol = Symbol(Preset(708));
+pub const derive: Symbol = Symbol(Packed(0, 708, NOWHERE));
 /// `discriminant_kind`
-pub const discriminant_kind: Symbol = Symbol(Preset(711));
+pub const discriminant_kind: Symbol = Symbol(Packed(0, 711, NOWHERE));
 /// `discriminant_type`
-pub const discriminant_type: Symbol = Symbol(Preset(712));
+pub const discriminant_type: Symbol = Symbol(Packed(0, 712, NOWHERE));
 /// `dispatch_from_dyn`
-pub const dispatch_from_dyn: Symbol = Symbol(Preset(713));
+pub const dispatch_from_dyn: Symbol = Symbol(Packed(0, 713, NOWHERE));
 /// `destruct`
-pub const destruct: Symbol = Symbol(Preset(710));
+pub const destruct: Symbol = Symbol(Packed(0, 710, NOWHERE));
 /// `bikeshed_guaranteed_no_drop`
-pub const bikeshed_guaranteed_no_drop: Symbol = Symbol(Preset(638));
+pub const bikeshed_guaranteed_no_drop: Symbol = Symbol(Packed(0, 638, NOWHERE));
 /// `div_assign`
-pub const div_assign: Symbol = Symbol(Preset(715));
+pub const div_assign: Symbol = Symbol(Packed(0, 715, NOWHERE));
 /// `div`
-pub const div: Symbol = Symbol(Preset(714));
+pub const div: Symbol = Symbol(Packed(0, 714, NOWHERE));
 /// `doc`
-pub const doc: Symbol = Symbol(Preset(716));
+pub const doc: Symbol = Symbol(Packed(0, 716, NOWHERE));
 /// `drop_in_place`
-pub const drop_in_place: Symbol = Symbol(Preset(718));
+pub const drop_in_place: Symbol = Symbol(Packed(0, 718, NOWHERE));
 /// `drop`
-pub const drop: Symbol = Symbol(Preset(717));
+pub const drop: Symbol = Symbol(Packed(0, 717, NOWHERE));
 /// `pin_drop`
-pub const pin_drop: Symbol = Symbol(Preset(904));
+pub const pin_drop: Symbol = Symbol(Packed(0, 904, NOWHERE));
 /// `dyn_metadata`
-pub const dyn_metadata: Symbol = Symbol(Preset(719));
+pub const dyn_metadata: Symbol = Symbol(Packed(0, 719, NOWHERE));
 /// `efiapi`
-pub const efiapi: Symbol = Symbol(Preset(720));
+pub const efiapi: Symbol = Symbol(Packed(0, 720, NOWHERE));
 /// `eh_catch_typeinfo`
-pub const eh_catch_typeinfo: Symbol = Symbol(Preset(721));
+pub const eh_catch_typeinfo: Symbol = Symbol(Packed(0, 721, NOWHERE));
 /// `eh_personality`
-pub const eh_personality: Symbol = Symbol(Preset(722));
+pub const eh_personality: Symbol = Symbol(Packed(0, 722, NOWHERE));
 /// `env`
-pub const env: Symbol = Symbol(Preset(726));
+pub const env: Symbol = Symbol(Packed(0, 726, NOWHERE));
 /// `eq`
-pub const eq: Symbol = Symbol(Preset(727));
+pub const eq: Symbol = Symbol(Packed(0, 727, NOWHERE));
 /// `Eq`
-pub const Eq: Symbol = Symbol(Preset(540));
+pub const Eq: Symbol = Symbol(Packed(0, 540, NOWHERE));
 /// `Err`
-pub const Err: Symbol = Symbol(Preset(541));
+pub const Err: Symbol = Symbol(Packed(0, 541, NOWHERE));
 /// `exchange_malloc`
-pub const exchange_malloc: Symbol = Symbol(Preset(728));
+pub const exchange_malloc: Symbol = Symbol(Packed(0, 728, NOWHERE));
 /// `exhaustive_patterns`
-pub const exhaustive_patterns: Symbol = Symbol(Preset(729));
+pub const exhaustive_patterns: Symbol = Symbol(Packed(0, 729, NOWHERE));
 /// `export_name`
-pub const export_name: Symbol = Symbol(Preset(730));
+pub const export_name: Symbol = Symbol(Packed(0, 730, NOWHERE));
 /// `f128`
-pub const f128: Symbol = Symbol(Preset(731));
+pub const f128: Symbol = Symbol(Packed(0, 731, NOWHERE));
 /// `f16`
-pub const f16: Symbol = Symbol(Preset(732));
+pub const f16: Symbol = Symbol(Packed(0, 732, NOWHERE));
 /// `f32`
-pub const f32: Symbol = Symbol(Preset(733));
+pub const f32: Symbol = Symbol(Packed(0, 733, NOWHERE));
 /// `f64`
-pub const f64: Symbol = Symbol(Preset(734));
+pub const f64: Symbol = Symbol(Packed(0, 734, NOWHERE));
 /// `fastcall`
-pub const fastcall: Symbol = Symbol(Preset(736));
+pub const fastcall: Symbol = Symbol(Packed(0, 736, NOWHERE));
 /// `feature`
-pub const feature: Symbol = Symbol(Preset(738));
+pub const feature: Symbol = Symbol(Packed(0, 738, NOWHERE));
 /// `file`
-pub const file: Symbol = Symbol(Preset(743));
+pub const file: Symbol = Symbol(Packed(0, 743, NOWHERE));
 /// `filter_map`
-pub const filter_map: Symbol = Symbol(Preset(744));
+pub const filter_map: Symbol = Symbol(Packed(0, 744, NOWHERE));
 /// `fmt`
-pub const fmt: Symbol = Symbol(Preset(746));
+pub const fmt: Symbol = Symbol(Packed(0, 746, NOWHERE));
 /// `fn_mut`
-pub const fn_mut: Symbol = Symbol(Preset(748));
+pub const fn_mut: Symbol = Symbol(Packed(0, 748, NOWHERE));
 /// `fn_once_output`
-pub const fn_once_output: Symbol = Symbol(Preset(750));
+pub const fn_once_output: Symbol = Symbol(Packed(0, 750, NOWHERE));
 /// `fn_once`
-pub const fn_once: Symbol = Symbol(Preset(749));
+pub const fn_once: Symbol = Symbol(Packed(0, 749, NOWHERE));
 /// `async_fn_once`
-pub const async_fn_once: Symbol = Symbol(Preset(628));
+pub const async_fn_once: Symbol = Symbol(Packed(0, 628, NOWHERE));
 /// `async_fn_once_output`
-pub const async_fn_once_output: Symbol = Symbol(Preset(629));
+pub const async_fn_once_output: Symbol = Symbol(Packed(0, 629, NOWHERE));
 /// `async_fn_mut`
-pub const async_fn_mut: Symbol = Symbol(Preset(627));
+pub const async_fn_mut: Symbol = Symbol(Packed(0, 627, NOWHERE));
 /// `async_fn`
-pub const async_fn: Symbol = Symbol(Preset(624));
+pub const async_fn: Symbol = Symbol(Packed(0, 624, NOWHERE));
 /// `async_fn_kind_helper`
-pub const async_fn_kind_helper: Symbol = Symbol(Preset(625));
+pub const async_fn_kind_helper: Symbol = Symbol(Packed(0, 625, NOWHERE));
 /// `async_fn_kind_upvars`
-pub const async_fn_kind_upvars: Symbol = Symbol(Preset(626));
+pub const async_fn_kind_upvars: Symbol = Symbol(Packed(0, 626, NOWHERE));
 /// `call_ref_future`
-pub const call_ref_future: Symbol = Symbol(Preset(657));
+pub const call_ref_future: Symbol = Symbol(Packed(0, 657, NOWHERE));
 /// `call_once_future`
-pub const call_once_future: Symbol = Symbol(Preset(656));
+pub const call_once_future: Symbol = Symbol(Packed(0, 656, NOWHERE));
 /// `fn_ptr_as_ptr`
-pub const fn_ptr_as_ptr: Symbol = Symbol(Preset(751));
+pub const fn_ptr_as_ptr: Symbol = Symbol(Packed(0, 751, NOWHERE));
 /// `fn_ptr_from_ptr`
-pub const fn_ptr_from_ptr: Symbol = Symbol(Preset(752));
+pub const fn_ptr_from_ptr: Symbol = Symbol(Packed(0, 752, NOWHERE));
 /// `fn_ptr_trait`
-pub const fn_ptr_trait: Symbol = Symbol(Preset(753));
+pub const fn_ptr_trait: Symbol = Symbol(Packed(0, 753, NOWHERE));
 /// `format_alignment`
-pub const format_alignment: Symbol = Symbol(Preset(755));
+pub const format_alignment: Symbol = Symbol(Packed(0, 755, NOWHERE));
 /// `format_args_nl`
-pub const format_args_nl: Symbol = Symbol(Preset(757));
+pub const format_args_nl: Symbol = Symbol(Packed(0, 757, NOWHERE));
 /// `format_args`
-pub const format_args: Symbol = Symbol(Preset(756));
+pub const format_args: Symbol = Symbol(Packed(0, 756, NOWHERE));
 /// `format_argument`
-pub const format_argument: Symbol = Symbol(Preset(758));
+pub const format_argument: Symbol = Symbol(Packed(0, 758, NOWHERE));
 /// `format_arguments`
-pub const format_arguments: Symbol = Symbol(Preset(759));
+pub const format_arguments: Symbol = Symbol(Packed(0, 759, NOWHERE));
 /// `format_count`
-pub const format_count: Symbol = Symbol(Preset(760));
+pub const format_count: Symbol = Symbol(Packed(0, 760, NOWHERE));
 /// `format_placeholder`
-pub const format_placeholder: Symbol = Symbol(Preset(761));
+pub const format_placeholder: Symbol = Symbol(Packed(0, 761, NOWHERE));
 /// `format_unsafe_arg`
-pub const format_unsafe_arg: Symbol = Symbol(Preset(762));
+pub const format_unsafe_arg: Symbol = Symbol(Packed(0, 762, NOWHERE));
 /// `format`
-pub const format: Symbol = Symbol(Preset(754));
+pub const format: Symbol = Symbol(Packed(0, 754, NOWHERE));
 /// `freeze`
-pub const freeze: Symbol = Symbol(Preset(763));
+pub const freeze: Symbol = Symbol(Packed(0, 763, NOWHERE));
 /// `from`
-pub const from: Symbol = Symbol(Preset(765));
+pub const from: Symbol = Symbol(Packed(0, 765, NOWHERE));
 /// `From`
-pub const From: Symbol = Symbol(Preset(542));
+pub const From: Symbol = Symbol(Packed(0, 542, NOWHERE));
 /// `FromStr`
-pub const FromStr: Symbol = Symbol(Preset(543));
+pub const FromStr: Symbol = Symbol(Packed(0, 543, NOWHERE));
 /// `from_str`
-pub const from_str: Symbol = Symbol(Preset(768));
+pub const from_str: Symbol = Symbol(Packed(0, 768, NOWHERE));
 /// `from_output`
-pub const from_output: Symbol = Symbol(Preset(766));
+pub const from_output: Symbol = Symbol(Packed(0, 766, NOWHERE));
 /// `from_residual`
-pub const from_residual: Symbol = Symbol(Preset(767));
+pub const from_residual: Symbol = Symbol(Packed(0, 767, NOWHERE));
 /// `from_usize`
-pub const from_usize: Symbol = Symbol(Preset(769));
+pub const from_usize: Symbol = Symbol(Packed(0, 769, NOWHERE));
 /// `from_yeet`
-pub const from_yeet: Symbol = Symbol(Preset(770));
+pub const from_yeet: Symbol = Symbol(Packed(0, 770, NOWHERE));
 /// `fundamental`
-pub const fundamental: Symbol = Symbol(Preset(771));
+pub const fundamental: Symbol = Symbol(Packed(0, 771, NOWHERE));
 /// `future_trait`
-pub const future_trait: Symbol = Symbol(Preset(775));
+pub const future_trait: Symbol = Symbol(Packed(0, 775, NOWHERE));
 /// `future`
-pub const future: Symbol = Symbol(Preset(773));
+pub const future: Symbol = Symbol(Packed(0, 773, NOWHERE));
 /// `future_output`
-pub const future_output: Symbol = Symbol(Preset(774));
+pub const future_output: Symbol = Symbol(Packed(0, 774, NOWHERE));
 /// `Future`
-pub const Future: Symbol = Symbol(Preset(544));
+pub const Future: Symbol = Symbol(Packed(0, 544, NOWHERE));
 /// `ge`
-pub const ge: Symbol = Symbol(Preset(776));
+pub const ge: Symbol = Symbol(Packed(0, 776, NOWHERE));
 /// `generic_associated_type_extended`
-pub const generic_associated_type_extended: Symbol = Symbol(Preset(777));
+pub const generic_associated_type_extended: Symbol = Symbol(Packed(0, 777, NOWHERE));
 /// `get_context`
-pub const get_context: Symbol = Symbol(Preset(778));
+pub const get_context: Symbol = Symbol(Packed(0, 778, NOWHERE));
 /// `global_allocator`
-pub const global_allocator: Symbol = Symbol(Preset(779));
+pub const global_allocator: Symbol = Symbol(Packed(0, 779, NOWHERE));
 /// `global_asm`
-pub const global_asm: Symbol = Symbol(Preset(780));
+pub const global_asm: Symbol = Symbol(Packed(0, 780, NOWHERE));
 /// `gt`
-pub const gt: Symbol = Symbol(Preset(781));
+pub const gt: Symbol = Symbol(Packed(0, 781, NOWHERE));
 /// `Hash`
-pub const Hash: Symbol = Symbol(Preset(545));
+pub const Hash: Symbol = Symbol(Packed(0, 545, NOWHERE));
 /// `hidden`
-pub const hidden: Symbol = Symbol(Preset(783));
+pub const hidden: Symbol = Symbol(Packed(0, 783, NOWHERE));
 /// `html_root_url`
-pub const html_root_url: Symbol = Symbol(Preset(784));
+pub const html_root_url: Symbol = Symbol(Packed(0, 784, NOWHERE));
 /// `i128`
-pub const i128: Symbol = Symbol(Preset(785));
+pub const i128: Symbol = Symbol(Packed(0, 785, NOWHERE));
 /// `i16`
-pub const i16: Symbol = Symbol(Preset(786));
+pub const i16: Symbol = Symbol(Packed(0, 786, NOWHERE));
 /// `i32`
-pub const i32: Symbol = Symbol(Preset(787));
+pub const i32: Symbol = Symbol(Packed(0, 787, NOWHERE));
 /// `i64`
-pub const i64: Symbol = Symbol(Preset(788));
+pub const i64: Symbol = Symbol(Packed(0, 788, NOWHERE));
 /// `i8`
-pub const i8: Symbol = Symbol(Preset(789));
+pub const i8: Symbol = Symbol(Packed(0, 789, NOWHERE));
 /// `ignore`
-pub const ignore: Symbol = Symbol(Preset(790));
+pub const ignore: Symbol = Symbol(Packed(0, 790, NOWHERE));
 /// `Implied`
-pub const Implied: Symbol = Symbol(Preset(546));
+pub const Implied: Symbol = Symbol(Packed(0, 546, NOWHERE));
 /// `include_bytes`
-pub const include_bytes: Symbol = Symbol(Preset(797));
+pub const include_bytes: Symbol = Symbol(Packed(0, 797, NOWHERE));
 /// `include_str`
-pub const include_str: Symbol = Symbol(Preset(798));
+pub const include_str: Symbol = Symbol(Packed(0, 798, NOWHERE));
 /// `include`
-pub const include: Symbol = Symbol(Preset(796));
+pub const include: Symbol = Symbol(Packed(0, 796, NOWHERE));
 /// `index_mut`
-pub const index_mut: Symbol = Symbol(Preset(800));
+pub const index_mut: Symbol = Symbol(Packed(0, 800, NOWHERE));
 /// `index`
-pub const index: Symbol = Symbol(Preset(799));
+pub const index: Symbol = Symbol(Packed(0, 799, NOWHERE));
 /// `Index`
-pub const Index: Symbol = Symbol(Preset(547));
+pub const Index: Symbol = Symbol(Packed(0, 547, NOWHERE));
 /// `into`
-pub const into: Symbol = Symbol(Preset(801));
+pub const into: Symbol = Symbol(Packed(0, 801, NOWHERE));
 /// `Into`
-pub const Into: Symbol = Symbol(Preset(548));
+pub const Into: Symbol = Symbol(Packed(0, 548, NOWHERE));
 /// `into_future`
-pub const into_future: Symbol = Symbol(Preset(802));
+pub const into_future: Symbol = Symbol(Packed(0, 802, NOWHERE));
 /// `into_iter`
-pub const into_iter: Symbol = Symbol(Preset(803));
+pub const into_iter: Symbol = Symbol(Packed(0, 803, NOWHERE));
 /// `into_try_type`
-pub const into_try_type: Symbol = Symbol(Preset(804));
+pub const into_try_type: Symbol = Symbol(Packed(0, 804, NOWHERE));
 /// `IntoFuture`
-pub const IntoFuture: Symbol = Symbol(Preset(549));
+pub const IntoFuture: Symbol = Symbol(Packed(0, 549, NOWHERE));
 /// `IntoIter`
-pub const IntoIter: Symbol = Symbol(Preset(550));
+pub const IntoIter: Symbol = Symbol(Packed(0, 550, NOWHERE));
 /// `IntoIterator`
-pub const IntoIterator: Symbol = Symbol(Preset(551));
+pub const IntoIterator: Symbol = Symbol(Packed(0, 551, NOWHERE));
 /// `is_empty`
-pub const is_empty: Symbol = Symbol(Preset(806));
+pub const is_empty: Symbol = Symbol(Packed(0, 806, NOWHERE));
 /// `Is`
-pub const Is: Symbol = Symbol(Preset(552));
+pub const Is: Symbol = Symbol(Packed(0, 552, NOWHERE));
 /// `isize`
-pub const isize: Symbol = Symbol(Preset(807));
+pub const isize: Symbol = Symbol(Packed(0, 807, NOWHERE));
 /// `Item`
-pub const Item: Symbol = Symbol(Preset(553));
+pub const Item: Symbol = Symbol(Packed(0, 553, NOWHERE));
 /// `iter_mut`
-pub const iter_mut: Symbol = Symbol(Preset(809));
+pub const iter_mut: Symbol = Symbol(Packed(0, 809, NOWHERE));
 /// `iter`
-pub const iter: Symbol = Symbol(Preset(808));
+pub const iter: Symbol = Symbol(Packed(0, 808, NOWHERE));
 /// `Iterator`
-pub const Iterator: Symbol = Symbol(Preset(554));
+pub const Iterator: Symbol = Symbol(Packed(0, 554, NOWHERE));
 /// `iterator`
-pub const iterator: Symbol = Symbol(Preset(810));
+pub const iterator: Symbol = Symbol(Packed(0, 810, NOWHERE));
 /// `fused_iterator`
-pub const fused_iterator: Symbol = Symbol(Preset(772));
+pub const fused_iterator: Symbol = Symbol(Packed(0, 772, NOWHERE));
 /// `keyword`
-pub const keyword: Symbol = Symbol(Preset(811));
+pub const keyword: Symbol = Symbol(Packed(0, 811, NOWHERE));
 /// `lang`
-pub const lang: Symbol = Symbol(Preset(812));
+pub const lang: Symbol = Symbol(Packed(0, 812, NOWHERE));
 /// `lang_items`
-pub const lang_items: Symbol = Symbol(Preset(813));
+pub const lang_items: Symbol = Symbol(Packed(0, 813, NOWHERE));
 /// `le`
-pub const le: Symbol = Symbol(Preset(815));
+pub const le: Symbol = Symbol(Packed(0, 815, NOWHERE));
 /// `Left`
-pub const Left: Symbol = Symbol(Preset(555));
+pub const Left: Symbol = Symbol(Packed(0, 555, NOWHERE));
 /// `len`
-pub const len: Symbol = Symbol(Preset(816));
+pub const len: Symbol = Symbol(Packed(0, 816, NOWHERE));
 /// `line`
-pub const line: Symbol = Symbol(Preset(818));
+pub const line: Symbol = Symbol(Packed(0, 818, NOWHERE));
 /// `llvm_asm`
-pub const llvm_asm: Symbol = Symbol(Preset(821));
+pub const llvm_asm: Symbol = Symbol(Packed(0, 821, NOWHERE));
 /// `local_inner_macros`
-pub const local_inner_macros: Symbol = Symbol(Preset(822));
+pub const local_inner_macros: Symbol = Symbol(Packed(0, 822, NOWHERE));
 /// `log_syntax`
-pub const log_syntax: Symbol = Symbol(Preset(823));
+pub const log_syntax: Symbol = Symbol(Packed(0, 823, NOWHERE));
 /// `lt`
-pub const lt: Symbol = Symbol(Preset(824));
+pub const lt: Symbol = Symbol(Packed(0, 824, NOWHERE));
 /// `macro_export`
-pub const macro_export: Symbol = Symbol(Preset(825));
+pub const macro_export: Symbol = Symbol(Packed(0, 825, NOWHERE));
 /// `macro_rules`
-pub const macro_rules: Symbol = Symbol(Preset(826));
+pub const macro_rules: Symbol = Symbol(Packed(0, 826, NOWHERE));
 /// `macro_use`
-pub const macro_use: Symbol = Symbol(Preset(827));
+pub const macro_use: Symbol = Symbol(Packed(0, 827, NOWHERE));
 /// `main`
-pub const main: Symbol = Symbol(Preset(828));
+pub const main: Symbol = Symbol(Packed(0, 828, NOWHERE));
 /// `manually_drop`
-pub const manually_drop: Symbol = Symbol(Preset(829));
+pub const manually_drop: Symbol = Symbol(Packed(0, 829, NOWHERE));
 /// `may_dangle`
-pub const may_dangle: Symbol = Symbol(Preset(831));
+pub const may_dangle: Symbol = Symbol(Packed(0, 831, NOWHERE));
 /// `maybe_uninit`
-pub const maybe_uninit: Symbol = Symbol(Preset(832));
+pub const maybe_uninit: Symbol = Symbol(Packed(0, 832, NOWHERE));
 /// `metadata_type`
-pub const metadata_type: Symbol = Symbol(Preset(834));
+pub const metadata_type: Symbol = Symbol(Packed(0, 834, NOWHERE));
 /// `min_exhaustive_patterns`
-pub const min_exhaustive_patterns: Symbol = Symbol(Preset(835));
+pub const min_exhaustive_patterns: Symbol = Symbol(Packed(0, 835, NOWHERE));
 /// `miri`
-pub const miri: Symbol = Symbol(Preset(837));
+pub const miri: Symbol = Symbol(Packed(0, 837, NOWHERE));
 /// `missing`
-pub const missing: Symbol = Symbol(Preset(838));
+pub const missing: Symbol = Symbol(Packed(0, 838, NOWHERE));
 /// `module_path`
-pub const module_path: Symbol = Symbol(Preset(839));
+pub const module_path: Symbol = Symbol(Packed(0, 839, NOWHERE));
 /// `mul_assign`
-pub const mul_assign: Symbol = Symbol(Preset(843));
+pub const mul_assign: Symbol = Symbol(Packed(0, 843, NOWHERE));
 /// `mul`
-pub const mul: Symbol = Symbol(Preset(842));
+pub const mul: Symbol = Symbol(Packed(0, 842, NOWHERE));
 /// `must_use`
-pub const must_use: Symbol = Symbol(Preset(844));
+pub const must_use: Symbol = Symbol(Packed(0, 844, NOWHERE));
 /// `naked_asm`
-pub const naked_asm: Symbol = Symbol(Preset(846));
+pub const naked_asm: Symbol = Symbol(Packed(0, 846, NOWHERE));
 /// `ne`
-pub const ne: Symbol = Symbol(Preset(847));
+pub const ne: Symbol = Symbol(Packed(0, 847, NOWHERE));
 /// `neg`
-pub const neg: Symbol = Symbol(Preset(849));
+pub const neg: Symbol = Symbol(Packed(0, 849, NOWHERE));
 /// `Neg`
-pub const Neg: Symbol = Symbol(Preset(556));
+pub const Neg: Symbol = Symbol(Packed(0, 556, NOWHERE));
 /// `new_binary`
-pub const new_binary: Symbol = Symbol(Preset(853));
+pub const new_binary: Symbol = Symbol(Packed(0, 853, NOWHERE));
 /// `new_debug`
-pub const new_debug: Symbol = Symbol(Preset(854));
+pub const new_debug: Symbol = Symbol(Packed(0, 854, NOWHERE));
 /// `new_display`
-pub const new_display: Symbol = Symbol(Preset(855));
+pub const new_display: Symbol = Symbol(Packed(0, 855, NOWHERE));
 /// `new_lower_exp`
-pub const new_lower_exp: Symbol = Symbol(Preset(856));
+pub const new_lower_exp: Symbol = Symbol(Packed(0, 856, NOWHERE));
 /// `new_lower_hex`
-pub const new_lower_hex: Symbol = Symbol(Preset(857));
+pub const new_lower_hex: Symbol = Symbol(Packed(0, 857, NOWHERE));
 /// `new_octal`
-pub const new_octal: Symbol = Symbol(Preset(858));
+pub const new_octal: Symbol = Symbol(Packed(0, 858, NOWHERE));
 /// `new_pointer`
-pub const new_pointer: Symbol = Symbol(Preset(859));
+pub const new_pointer: Symbol = Symbol(Packed(0, 859, NOWHERE));
 /// `new_unchecked`
-pub const new_unchecked: Symbol = Symbol(Preset(861));
+pub const new_unchecked: Symbol = Symbol(Packed(0, 861, NOWHERE));
 /// `new_upper_exp`
-pub const new_upper_exp: Symbol = Symbol(Preset(862));
+pub const new_upper_exp: Symbol = Symbol(Packed(0, 862, NOWHERE));
 /// `new_upper_hex`
-pub const new_upper_hex: Symbol = Symbol(Preset(863));
+pub const new_upper_hex: Symbol = Symbol(Packed(0, 863, NOWHERE));
 /// `new_v1_formatted`
-pub const new_v1_formatted: Symbol = Symbol(Preset(864));
+pub const new_v1_formatted: Symbol = Symbol(Packed(0, 864, NOWHERE));
 /// `new`
-pub const new: Symbol = Symbol(Preset(852));
+pub const new: Symbol = Symbol(Packed(0, 852, NOWHERE));
 /// `next`
-pub const next: Symbol = Symbol(Preset(865));
+pub const next: Symbol = Symbol(Packed(0, 865, NOWHERE));
 /// `no_core`
-pub const no_core: Symbol = Symbol(Preset(866));
+pub const no_core: Symbol = Symbol(Packed(0, 866, NOWHERE));
 /// `no_mangle`
-pub const no_mangle: Symbol = Symbol(Preset(867));
+pub const no_mangle: Symbol = Symbol(Packed(0, 867, NOWHERE));
 /// `no_std`
-pub const no_std: Symbol = Symbol(Preset(868));
+pub const no_std: Symbol = Symbol(Packed(0, 868, NOWHERE));
 /// `non_exhaustive`
-pub const non_exhaustive: Symbol = Symbol(Preset(869));
+pub const non_exhaustive: Symbol = Symbol(Packed(0, 869, NOWHERE));
 /// `non_null`
-pub const non_null: Symbol = Symbol(Preset(870));
+pub const non_null: Symbol = Symbol(Packed(0, 870, NOWHERE));
 /// `none`
-pub const none: Symbol = Symbol(Preset(871));
+pub const none: Symbol = Symbol(Packed(0, 871, NOWHERE));
 /// `None`
-pub const None: Symbol = Symbol(Preset(557));
+pub const None: Symbol = Symbol(Packed(0, 557, NOWHERE));
 /// `not`
-pub const not: Symbol = Symbol(Preset(872));
+pub const not: Symbol = Symbol(Packed(0, 872, NOWHERE));
 /// `Not`
-pub const Not: Symbol = Symbol(Preset(558));
+pub const Not: Symbol = Symbol(Packed(0, 558, NOWHERE));
 /// `notable_trait`
-pub const notable_trait: Symbol = Symbol(Preset(873));
+pub const notable_trait: Symbol = Symbol(Packed(0, 873, NOWHERE));
 /// `Ok`
-pub const Ok: Symbol = Symbol(Preset(559));
+pub const Ok: Symbol = Symbol(Packed(0, 559, NOWHERE));
 /// `opaque`
-pub const opaque: Symbol = Symbol(Preset(874));
+pub const opaque: Symbol = Symbol(Packed(0, 874, NOWHERE));
 /// `ops`
-pub const ops: Symbol = Symbol(Preset(875));
+pub const ops: Symbol = Symbol(Packed(0, 875, NOWHERE));
 /// `option_env`
-pub const option_env: Symbol = Symbol(Preset(877));
+pub const option_env: Symbol = Symbol(Packed(0, 877, NOWHERE));
 /// `option`
-pub const option: Symbol = Symbol(Preset(876));
+pub const option: Symbol = Symbol(Packed(0, 876, NOWHERE));
 /// `Option`
-pub const Option: Symbol = Symbol(Preset(560));
+pub const Option: Symbol = Symbol(Packed(0, 560, NOWHERE));
 /// `Ord`
-pub const Ord: Symbol = Symbol(Preset(561));
+pub const Ord: Symbol = Symbol(Packed(0, 561, NOWHERE));
 /// `Ordering`
-pub const Ordering: Symbol = Symbol(Preset(562));
+pub const Ordering: Symbol = Symbol(Packed(0, 562, NOWHERE));
 /// `Output`
-pub const Output: Symbol = Symbol(Preset(563));
+pub const Output: Symbol = Symbol(Packed(0, 563, NOWHERE));
 /// `CallRefFuture`
-pub const CallRefFuture: Symbol = Symbol(Preset(528));
+pub const CallRefFuture: Symbol = Symbol(Packed(0, 528, NOWHERE));
 /// `CallOnceFuture`
-pub const CallOnceFuture: Symbol = Symbol(Preset(527));
+pub const CallOnceFuture: Symbol = Symbol(Packed(0, 527, NOWHERE));
 /// `owned_box`
-pub const owned_box: Symbol = Symbol(Preset(878));
+pub const owned_box: Symbol = Symbol(Packed(0, 878, NOWHERE));
 /// `packed`
-pub const packed: Symbol = Symbol(Preset(879));
+pub const packed: Symbol = Symbol(Packed(0, 879, NOWHERE));
 /// `panic_2015`
-pub const panic_2015: Symbol = Symbol(Preset(881));
+pub const panic_2015: Symbol = Symbol(Packed(0, 881, NOWHERE));
 /// `panic_2021`
-pub const panic_2021: Symbol = Symbol(Preset(882));
+pub const panic_2021: Symbol = Symbol(Packed(0, 882, NOWHERE));
 /// `panic_bounds_check`
-pub const panic_bounds_check: Symbol = Symbol(Preset(883));
+pub const panic_bounds_check: Symbol = Symbol(Packed(0, 883, NOWHERE));
 /// `panic_cannot_unwind`
-pub const panic_cannot_unwind: Symbol = Symbol(Preset(884));
+pub const panic_cannot_unwind: Symbol = Symbol(Packed(0, 884, NOWHERE));
 /// `panic_display`
-pub const panic_display: Symbol = Symbol(Preset(885));
+pub const panic_display: Symbol = Symbol(Packed(0, 885, NOWHERE));
 /// `panic_fmt`
-pub const panic_fmt: Symbol = Symbol(Preset(886));
+pub const panic_fmt: Symbol = Symbol(Packed(0, 886, NOWHERE));
 /// `panic_impl`
-pub const panic_impl: Symbol = Symbol(Preset(887));
+pub const panic_impl: Symbol = Symbol(Packed(0, 887, NOWHERE));
 /// `panic_info`
-pub const panic_info: Symbol = Symbol(Preset(888));
+pub const panic_info: Symbol = Symbol(Packed(0, 888, NOWHERE));
 /// `panic_location`
-pub const panic_location: Symbol = Symbol(Preset(889));
+pub const panic_location: Symbol = Symbol(Packed(0, 889, NOWHERE));
 /// `panic_misaligned_pointer_dereference`
-pub const panic_misaligned_pointer_dereference: Symbol = Symbol(Preset(890));
+pub const panic_misaligned_pointer_dereference: Symbol = Symbol(Packed(0, 890, NOWHERE));
 /// `panic_nounwind`
-pub const panic_nounwind: Symbol = Symbol(Preset(891));
+pub const panic_nounwind: Symbol = Symbol(Packed(0, 891, NOWHERE));
 /// `panic_null_pointer_dereference`
-pub const panic_null_pointer_dereference: Symbol = Symbol(Preset(892));
+pub const panic_null_pointer_dereference: Symbol = Symbol(Packed(0, 892, NOWHERE));
 /// `panic`
-pub const panic: Symbol = Symbol(Preset(880));
+pub const panic: Symbol = Symbol(Packed(0, 880, NOWHERE));
 /// `Param`
-pub const Param: Symbol = Symbol(Preset(564));
+pub const Param: Symbol = Symbol(Packed(0, 564, NOWHERE));
 /// `parse`
-pub const parse: Symbol = Symbol(Preset(894));
+pub const parse: Symbol = Symbol(Packed(0, 894, NOWHERE));
 /// `partial_ord`
-pub const partial_ord: Symbol = Symbol(Preset(896));
+pub const partial_ord: Symbol = Symbol(Packed(0, 896, NOWHERE));
 /// `PartialEq`
-pub const PartialEq: Symbol = Symbol(Preset(565));
+pub const PartialEq: Symbol = Symbol(Packed(0, 565, NOWHERE));
 /// `PartialOrd`
-pub const PartialOrd: Symbol = Symbol(Preset(566));
+pub const PartialOrd: Symbol = Symbol(Packed(0, 566, NOWHERE));
 /// `CoercePointee`
-pub const CoercePointee: Symbol = Symbol(Preset(531));
+pub const CoercePointee: Symbol = Symbol(Packed(0, 531, NOWHERE));
 /// `CoerceShared`
-pub const CoerceShared: Symbol = Symbol(Preset(532));
+pub const CoerceShared: Symbol = Symbol(Packed(0, 532, NOWHERE));
 /// `path`
-pub const path: Symbol = Symbol(Preset(897));
+pub const path: Symbol = Symbol(Packed(0, 897, NOWHERE));
 /// `pattern_type`
-pub const pattern_type: Symbol = Symbol(Preset(899));
+pub const pattern_type: Symbol = Symbol(Packed(0, 899, NOWHERE));
 /// `Pending`
-pub const Pending: Symbol = Symbol(Preset(567));
+pub const Pending: Symbol = Symbol(Packed(0, 567, NOWHERE));
 /// `phantom_data`
-pub const phantom_data: Symbol = Symbol(Preset(901));
+pub const phantom_data: Symbol = Symbol(Packed(0, 901, NOWHERE));
 /// `pieces`
-pub const pieces: Symbol = Symbol(Preset(902));
+pub const pieces: Symbol = Symbol(Packed(0, 902, NOWHERE));
 /// `pin`
-pub const pin: Symbol = Symbol(Preset(903));
+pub const pin: Symbol = Symbol(Packed(0, 903, NOWHERE));
 /// `pointee_trait`
-pub const pointee_trait: Symbol = Symbol(Preset(906));
+pub const pointee_trait: Symbol = Symbol(Packed(0, 906, NOWHERE));
 /// `pointer_like`
-pub const pointer_like: Symbol = Symbol(Preset(907));
+pub const pointer_like: Symbol = Symbol(Packed(0, 907, NOWHERE));
 /// `poll`
-pub const poll: Symbol = Symbol(Preset(908));
+pub const poll: Symbol = Symbol(Packed(0, 908, NOWHERE));
 /// `Poll`
-pub const Poll: Symbol = Symbol(Preset(568));
+pub const Poll: Symbol = Symbol(Packed(0, 568, NOWHERE));
 /// `prelude_import`
-pub const prelude_import: Symbol = Symbol(Preset(912));
+pub const prelude_import: Symbol = Symbol(Packed(0, 912, NOWHERE));
 /// `prelude`
-pub const prelude: Symbol = Symbol(Preset(911));
+pub const prelude: Symbol = Symbol(Packed(0, 911, NOWHERE));
 /// `reborrow`
-pub const reborrow: Symbol = Symbol(Preset(923));
+pub const reborrow: Symbol = Symbol(Packed(0, 923, NOWHERE));
 /// `Reborrow`
-pub const Reborrow: Symbol = Symbol(Preset(583));
+pub const Reborrow: Symbol = Symbol(Packed(0, 583, NOWHERE));
 /// `proc_macro_attribute`
-pub const proc_macro_attribute: Symbol = Symbol(Preset(916));
+pub const proc_macro_attribute: Symbol = Symbol(Packed(0, 916, NOWHERE));
 /// `proc_macro_derive`
-pub const proc_macro_derive: Symbol = Symbol(Preset(917));
+pub const proc_macro_derive: Symbol = Symbol(Packed(0, 917, NOWHERE));
 /// `proc_macro`
-pub const proc_macro: Symbol = Symbol(Preset(915));
+pub const proc_macro: Symbol = Symbol(Packed(0, 915, NOWHERE));
 /// `quote`
-pub const quote: Symbol = Symbol(Preset(920));
+pub const quote: Symbol = Symbol(Packed(0, 920, NOWHERE));
 /// `range_inclusive_new`
-pub const range_inclusive_new: Symbol = Symbol(Preset(922));
+pub const range_inclusive_new: Symbol = Symbol(Packed(0, 922, NOWHERE));
 /// `Range`
-pub const Range: Symbol = Symbol(Preset(569));
+pub const Range: Symbol = Symbol(Packed(0, 569, NOWHERE));
 /// `RangeFrom`
-pub const RangeFrom: Symbol = Symbol(Preset(571));
+pub const RangeFrom: Symbol = Symbol(Packed(0, 571, NOWHERE));
 /// `RangeFull`
-pub const RangeFull: Symbol = Symbol(Preset(573));
+pub const RangeFull: Symbol = Symbol(Packed(0, 573, NOWHERE));
 /// `RangeInclusive`
-pub const RangeInclusive: Symbol = Symbol(Preset(574));
+pub const RangeInclusive: Symbol = Symbol(Packed(0, 574, NOWHERE));
 /// `RangeTo`
-pub const RangeTo: Symbol = Symbol(Preset(579));
+pub const RangeTo: Symbol = Symbol(Packed(0, 579, NOWHERE));
 /// `RangeToInclusive`
-pub const RangeToInclusive: Symbol = Symbol(Preset(580));
+pub const RangeToInclusive: Symbol = Symbol(Packed(0, 580, NOWHERE));
 /// `Ready`
-pub const Ready: Symbol = Symbol(Preset(582));
+pub const Ready: Symbol = Symbol(Packed(0, 582, NOWHERE));
 /// `receiver`
-pub const receiver: Symbol = Symbol(Preset(924));
+pub const receiver: Symbol = Symbol(Packed(0, 924, NOWHERE));
 /// `receiver_target`
-pub const receiver_target: Symbol = Symbol(Preset(925));
+pub const receiver_target: Symbol = Symbol(Packed(0, 925, NOWHERE));
 /// `recursion_limit`
-pub const recursion_limit: Symbol = Symbol(Preset(926));
+pub const recursion_limit: Symbol = Symbol(Packed(0, 926, NOWHERE));
 /// `register_attr`
-pub const register_attr: Symbol = Symbol(Preset(929));
+pub const register_attr: Symbol = Symbol(Packed(0, 929, NOWHERE));
 /// `register_tool`
-pub const register_tool: Symbol = Symbol(Preset(930));
+pub const register_tool: Symbol = Symbol(Packed(0, 930, NOWHERE));
 /// `rem_assign`
-pub const rem_assign: Symbol = Symbol(Preset(932));
+pub const rem_assign: Symbol = Symbol(Packed(0, 932, NOWHERE));
 /// `rem`
-pub const rem: Symbol = Symbol(Preset(931));
+pub const rem: Symbol = Symbol(Packed(0, 931, NOWHERE));
 /// `repr`
-pub const repr: Symbol = Symbol(Preset(933));
+pub const repr: Symbol = Symbol(Packed(0, 933, NOWHERE));
 /// `result`
-pub const result: Symbol = Symbol(Preset(934));
+pub const result: Symbol = Symbol(Packed(0, 934, NOWHERE));
 /// `Result`
-pub const Result: Symbol = Symbol(Preset(584));
+pub const Result: Symbol = Symbol(Packed(0, 584, NOWHERE));
 /// `ResumeTy`
-pub const ResumeTy: Symbol = Symbol(Preset(585));
+pub const ResumeTy: Symbol = Symbol(Packed(0, 585, NOWHERE));
 /// `Right`
-pub const Right: Symbol = Symbol(Preset(586));
+pub const Right: Symbol = Symbol(Packed(0, 586, NOWHERE));
 /// `rust_2015`
-pub const rust_2015: Symbol = Symbol(Preset(940));
+pub const rust_2015: Symbol = Symbol(Packed(0, 940, NOWHERE));
 /// `rust_2018`
-pub const rust_2018: Symbol = Symbol(Preset(941));
+pub const rust_2018: Symbol = Symbol(Packed(0, 941, NOWHERE));
 /// `rust_2021`
-pub const rust_2021: Symbol = Symbol(Preset(942));
+pub const rust_2021: Symbol = Symbol(Packed(0, 942, NOWHERE));
 /// `rust_2024`
-pub const rust_2024: Symbol = Symbol(Preset(943));
+pub const rust_2024: Symbol = Symbol(Packed(0, 943, NOWHERE));
 /// `rust_analyzer`
-pub const rust_analyzer: Symbol = Symbol(Preset(944));
+pub const rust_analyzer: Symbol = Symbol(Packed(0, 944, NOWHERE));
 /// `Rust`
-pub const Rust: Symbol = Symbol(Preset(587));
+pub const Rust: Symbol = Symbol(Packed(0, 587, NOWHERE));
 /// `rustc_allocator_zeroed`
-pub const rustc_allocator_zeroed: Symbol = Symbol(Preset(946));
+pub const rustc_allocator_zeroed: Symbol = Symbol(Packed(0, 946, NOWHERE));
 /// `rustc_allocator`
-pub const rustc_allocator: Symbol = Symbol(Preset(945));
+pub const rustc_allocator: Symbol = Symbol(Packed(0, 945, NOWHERE));
 /// `rustc_allow_incoherent_impl`
-pub const rustc_allow_incoherent_impl: Symbol = Symbol(Preset(947));
+pub const rustc_allow_incoherent_impl: Symbol = Symbol(Packed(0, 947, NOWHERE));
 /// `rustc_builtin_macro`
-pub const rustc_builtin_macro: Symbol = Symbol(Preset(949));
+pub const rustc_builtin_macro: Symbol = Symbol(Packed(0, 949, NOWHERE));
 /// `rustc_coherence_is_core`
-pub const rustc_coherence_is_core: Symbol = Symbol(Preset(950));
+pub const rustc_coherence_is_core: Symbol = Symbol(Packed(0, 950, NOWHERE));
 /// `rustc_coinductive`
-pub const rustc_coinductive: Symbol = Symbol(Preset(951));
+pub const rustc_coinductive: Symbol = Symbol(Packed(0, 951, NOWHERE));
 /// `rustc_const_panic_str`
-pub const rustc_const_panic_str: Symbol = Symbol(Preset(952));
+pub const rustc_const_panic_str: Symbol = Symbol(Packed(0, 952, NOWHERE));
 /// `rustc_deallocator`
-pub const rustc_deallocator: Symbol = Symbol(Preset(953));
+pub const rustc_deallocator: Symbol = Symbol(Packed(0, 953, NOWHERE));
 /// `rustc_deprecated_safe_2024`
-pub const rustc_deprecated_safe_2024: Symbol = Symbol(Preset(954));
+pub const rustc_deprecated_safe_2024: Symbol = Symbol(Packed(0, 954, NOWHERE));
 /// `rustc_has_incoherent_inherent_impls`
-pub const rustc_has_incoherent_inherent_impls: Symbol = Symbol(Preset(956));
+pub const rustc_has_incoherent_inherent_impls: Symbol = Symbol(Packed(0, 956, NOWHERE));
 /// `rustc_intrinsic_must_be_overridden`
-pub const rustc_intrinsic_must_be_overridden: Symbol = Symbol(Preset(958));
+pub const rustc_intrinsic_must_be_overridden: Symbol = Symbol(Packed(0, 958, NOWHERE));
 /// `rustc_intrinsic`
-pub const rustc_intrinsic: Symbol = Symbol(Preset(957));
+pub const rustc_intrinsic: Symbol = Symbol(Packed(0, 957, NOWHERE));
 /// `rustc_layout_scalar_valid_range_end`
-pub const rustc_layout_scalar_valid_range_end: Symbol = Symbol(Preset(959));
+pub const rustc_layout_scalar_valid_range_end: Symbol = Symbol(Packed(0, 959, NOWHERE));
 /// `rustc_layout_scalar_valid_range_start`
-pub const rustc_layout_scalar_valid_range_start: Symbol = Symbol(Preset(960));
+pub const rustc_layout_scalar_valid_range_start: Symbol = Symbol(Packed(0, 960, NOWHERE));
 /// `rustc_legacy_const_generics`
-pub const rustc_legacy_const_generics: Symbol = Symbol(Preset(961));
+pub const rustc_legacy_const_generics: Symbol = Symbol(Packed(0, 961, NOWHERE));
 /// `rustc_macro_transparency`
-pub const rustc_macro_transparency: Symbol = Symbol(Preset(962));
+pub const rustc_macro_transparency: Symbol = Symbol(Packed(0, 962, NOWHERE));
 /// `rustc_paren_sugar`
-pub const rustc_paren_sugar: Symbol = Symbol(Preset(963));
+pub const rustc_paren_sugar: Symbol = Symbol(Packed(0, 963, NOWHERE));
 /// `rustc_reallocator`
-pub const rustc_reallocator: Symbol = Symbol(Preset(964));
+pub const rustc_reallocator: Symbol = Symbol(Packed(0, 964, NOWHERE));
 /// `rustc_reservation_impl`
-pub const rustc_reservation_impl: Symbol = Symbol(Preset(965));
+pub const rustc_reservation_impl: Symbol = Symbol(Packed(0, 965, NOWHERE));
 /// `rustc_safe_intrinsic`
-pub const rustc_safe_intrinsic: Symbol = Symbol(Preset(966));
+pub const rustc_safe_intrinsic: Symbol = Symbol(Packed(0, 966, NOWHERE));
 /// `rustc_skip_array_during_method_dispatch`
-pub const rustc_skip_array_during_method_dispatch: Symbol = Symbol(Preset(967));
+pub const rustc_skip_array_during_method_dispatch: Symbol = Symbol(Packed(0, 967, NOWHERE));
 /// `rustc_skip_during_method_dispatch`
-pub const rustc_skip_during_method_dispatch: Symbol = Symbol(Preset(968));
+pub const rustc_skip_during_method_dispatch: Symbol = Symbol(Packed(0, 968, NOWHERE));
 /// `rustc_force_inline`
-pub const rustc_force_inline: Symbol = Symbol(Preset(955));
+pub const rustc_force_inline: Symbol = Symbol(Packed(0, 955, NOWHERE));
 /// `shl_assign`
-pub const shl_assign: Symbol = Symbol(Preset(972));
+pub const shl_assign: Symbol = Symbol(Packed(0, 972, NOWHERE));
 /// `shl`
-pub const shl: Symbol = Symbol(Preset(971));
+pub const shl: Symbol = Symbol(Packed(0, 971, NOWHERE));
 /// `shr_assign`
-pub const shr_assign: Symbol = Symbol(Preset(974));
+pub const shr_assign: Symbol = Symbol(Packed(0, 974, NOWHERE));
 /// `shr`
-pub const shr: Symbol = Symbol(Preset(973));
+pub const shr: Symbol = Symbol(Packed(0, 973, NOWHERE));
 /// `simd`
-pub const simd: Symbol = Symbol(Preset(975));
+pub const simd: Symbol = Symbol(Packed(0, 975, NOWHERE));
 /// `sized`
-pub const sized: Symbol = Symbol(Preset(976));
+pub const sized: Symbol = Symbol(Packed(0, 976, NOWHERE));
 /// `meta_sized`
-pub const meta_sized: Symbol = Symbol(Preset(833));
+pub const meta_sized: Symbol = Symbol(Packed(0, 833, NOWHERE));
 /// `pointee_sized`
-pub const pointee_sized: Symbol = Symbol(Preset(905));
+pub const pointee_sized: Symbol = Symbol(Packed(0, 905, NOWHERE));
 /// `skip`
-pub const skip: Symbol = Symbol(Preset(977));
+pub const skip: Symbol = Symbol(Packed(0, 977, NOWHERE));
 /// `slice_len_fn`
-pub const slice_len_fn: Symbol = Symbol(Preset(978));
+pub const slice_len_fn: Symbol = Symbol(Packed(0, 978, NOWHERE));
 /// `Some`
-pub const Some: Symbol = Symbol(Preset(589));
+pub const Some: Symbol = Symbol(Packed(0, 589, NOWHERE));
 /// `start`
-pub const start: Symbol = Symbol(Preset(981));
+pub const start: Symbol = Symbol(Packed(0, 981, NOWHERE));
 /// `last`
-pub const last: Symbol = Symbol(Preset(814));
+pub const last: Symbol = Symbol(Packed(0, 814, NOWHERE));
 /// `end`
-pub const end: Symbol = Symbol(Preset(725));
+pub const end: Symbol = Symbol(Packed(0, 725, NOWHERE));
 /// `std_panic`
-pub const std_panic: Symbol = Symbol(Preset(983));
+pub const std_panic: Symbol = Symbol(Packed(0, 983, NOWHERE));
 /// `std`
-pub const std: Symbol = Symbol(Preset(982));
+pub const std: Symbol = Symbol(Packed(0, 982, NOWHERE));
 /// `stdcall`
-pub const stdcall: Symbol = Symbol(Preset(984));
+pub const stdcall: Symbol = Symbol(Packed(0, 984, NOWHERE));
 /// `str`
-pub const str: Symbol = Symbol(Preset(986));
+pub const str: Symbol = Symbol(Packed(0, 986, NOWHERE));
 /// `string`
-pub const string: Symbol = Symbol(Preset(987));
+pub const string: Symbol = Symbol(Packed(0, 987, NOWHERE));
 /// `String`
-pub const String: Symbol = Symbol(Preset(590));
+pub const String: Symbol = Symbol(Packed(0, 590, NOWHERE));
 /// `stringify`
-pub const stringify: Symbol = Symbol(Preset(988));
+pub const stringify: Symbol = Symbol(Packed(0, 988, NOWHERE));
 /// `structural_peq`
-pub const structural_peq: Symbol = Symbol(Preset(989));
+pub const structural_peq: Symbol = Symbol(Packed(0, 989, NOWHERE));
 /// `structural_teq`
-pub const structural_teq: Symbol = Symbol(Preset(990));
+pub const structural_teq: Symbol = Symbol(Packed(0, 990, NOWHERE));
 /// `sub_assign`
-pub const sub_assign: Symbol = Symbol(Preset(992));
+pub const sub_assign: Symbol = Symbol(Packed(0, 992, NOWHERE));
 /// `sub`
-pub const sub: Symbol = Symbol(Preset(991));
+pub const sub: Symbol = Symbol(Packed(0, 991, NOWHERE));
 /// `sync`
-pub const sync: Symbol = Symbol(Preset(995));
+pub const sync: Symbol = Symbol(Packed(0, 995, NOWHERE));
 /// `system`
-pub const system: Symbol = Symbol(Preset(996));
+pub const system: Symbol = Symbol(Packed(0, 996, NOWHERE));
 /// `sysv64`
-pub const sysv64: Symbol = Symbol(Preset(998));
+pub const sysv64: Symbol = Symbol(Packed(0, 998, NOWHERE));
 /// `Target`
-pub const Target: Symbol = Symbol(Preset(591));
+pub const Target: Symbol = Symbol(Packed(0, 591, NOWHERE));
 /// `target_feature`
-pub const target_feature: Symbol = Symbol(Preset(1000));
+pub const target_feature: Symbol = Symbol(Packed(0, 1000, NOWHERE));
 /// `enable`
-pub const enable: Symbol = Symbol(Preset(724));
+pub const enable: Symbol = Symbol(Packed(0, 724, NOWHERE));
 /// `termination`
-pub const termination: Symbol = Symbol(Preset(1001));
+pub const termination: Symbol = Symbol(Packed(0, 1001, NOWHERE));
 /// `test_case`
-pub const test_case: Symbol = Symbol(Preset(1003));
+pub const test_case: Symbol = Symbol(Packed(0, 1003, NOWHERE));
 /// `test`
-pub const test: Symbol = Symbol(Preset(1002));
+pub const test: Symbol = Symbol(Packed(0, 1002, NOWHERE));
 /// `then`
-pub const then: Symbol = Symbol(Preset(1005));
+pub const then: Symbol = Symbol(Packed(0, 1005, NOWHERE));
 /// `thiscall`
-pub const thiscall: Symbol = Symbol(Preset(1006));
+pub const thiscall: Symbol = Symbol(Packed(0, 1006, NOWHERE));
 /// `to_string`
-pub const to_string: Symbol = Symbol(Preset(1008));
+pub const to_string: Symbol = Symbol(Packed(0, 1008, NOWHERE));
 /// `trace_macros`
-pub const trace_macros: Symbol = Symbol(Preset(1009));
+pub const trace_macros: Symbol = Symbol(Packed(0, 1009, NOWHERE));
 /// `transmute_opts`
-pub const transmute_opts: Symbol = Symbol(Preset(1010));
+pub const transmute_opts: Symbol = Symbol(Packed(0, 1010, NOWHERE));
 /// `transmute_trait`
-pub const transmute_trait: Symbol = Symbol(Preset(1011));
+pub const transmute_trait: Symbol = Symbol(Packed(0, 1011, NOWHERE));
 /// `transparent`
-pub const transparent: Symbol = Symbol(Preset(1012));
+pub const transparent: Symbol = Symbol(Packed(0, 1012, NOWHERE));
 /// `try_into`
-pub const try_into: Symbol = Symbol(Preset(1016));
+pub const try_into: Symbol = Symbol(Packed(0, 1016, NOWHERE));
 /// `Try`
-pub const Try: Symbol = Symbol(Preset(592));
+pub const Try: Symbol = Symbol(Packed(0, 592, NOWHERE));
 /// `TryFrom`
-pub const TryFrom: Symbol = Symbol(Preset(593));
+pub const TryFrom: Symbol = Symbol(Packed(0, 593, NOWHERE));
 /// `try_from`
-pub const try_from: Symbol = Symbol(Preset(1015));
+pub const try_from: Symbol = Symbol(Packed(0, 1015, NOWHERE));
 /// `tuple_trait`
-pub const tuple_trait: Symbol = Symbol(Preset(1017));
+pub const tuple_trait: Symbol = Symbol(Packed(0, 1017, NOWHERE));
 /// `u128`
-pub const u128: Symbol = Symbol(Preset(1019));
+pub const u128: Symbol = Symbol(Packed(0, 1019, NOWHERE));
 /// `u16`
-pub const u16: Symbol = Symbol(Preset(1020));
+pub const u16: Symbol = Symbol(Packed(0, 1020, NOWHERE));
 /// `u32`
-pub const u32: Symbol = Symbol(Preset(1021));
+pub const u32: Symbol = Symbol(Packed(0, 1021, NOWHERE));
 /// `u64`
-pub const u64: Symbol = Symbol(Preset(1022));
+pub const u64: Symbol = Symbol(Packed(0, 1022, NOWHERE));
 /// `u8`
-pub const u8: Symbol = Symbol(Preset(1023));
+pub const u8: Symbol = Symbol(Packed(0, 1023, NOWHERE));
 /// `unadjusted`
-pub const unadjusted: Symbol = Symbol(Preset(1024));
+pub const unadjusted: Symbol = Symbol(Packed(0, 1024, NOWHERE));
 /// `unknown`
-pub const unknown: Symbol = Symbol(Preset(1025));
+pub const unknown: Symbol = Symbol(Packed(0, 1025, NOWHERE));
 /// `Unknown`
-pub const Unknown: Symbol = Symbol(Preset(594));
+pub const Unknown: Symbol = Symbol(Packed(0, 594, NOWHERE));
 /// `unpin`
-pub const unpin: Symbol = Symbol(Preset(1026));
+pub const unpin: Symbol = Symbol(Packed(0, 1026, NOWHERE));
 /// `unreachable_2015`
-pub const unreachable_2015: Symbol = Symbol(Preset(1028));
+pub const unreachable_2015: Symbol = Symbol(Packed(0, 1028, NOWHERE));
 /// `unreachable_2021`
-pub const unreachable_2021: Symbol = Symbol(Preset(1029));
+pub const unreachable_2021: Symbol = Symbol(Packed(0, 1029, NOWHERE));
 /// `unreachable`
-pub const unreachable: Symbol = Symbol(Preset(1027));
+pub const unreachable: Symbol = Symbol(Packed(0, 1027, NOWHERE));
 /// `unsafe_cell`
-pub const unsafe_cell: Symbol = Symbol(Preset(1031));
+pub const unsafe_cell: Symbol = Symbol(Packed(0, 1031, NOWHERE));
 /// `covariant_unsafe_cell`
-pub const covariant_unsafe_cell: Symbol = Symbol(Preset(695));
+pub const covariant_unsafe_cell: Symbol = Symbol(Packed(0, 695, NOWHERE));
 /// `unsafe_pinned`
-pub const unsafe_pinned: Symbol = Symbol(Preset(1032));
+pub const unsafe_pinned: Symbol = Symbol(Packed(0, 1032, NOWHERE));
 /// `unsize`
-pub const unsize: Symbol = Symbol(Preset(1033));
+pub const unsize: Symbol = Symbol(Packed(0, 1033, NOWHERE));
 /// `unstable`
-pub const unstable: Symbol = Symbol(Preset(1035));
+pub const unstable: Symbol = Symbol(Packed(0, 1035, NOWHERE));
 /// `usize`
-pub const usize: Symbol = Symbol(Preset(1037));
+pub const usize: Symbol = Symbol(Packed(0, 1037, NOWHERE));
 /// `v1`
-pub const v1: Symbol = Symbol(Preset(1038));
+pub const v1: Symbol = Symbol(Packed(0, 1038, NOWHERE));
 /// `va_list`
-pub const va_list: Symbol = Symbol(Preset(1039));
+pub const va_list: Symbol = Symbol(Packed(0, 1039, NOWHERE));
 /// `vectorcall`
-pub const vectorcall: Symbol = Symbol(Preset(1040));
+pub const vectorcall: Symbol = Symbol(Packed(0, 1040, NOWHERE));
 /// `wasm`
-pub const wasm: Symbol = Symbol(Preset(1042));
+pub const wasm: Symbol = Symbol(Packed(0, 1042, NOWHERE));
 /// `win64`
-pub const win64: Symbol = Symbol(Preset(1044));
+pub const win64: Symbol = Symbol(Packed(0, 1044, NOWHERE));
 /// `args`
-pub const args: Symbol = Symbol(Preset(616));
+pub const args: Symbol = Symbol(Packed(0, 616, NOWHERE));
 /// `array`
-pub const array: Symbol = Symbol(Preset(617));
+pub const array: Symbol = Symbol(Packed(0, 617, NOWHERE));
 /// `boxed_slice`
-pub const boxed_slice: Symbol = Symbol(Preset(649));
+pub const boxed_slice: Symbol = Symbol(Packed(0, 649, NOWHERE));
 /// `completions`
-pub const completions: Symbol = Symbol(Preset(677));
+pub const completions: Symbol = Symbol(Packed(0, 677, NOWHERE));
 /// `ignore_flyimport`
-pub const ignore_flyimport: Symbol = Symbol(Preset(791));
+pub const ignore_flyimport: Symbol = Symbol(Packed(0, 791, NOWHERE));
 /// `ignore_flyimport_methods`
-pub const ignore_flyimport_methods: Symbol = Symbol(Preset(792));
+pub const ignore_flyimport_methods: Symbol = Symbol(Packed(0, 792, NOWHERE));
 /// `ignore_methods`
-pub const ignore_methods: Symbol = Symbol(Preset(793));
+pub const ignore_methods: Symbol = Symbol(Packed(0, 793, NOWHERE));
 /// `position`
-pub const position: Symbol = Symbol(Preset(909));
+pub const position: Symbol = Symbol(Packed(0, 909, NOWHERE));
 /// `flags`
-pub const flags: Symbol = Symbol(Preset(745));
+pub const flags: Symbol = Symbol(Packed(0, 745, NOWHERE));
 /// `precision`
-pub const precision: Symbol = Symbol(Preset(910));
+pub const precision: Symbol = Symbol(Packed(0, 910, NOWHERE));
 /// `width`
-pub const width: Symbol = Symbol(Preset(1043));
+pub const width: Symbol = Symbol(Packed(0, 1043, NOWHERE));
 /// `never_type_fallback`
-pub const never_type_fallback: Symbol = Symbol(Preset(851));
+pub const never_type_fallback: Symbol = Symbol(Packed(0, 851, NOWHERE));
 /// `specialization`
-pub const specialization: Symbol = Symbol(Preset(979));
+pub const specialization: Symbol = Symbol(Packed(0, 979, NOWHERE));
 /// `min_specialization`
-pub const min_specialization: Symbol = Symbol(Preset(836));
+pub const min_specialization: Symbol = Symbol(Packed(0, 836, NOWHERE));
 /// `arbitrary_self_types`
-pub const arbitrary_self_types: Symbol = Symbol(Preset(614));
+pub const arbitrary_self_types: Symbol = Symbol(Packed(0, 614, NOWHERE));
 /// `arbitrary_self_types_pointers`
-pub const arbitrary_self_types_pointers: Symbol = Symbol(Preset(615));
+pub const arbitrary_self_types_pointers: Symbol = Symbol(Packed(0, 615, NOWHERE));
 /// `supertrait_item_shadowing`
-pub const supertrait_item_shadowing: Symbol = Symbol(Preset(994));
+pub const supertrait_item_shadowing: Symbol = Symbol(Packed(0, 994, NOWHERE));
 /// `new_range`
-pub const new_range: Symbol = Symbol(Preset(860));
+pub const new_range: Symbol = Symbol(Packed(0, 860, NOWHERE));
 /// `range`
-pub const range: Symbol = Symbol(Preset(921));
+pub const range: Symbol = Symbol(Packed(0, 921, NOWHERE));
 /// `RangeCopy`
-pub const RangeCopy: Symbol = Symbol(Preset(570));
+pub const RangeCopy: Symbol = Symbol(Packed(0, 570, NOWHERE));
 /// `RangeFromCopy`
-pub const RangeFromCopy: Symbol = Symbol(Preset(572));
+pub const RangeFromCopy: Symbol = Symbol(Packed(0, 572, NOWHERE));
 /// `RangeInclusiveCopy`
-pub const RangeInclusiveCopy: Symbol = Symbol(Preset(575));
+pub const RangeInclusiveCopy: Symbol = Symbol(Packed(0, 575, NOWHERE));
 /// `RangeToInclusiveCopy`
-pub const RangeToInclusiveCopy: Symbol = Symbol(Preset(581));
+pub const RangeToInclusiveCopy: Symbol = Symbol(Packed(0, 581, NOWHERE));
 /// `hash`
-pub const hash: Symbol = Symbol(Preset(782));
+pub const hash: Symbol = Symbol(Packed(0, 782, NOWHERE));
 /// `partial_cmp`
-pub const partial_cmp: Symbol = Symbol(Preset(895));
+pub const partial_cmp: Symbol = Symbol(Packed(0, 895, NOWHERE));
 /// `cmp`
-pub const cmp: Symbol = Symbol(Preset(669));
+pub const cmp: Symbol = Symbol(Packed(0, 669, NOWHERE));
 /// `CoerceUnsized`
-pub const CoerceUnsized: Symbol = Symbol(Preset(533));
+pub const CoerceUnsized: Symbol = Symbol(Packed(0, 533, NOWHERE));
 /// `DispatchFromDyn`
-pub const DispatchFromDyn: Symbol = Symbol(Preset(539));
+pub const DispatchFromDyn: Symbol = Symbol(Packed(0, 539, NOWHERE));
 /// `define_opaque`
-pub const define_opaque: Symbol = Symbol(Preset(701));
+pub const define_opaque: Symbol = Symbol(Packed(0, 701, NOWHERE));
 /// `marker`
-pub const marker: Symbol = Symbol(Preset(830));
+pub const marker: Symbol = Symbol(Packed(0, 830, NOWHERE));
 /// `abi_unadjusted`
-pub const abi_unadjusted: Symbol = Symbol(Preset(600));
+pub const abi_unadjusted: Symbol = Symbol(Packed(0, 600, NOWHERE));
 /// `allocator_internals`
-pub const allocator_internals: Symbol = Symbol(Preset(609));
+pub const allocator_internals: Symbol = Symbol(Packed(0, 609, NOWHERE));
 /// `allow_internal_unsafe`
-pub const allow_internal_unsafe: Symbol = Symbol(Preset(611));
+pub const allow_internal_unsafe: Symbol = Symbol(Packed(0, 611, NOWHERE));
 /// `allow_internal_unstable`
-pub const allow_internal_unstable: Symbol = Symbol(Preset(612));
+pub const allow_internal_unstable: Symbol = Symbol(Packed(0, 612, NOWHERE));
 /// `cfg_emscripten_wasm_eh`
-pub const cfg_emscripten_wasm_eh: Symbol = Symbol(Preset(663));
+pub const cfg_emscripten_wasm_eh: Symbol = Symbol(Packed(0, 663, NOWHERE));
 /// `cfg_target_has_reliable_f16_f128`
-pub const cfg_target_has_reliable_f16_f128: Symbol = Symbol(Preset(666));
+pub const cfg_target_has_reliable_f16_f128: Symbol = Symbol(Packed(0, 666, NOWHERE));
 /// `compiler_builtins`
-pub const compiler_builtins: Symbol = Symbol(Preset(675));
+pub const compiler_builtins: Symbol = Symbol(Packed(0, 675, NOWHERE));
 /// `custom_mir`
-pub const custom_mir: Symbol = Symbol(Preset(698));
+pub const custom_mir: Symbol = Symbol(Packed(0, 698, NOWHERE));
 /// `eii_internals`
-pub const eii_internals: Symbol = Symbol(Preset(723));
+pub const eii_internals: Symbol = Symbol(Packed(0, 723, NOWHERE));
 /// `field_representing_type_raw`
-pub const field_representing_type_raw: Symbol = Symbol(Preset(741));
+pub const field_representing_type_raw: Symbol = Symbol(Packed(0, 741, NOWHERE));
 /// `intrinsics`
-pub const intrinsics: Symbol = Symbol(Preset(805));
+pub const intrinsics: Symbol = Symbol(Packed(0, 805, NOWHERE));
 /// `core_intrinsics`
-pub const core_intrinsics: Symbol = Symbol(Preset(688));
+pub const core_intrinsics: Symbol = Symbol(Packed(0, 688, NOWHERE));
 /// `link_cfg`
-pub const link_cfg: Symbol = Symbol(Preset(819));
+pub const link_cfg: Symbol = Symbol(Packed(0, 819, NOWHERE));
 /// `more_maybe_bounds`
-pub const more_maybe_bounds: Symbol = Symbol(Preset(840));
+pub const more_maybe_bounds: Symbol = Symbol(Packed(0, 840, NOWHERE));
 /// `negative_bounds`
-pub const negative_bounds: Symbol = Symbol(Preset(850));
+pub const negative_bounds: Symbol = Symbol(Packed(0, 850, NOWHERE));
 /// `pattern_complexity_limit`
-pub const pattern_complexity_limit: Symbol = Symbol(Preset(898));
+pub const pattern_complexity_limit: Symbol = Symbol(Packed(0, 898, NOWHERE));
 /// `profiler_runtime`
-pub const profiler_runtime: Symbol = Symbol(Preset(918));
+pub const profiler_runtime: Symbol = Symbol(Packed(0, 918, NOWHERE));
 /// `rustc_attrs`
-pub const rustc_attrs: Symbol = Symbol(Preset(948));
+pub const rustc_attrs: Symbol = Symbol(Packed(0, 948, NOWHERE));
 /// `staged_api`
-pub const staged_api: Symbol = Symbol(Preset(980));
+pub const staged_api: Symbol = Symbol(Packed(0, 980, NOWHERE));
 /// `test_unstable_lint`
-pub const test_unstable_lint: Symbol = Symbol(Preset(1004));
+pub const test_unstable_lint: Symbol = Symbol(Packed(0, 1004, NOWHERE));
 /// `builtin_syntax`
-pub const builtin_syntax: Symbol = Symbol(Preset(651));
+pub const builtin_syntax: Symbol = Symbol(Packed(0, 651, NOWHERE));
 /// `link_llvm_intrinsics`
-pub const link_llvm_intrinsics: Symbol = Symbol(Preset(820));
+pub const link_llvm_intrinsics: Symbol = Symbol(Packed(0, 820, NOWHERE));
 /// `needs_panic_runtime`
-pub const needs_panic_runtime: Symbol = Symbol(Preset(848));
+pub const needs_panic_runtime: Symbol = Symbol(Packed(0, 848, NOWHERE));
 /// `panic_runtime`
-pub const panic_runtime: Symbol = Symbol(Preset(893));
+pub const panic_runtime: Symbol = Symbol(Packed(0, 893, NOWHERE));
 /// `pattern_types`
-pub const pattern_types: Symbol = Symbol(Preset(900));
+pub const pattern_types: Symbol = Symbol(Packed(0, 900, NOWHERE));
 /// `rustdoc_internals`
-pub const rustdoc_internals: Symbol = Symbol(Preset(969));
+pub const rustdoc_internals: Symbol = Symbol(Packed(0, 969, NOWHERE));
 /// `contracts_internals`
-pub const contracts_internals: Symbol = Symbol(Preset(684));
+pub const contracts_internals: Symbol = Symbol(Packed(0, 684, NOWHERE));
 /// `freeze_impls`
-pub const freeze_impls: Symbol = Symbol(Preset(764));
+pub const freeze_impls: Symbol = Symbol(Packed(0, 764, NOWHERE));
 /// `unsized_fn_params`
-pub const unsized_fn_params: Symbol = Symbol(Preset(1034));
+pub const unsized_fn_params: Symbol = Symbol(Packed(0, 1034, NOWHERE));
 /// `field`
-pub const field: Symbol = Symbol(Preset(739));
+pub const field: Symbol = Symbol(Packed(0, 739, NOWHERE));
 /// `field_base`
-pub const field_base: Symbol = Symbol(Preset(740));
+pub const field_base: Symbol = Symbol(Packed(0, 740, NOWHERE));
 /// `field_type`
-pub const field_type: Symbol = Symbol(Preset(742));
+pub const field_type: Symbol = Symbol(Packed(0, 742, NOWHERE));
 /// `ref_pat_eat_one_layer_2024`
-pub const ref_pat_eat_one_layer_2024: Symbol = Symbol(Preset(927));
+pub const ref_pat_eat_one_layer_2024: Symbol = Symbol(Packed(0, 927, NOWHERE));
 /// `ref_pat_eat_one_layer_2024_structural`
-pub const ref_pat_eat_one_layer_2024_structural: Symbol = Symbol(Preset(928));
+pub const ref_pat_eat_one_layer_2024_structural: Symbol = Symbol(Packed(0, 928, NOWHERE));
 /// `deref_patterns`
-pub const deref_patterns: Symbol = Symbol(Preset(705));
+pub const deref_patterns: Symbol = Symbol(Packed(0, 705, NOWHERE));
 /// `mut_ref`
-pub const mut_ref: Symbol = Symbol(Preset(845));
+pub const mut_ref: Symbol = Symbol(Packed(0, 845, NOWHERE));
 /// `type_changing_struct_update`
-pub const type_changing_struct_update: Symbol = Symbol(Preset(1018));
+pub const type_changing_struct_update: Symbol = Symbol(Packed(0, 1018, NOWHERE));
 /// `RangeMin`
-pub const RangeMin: Symbol = Symbol(Preset(577));
+pub const RangeMin: Symbol = Symbol(Packed(0, 577, NOWHERE));
 /// `RangeMax`
-pub const RangeMax: Symbol = Symbol(Preset(576));
+pub const RangeMax: Symbol = Symbol(Packed(0, 576, NOWHERE));
 /// `RangeSub`
-pub const RangeSub: Symbol = Symbol(Preset(578));
+pub const RangeSub: Symbol = Symbol(Packed(0, 578, NOWHERE));
 /// `AsyncGenReady`
-pub const AsyncGenReady: Symbol = Symbol(Preset(518));
+pub const AsyncGenReady: Symbol = Symbol(Packed(0, 518, NOWHERE));

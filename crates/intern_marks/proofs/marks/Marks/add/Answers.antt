@@ -5,7 +5,9 @@ use Rattle.intern_store.specs.declared.names.Name.{Name}
 use Rattle.intern_marks.specs.Names.{name_cmp}
 use Rattle.intern_marks.specs.Marks.{Marks, added}
 use Rattle.intern_marks.specs.Slotted.{names_in, names_at}
-use Rattle.intern_marks.specs.Tied.{IsKept}
+use Rattle.intern_marks.specs.Tied.{IsKept, IsLed}
+use Rattle.intern_marks.specs.declared.found.Table.{Table}
+use Rattle.intern_marks.specs.declared.slots.Slots.{Slots}
 use Rattle.intern_marks.proofs.Tied.{seen, same_names_in, names_added}
 use Rattle.intern_marks.proofs.Kept.{fewer_slots, same_kept, same_marked, added_kept, added_marked}
 use Rattle.intern_marks.proofs.marks.Marks.add.Goals as goal
@@ -17,20 +19,29 @@ overflow_sub-self-inside c =
     omega (arith, fewer_slots a.marked c.self.invariant, c.len.ensures)
 
 -- once there is room, the slots have in them what they had
-roomy : (c : After-make_room) → let a = c.self.inside in IsKept c.make_room.new.self a.table a.size a.marked.items a.visits (vec_capacity a.marked)
-roomy c =
+roomy : (c : After-make_room) (u : Table) → let a = c.self.inside in IsLed a.slots u → IsKept c.make_room.new.self u a.size a.marked.items a.visits (vec_capacity a.marked)
+roomy c u led =
     same_kept c.self.invariant c.make_room.new.self c.make_room.ensures.same c.make_room.ensures.count
-    (c.make_room.ensures.follow c.self.invariant.tied.follow)
+    (c.make_room.ensures.follow c.self.invariant.tied.follow) u led
+
+-- a table that isn't filled leads nowhere
+unfilled : (s : Slots) (u : Table) → u.is_filled ≡ false → IsLed s u
+unfilled s u none filled = let no = sym none ∙ filled in absurd (cc)
 
 pub invariant_of-self : goal.invariant_of-self
-invariant_of-self c = roomy (goal.at.invariant_of-self c).After-make_room
+invariant_of-self c = roomy (goal.at.invariant_of-self c).After-make_room c.self.inside.table c.self.invariant.tied.led
+
+pub invariant_of-self-in_err-make_room : goal.invariant_of-self-in_err-make_room
+invariant_of-self-in_err-make_room c =
+    roomy (goal.at.invariant_of-self-in_err-make_room c).After-make_room c.make_room-2.new.self (unfilled c.self.inside.slots c.make_room-2.new.self c.make_room-2.ensures)
 
 pub invariant_of-self-in_err-reserve : goal.invariant_of-self-in_err-reserve
 invariant_of-self-in_err-reserve c =
     let a = c.self.inside in
-    subst (λ l. IsKept c.make_room.new.self a.table a.size l a.visits (vec_capacity c.reserve.new.self)) (sym c.in_err-reserve.ensures.items)
-    (subst (λ n. IsKept c.make_room.new.self a.table a.size a.marked.items a.visits n) (sym c.in_err-reserve.ensures.err)
-    (roomy (goal.at.invariant_of-self-in_err-reserve c).After-make_room))
+    let u = c.make_room-2.new.self in
+    subst (λ l. IsKept c.make_room.new.self u a.size l a.visits (vec_capacity c.reserve.new.self)) (sym c.in_err-reserve.ensures.items)
+    (subst (λ n. IsKept c.make_room.new.self u a.size a.marked.items a.visits n) (sym c.in_err-reserve.ensures.err)
+    (roomy (goal.at.invariant_of-self-in_err-reserve c).After-make_room u (unfilled a.slots u c.make_room-2.ensures)))
 
 -- the entry is put
 module _ (c : After-put) where
@@ -40,7 +51,7 @@ module _ (c : After-put) where
   kept : let a = c.self.inside in IsKept c.make_room.new.self a.table a.size items a.visits (vec_capacity a.marked)
   kept =
       same_kept c.self.invariant c.make_room.new.self c.make_room.ensures.same c.make_room.ensures.count
-      (c.make_room.ensures.follow c.self.invariant.tied.follow)
+      (c.make_room.ensures.follow c.self.invariant.tied.follow) c.self.inside.table c.self.invariant.tied.led
 
   same_names : names_in c.make_room.new.self ≡ names_in c.self.inside.slots
   same_names =
@@ -54,25 +65,25 @@ module _ (c : After-put) where
   grown b = cond b (items ++ c.in_ok-slot.slot ∷ []) items
 
   put_kept : (more : ℕ) → c.self.inside.size + 1 ≤ more
-      → IsKept c.put.new.self (record { buckets = c.self.inside.table.buckets; is_filled = false }) (c.self.inside.size + 1) (grown c.args.flags.is_marked) c.self.inside.visits more
+      → IsKept c.put.new.self c.make_room-2.new.self (c.self.inside.size + 1) (grown c.args.flags.is_marked) c.self.inside.visits more
   put_kept more fits =
       let e = c.in_ok-slot.ensures in
       added_kept kept
-      c.in_ok-slot.slot (key_name c.args.key) c.args.flags unknown e.behind c.put.new.self (c.put.ensures.put c.args.key.storage e.last) c.put.ensures.count
-      _ more refl (c.put.ensures.follow c.args.key.storage e.last) e.told fits
+      c.in_ok-slot.slot (key_name c.args.key) c.args.flags unknown e.behind c.put.new.self c.put.ensures.put c.put.ensures.count
+      c.make_room-2.new.self more c.make_room-2.ensures c.put.ensures.follow e.told fits
 
   put_names : names_in c.put.new.self ≡ insert (names_in c.self.inside.slots) (key_name c.args.key) c.args.flags.is_counted
   put_names =
       let e = c.in_ok-slot.ensures in
       names_added kept.tied
-      c.in_ok-slot.slot (key_name c.args.key) c.args.flags unknown e.behind c.put.new.self (c.put.ensures.put c.args.key.storage e.last) c.put.ensures.count
+      c.in_ok-slot.slot (key_name c.args.key) c.args.flags unknown e.behind c.put.new.self c.put.ensures.put c.put.ensures.count
       ∙ ap (λ (m : FinMap name_cmp Bool). insert m (key_name c.args.key) c.args.flags.is_counted) same_names
 
   put_marked : (b : Bool) → let old = names_at c.self.inside.slots items in names_at c.put.new.self (grown b) ≡ cond b (old ++ key_name c.args.key ∷ []) old
   put_marked b =
       let e = c.in_ok-slot.ensures in
       added_marked kept
-      c.in_ok-slot.slot (key_name c.args.key) c.args.flags unknown e.behind c.put.new.self (c.put.ensures.put c.args.key.storage e.last) c.put.ensures.count b
+      c.in_ok-slot.slot (key_name c.args.key) c.args.flags unknown e.behind c.put.new.self c.put.ensures.put c.put.ensures.count b
       ∙ ap (λ (l : List Name). cond b (l ++ key_name c.args.key ∷ []) l)
       (same_marked c.self.invariant c.make_room.new.self c.make_room.ensures.same c.make_room.ensures.count)
 
@@ -81,9 +92,9 @@ module _ (c : After-put) where
 
   -- the invariant and the view, with the slots of what is marked then
   put_invariant : (l : List ℕ) (more : ℕ) → l ≡ grown c.args.flags.is_marked → more ≡ vec_capacity c.reserve.new.self
-      → IsKept c.put.new.self (record { buckets = c.self.inside.table.buckets; is_filled = false }) (c.self.inside.size + 1) l c.self.inside.visits more
+      → IsKept c.put.new.self c.make_room-2.new.self (c.self.inside.size + 1) l c.self.inside.visits more
   put_invariant l more is room =
-      subst (λ l. IsKept c.put.new.self (record { buckets = c.self.inside.table.buckets; is_filled = false }) (c.self.inside.size + 1) l c.self.inside.visits more) (sym is)
+      subst (λ l. IsKept c.put.new.self c.make_room-2.new.self (c.self.inside.size + 1) l c.self.inside.visits more) (sym is)
       (put_kept more (let fits = fits in omega arith))
 
   put_view : (l : List ℕ) → l ≡ grown c.args.flags.is_marked

@@ -57,7 +57,7 @@ module _ (c : After-push_reserved) where
   named =
       ap (names_at c.mark.new.self) c.push_reserved.ensures.items
       ∙ marked_more c.self.invariant
-      c.in-Some.found.slot (key_name c.args.key) c.in-Some.found.flags c.in-Some.ensures.found bare c.mark.new.self c.mark.ensures.parts c.mark.ensures.births c.mark.ensures.flags
+      c.in-Some.found.slot (key_name c.args.key) c.in-Some.found.flags c.in-Some.ensures.found bare c.mark.new.self c.mark.ensures.parts c.mark.ensures.row c.mark.ensures.births c.mark.ensures.flags
 
 pub invariant_of-self-then-is_next : goal.invariant_of-self-then-is_next
 invariant_of-self-then-is_next c =
@@ -65,7 +65,7 @@ invariant_of-self-then-is_next c =
     subst (λ n. IsKept c.mark.new.self c.locate.new.table a.size c.push_reserved.new.self.items a.visits n) (sym c.push_reserved.ensures.capacity)
     (subst (λ l. IsKept c.mark.new.self c.locate.new.table a.size l a.visits (vec_capacity a.marked)) (sym c.push_reserved.ensures.items)
     (marked_kept c.self.invariant
-    c.in-Some.found.slot (key_name c.args.key) c.in-Some.found.flags c.in-Some.ensures.found (bare c) c.mark.new.self c.mark.ensures.parts c.mark.ensures.births c.mark.ensures.flags
+    c.in-Some.found.slot (key_name c.args.key) c.in-Some.found.flags c.in-Some.ensures.found (bare c) c.mark.new.self c.mark.ensures.parts c.mark.ensures.row c.mark.ensures.births c.mark.ensures.flags
     c.locate.new.table c.locate.ensures.led))
 
 pub returns-then-is_next-clause-state : goal.returns-then-is_next-clause-state
@@ -73,7 +73,7 @@ returns-then-is_next-clause-state c =
     let a = c.self.inside in
     let here = (goal.at.returns-then-is_next-clause-state c).In-Some in
     let kept = names_kept c.self.invariant.tied
-    c.in-Some.found.slot (key_name c.args.key) c.in-Some.found.flags c.in-Some.ensures.found (bare c) c.mark.new.self c.mark.ensures.parts c.mark.ensures.births c.mark.ensures.flags in
+    c.in-Some.found.slot (key_name c.args.key) c.in-Some.found.flags c.in-Some.ensures.found (bare c) c.mark.new.self c.mark.ensures.parts c.mark.ensures.row c.mark.ensures.births c.mark.ensures.flags in
     (λ j. seen (kept j) (named c j) a.visits a.calls)
     ∙ ap (λ (m : Marks). record m { marked = m.marked ++ key_name c.args.key ∷ [] }) c.self.view_is
     ∙ placed_as c.args.counted_too c.args.self.now (key_name c.args.key) true (decided here ∙ sym c.is_next-is_next.ensures ∙ c.if-is_next.true)

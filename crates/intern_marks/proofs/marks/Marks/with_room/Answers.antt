@@ -1,4 +1,4 @@
-use Rattle.std.proofs.Common.{refl, vec_capacity}
+use Rattle.std.proofs.Common.{vec_capacity}
 use Rattle.intern_marks.specs.Slotted.{names_at}
 use Rattle.intern_marks.proofs.Kept.{nothing_kept}
 use Rattle.intern_marks.proofs.Tied.{nothing_names, seen}
@@ -8,7 +8,7 @@ pub invariant_of-result : goal.invariant_of-result
 invariant_of-result c =
     let s = c.in_ok-with_room.field-0 in
     let marked = c.in_ok-with_capacity.field-0 in
-    nothing_kept s _ marked.items (vec_capacity marked) c.in_ok-with_room.ensures.count c.in_ok-with_room.ensures.parts refl c.in_ok-with_capacity.ensures.items
+    nothing_kept s c.new.result marked.items (vec_capacity marked) c.in_ok-with_room.ensures.count c.in_ok-with_room.ensures.parts c.new.ensures c.in_ok-with_capacity.ensures.items
 
 pub returns : goal.returns
 returns c =

@@ -18,7 +18,8 @@ invariant_of-self g c =
 pub returns-in-Ok-Ok-clause-ok : goal.returns-in-Ok-Ok-clause-ok
 returns-in-Ok-Ok-clause-ok g c =
     let found = ap (λ f. option_map key_name (result_ok f)) (sym c.in-Ok-Ok.field-0-is) ∙ c.in-Ok-Ok.ensures.found in
-    sym (found_symbol c.args.self.now.store.state c.args.text.now c.args.self.now.table (key_name c.in-Ok-Ok.key) found)
+    c.runtime.ensures
+    ∙ sym (found_symbol c.args.self.now.store.state c.args.text.now c.args.self.now.table (key_name c.in-Ok-Ok.key) found)
 
 pub returns-in-Ok-Ok-clause-state : goal.returns-in-Ok-Ok-clause-state
 returns-in-Ok-Ok-clause-state g c =

@@ -1,4 +1,4 @@
-use Rattle.std.proofs.Common.{ℕ, List, sym, ap, ◌∙◌}
+use Rattle.std.proofs.Common.{ℕ, List, Some, sym, ap, ◌∙◌}
 use Rattle.intern_store.specs.Named.{key_name}
 use Rattle.intern_store.specs.State.{State}
 use Rattle.ra_ap_intern.specs.Symbols.{named_in}
@@ -7,5 +7,6 @@ use Rattle.ra_ap_intern.proofs.symbol.SymbolTable.get.Goals as goal
 
 pub returns-in-Some : goal.returns-in-Some
 returns-in-Some g c =
-    sym (found_named c.self.inside.inner.store.state c.args.text.now c.self.inside.inner.table (key_name c.in-Some.key) c.in-Some.ensures)
+    ap Some c.runtime-packed.ensures
+    ∙ sym (found_named c.self.inside.inner.store.state c.args.text.now c.self.inside.inner.table (key_name c.in-Some.key) c.in-Some.ensures)
     ∙ ap (λ (s : State (List ℕ)). named_in s c.args.text.now) c.self.view_is
