@@ -38,15 +38,12 @@ pub(crate) fn check(rt: &impl Eprint, alloc: Global) -> Result<(), Fault> {
     );
     ensure(GarbageCollector::distinct(&make_storages(alloc)))?;
     prepares(rt);
-    let mut storages = make_storages(alloc);
-    let known = match fill(alloc, &mut storages) {
-        Ok(known) => known,
-        Err(_) => {
-            storages = make_storages(alloc);
-            fill(alloc, &mut storages)?
-        }
-    };
-    check_collector(rt, alloc, &storages, known)?;
+    check_over(rt, alloc, &mut make_storages(alloc))
+}
+
+fn check_over(rt: &impl Eprint, alloc: Global, storages: &mut Storages) -> Result<(), Fault> {
+    let known = fill_surely(alloc, storages)?;
+    check_collector(rt, alloc, storages, known)?;
     check_interning(rt, alloc, &mut storages.first.second, known)?;
     check_release(rt, &mut storages.first.second, known)
 }
@@ -55,6 +52,17 @@ fn make_storages(alloc: Global) -> Storages {
     let nodes = InternStorage::with_limits(alloc, 1, LIMITS);
     let family = GarbageCollector::add_storage(NoStorages, nodes);
     GarbageCollector::add_slice_storage(family, InternSliceStorage::new(alloc, 2))
+}
+
+// Stores what `fill` does, in storages that are made anew where that is refused.
+fn fill_surely(alloc: Global, storages: &mut Storages) -> Result<Known, Fault> {
+    match fill(alloc, storages) {
+        Ok(known) => Ok(known),
+        Err(_) => {
+            *storages = make_storages(alloc);
+            fill(alloc, storages)
+        }
+    }
 }
 
 // Stores three nodes and a slice. A collection removes the first node.

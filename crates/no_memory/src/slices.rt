@@ -28,6 +28,8 @@ const LIMITS: Limits = Limits { top: 2, numbers: 4 };
 
 type Storage = InternSliceStorage<StringSlice>;
 
+type Family = Pair<NoStorages, Storage>;
+
 type Handle = InternedSlice<StringSlice>;
 
 type Reference = InternedSliceRef<StringSlice>;
@@ -46,33 +48,56 @@ struct Handles {
 pub(crate) fn check(rt: &impl Eprint, alloc: Global) -> Result<(), Fault> {
     check_making(rt, alloc)?;
     prepares(rt);
-    let (mut storage, handles) = match make(alloc) {
-        Ok(made) => made,
-        Err(_) => make(alloc)?,
-    };
-    check_storage(rt, alloc, &storage, &handles)?;
-    check_reads(rt, &storage, &handles)?;
-    check_interning(rt, alloc, &mut storage, &handles)?;
-    check_owning(rt, &mut storage, &handles)?;
-    check_lowering(rt, &mut storage, &handles)?;
+    let (mut storage, handles) = make_surely(alloc)?;
+    check_calls(rt, alloc, &mut storage, &handles)?;
     check_release(rt, &mut storage, handles)
+}
+
+fn check_calls(
+    rt: &impl Eprint,
+    alloc: Global,
+    storage: &mut Storage,
+    handles: &Handles,
+) -> Result<(), Fault> {
+    check_storage(rt, alloc, storage, handles)?;
+    check_reads(rt, storage, handles)?;
+    check_interning(rt, alloc, storage, handles)?;
+    check_owning(rt, storage, handles)?;
+    check_lowering(rt, storage, handles)
+}
+
+// What `make` does, at the second try where the first is refused.
+fn make_surely(alloc: Global) -> Result<(Storage, Handles), Fault> {
+    match make(alloc) {
+        Ok(made) => Ok(made),
+        Err(_) => make(alloc),
+    }
 }
 
 // A storage in which the slices were stored, and from which a collection removed one.
 fn make(alloc: Global) -> Result<(Storage, Handles), Fault> {
     let storage = InternSliceStorage::with_limits(alloc, 1, LIMITS);
     let mut family = GarbageCollector::add_slice_storage(NoStorages, storage);
+    let handles = fill_and_collect(alloc, &mut family)?;
+    Ok((family.second, handles))
+}
+
+fn fill_and_collect(alloc: Global, family: &mut Family) -> Result<Handles, Fault> {
     let handles = fill(alloc, &mut family.second)?;
-    if !GarbageCollector::distinct(&family) {
+    collect(alloc, family)?;
+    handles
+        .zero
+        .as_ref()
+        .decrement_refcount(&mut family.second)?;
+    Ok(handles)
+}
+
+fn collect(alloc: Global, family: &mut Family) -> Result<(), Fault> {
+    if !GarbageCollector::distinct(family) {
         return Err(Fault::Wrong);
     }
-    GarbageCollector::new(alloc).collect(&mut family)?;
-    let Pair {
-        first: _,
-        second: mut storage,
-    } = family;
-    handles.zero.as_ref().decrement_refcount(&mut storage)?;
-    Ok((storage, handles))
+    GarbageCollector::new(alloc).collect(family)?;
+    Ok(())
 }
 
 fn fill(alloc: Global, storage: &mut Storage) -> Result<Handles, Fault> {
@@ -101,9 +126,13 @@ fn intern(alloc: Global, storage: &mut Storage, text: &str) -> Result<Reference,
 
 fn check_making(rt: &impl Eprint, alloc: Global) -> Result<(), Fault> {
     takes_none(rt, "InternSliceStorage::new");
-    ensure(InternSliceStorage::<StringSlice>::new(alloc, 1).is_empty())?;
+    ensure(is_empty(InternSliceStorage::new(alloc, 1)))?;
     takes_none(rt, "InternSliceStorage::with_limits");
-    ensure(InternSliceStorage::<StringSlice>::with_limits(alloc, 1, LIMITS).is_empty())
+    ensure(is_empty(InternSliceStorage::with_limits(alloc, 1, LIMITS)))
+}
+
+fn is_empty(storage: Storage) -> bool {
+    storage.is_empty()
 }
 
 // A header to offer, at the second try where the first is refused.

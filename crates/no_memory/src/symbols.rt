@@ -38,23 +38,43 @@ struct Symbols {
 pub(crate) fn check(rt: &impl Eprint, alloc: Global) -> Result<(), Fault> {
     check_making(rt, alloc)?;
     prepares(rt);
-    let mut table = SymbolTable::with_limits(alloc, 1, LIMITS);
-    let mut symbols = match fill(alloc, &mut table) {
-        Ok(symbols) => symbols,
+    check_over(rt, alloc, &mut make(alloc))
+}
+
+fn make(alloc: Global) -> SymbolTable {
+    SymbolTable::with_limits(alloc, 1, LIMITS)
+}
+
+fn check_over(rt: &impl Eprint, alloc: Global, table: &mut SymbolTable) -> Result<(), Fault> {
+    let mut symbols = fill_surely(alloc, table)?;
+    check_calls(rt, table, &mut symbols)?;
+    check_release(rt, table, symbols)
+}
+
+fn check_calls(
+    rt: &impl Eprint,
+    table: &mut SymbolTable,
+    symbols: &mut Symbols,
+) -> Result<(), Fault> {
+    check_table(rt, table, symbols)?;
+    check_reads(rt, table, symbols)?;
+    check_presets(rt, table)?;
+    check_interning(rt, table, symbols)?;
+    check_integers(rt, table, symbols)?;
+    check_generated(rt, table, symbols)?;
+    check_owning(rt, table, symbols)?;
+    check_lowering(rt, table, symbols)
+}
+
+// Stores the texts, in a table that is made anew where that is refused.
+fn fill_surely(alloc: Global, table: &mut SymbolTable) -> Result<Symbols, Fault> {
+    match fill(alloc, table) {
+        Ok(symbols) => Ok(symbols),
         Err(_) => {
-            table = SymbolTable::with_limits(alloc, 1, LIMITS);
-            fill(alloc, &mut table)?
+            *table = make(alloc);
+            fill(alloc, table)
         }
-    };
-    check_table(rt, &table, &symbols)?;
-    check_reads(rt, &table, &symbols)?;
-    check_presets(rt, &mut table)?;
-    check_interning(rt, &mut table, &symbols)?;
-    check_integers(rt, &mut table, &symbols)?;
-    check_generated(rt, &mut table, &symbols)?;
-    check_owning(rt, &mut table, &symbols)?;
-    check_lowering(rt, &mut table, &mut symbols)?;
-    check_release(rt, &mut table, symbols)
+    }
 }
 
 // Stores the texts.
@@ -79,9 +99,13 @@ fn fill(alloc: Global, table: &mut SymbolTable) -> Result<Symbols, Fault> {
 
 fn check_making(rt: &impl Eprint, alloc: Global) -> Result<(), Fault> {
     takes_none(rt, "SymbolTable::new");
-    ensure(SymbolTable::new(alloc, 1).is_empty())?;
+    ensure(is_empty(SymbolTable::new(alloc, 1)))?;
     takes_none(rt, "SymbolTable::with_limits");
-    ensure(SymbolTable::with_limits(alloc, 1, LIMITS).is_empty())
+    ensure(is_empty(make(alloc)))
+}
+
+fn is_empty(table: SymbolTable) -> bool {
+    table.is_empty()
 }
 
 fn check_table(rt: &impl Eprint, table: &SymbolTable, symbols: &Symbols) -> Result<(), Fault> {

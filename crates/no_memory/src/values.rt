@@ -37,22 +37,43 @@ struct Handles {
 pub(crate) fn check(rt: &impl Eprint, alloc: Global) -> Result<(), Fault> {
     check_making(rt, alloc)?;
     prepares(rt);
-    let mut storage = InternStorage::with_limits(alloc, 1, LIMITS);
-    let handles = match fill(alloc, &mut storage) {
-        Ok(handles) => handles,
+    check_over(rt, alloc, &mut make(alloc))
+}
+
+fn make(alloc: Global) -> Storage {
+    InternStorage::with_limits(alloc, 1, LIMITS)
+}
+
+fn check_over(rt: &impl Eprint, alloc: Global, storage: &mut Storage) -> Result<(), Fault> {
+    let handles = fill_surely(alloc, storage)?;
+    check_calls(rt, alloc, storage, &handles)?;
+    check_release(rt, storage, handles)
+}
+
+// Stores the texts, in a storage that is made anew where that is refused.
+fn fill_surely(alloc: Global, storage: &mut Storage) -> Result<Handles, Fault> {
+    match fill(alloc, storage) {
+        Ok(handles) => Ok(handles),
         Err(_) => {
-            storage = InternStorage::with_limits(alloc, 1, LIMITS);
-            fill(alloc, &mut storage)?
+            *storage = make(alloc);
+            fill(alloc, storage)
         }
-    };
-    check_storage(rt, alloc, &storage, &handles)?;
-    check_reads(rt, &storage, &handles)?;
-    check_births(rt, &storage, &handles)?;
-    check_interning(rt, alloc, &mut storage, &handles)?;
-    check_owning(rt, &mut storage, &handles)?;
-    check_lowering(rt, &mut storage, &handles)?;
-    check_owed(rt, &mut storage, &handles)?;
-    check_release(rt, &mut storage, handles)
+    }
+}
+
+fn check_calls(
+    rt: &impl Eprint,
+    alloc: Global,
+    storage: &mut Storage,
+    handles: &Handles,
+) -> Result<(), Fault> {
+    check_storage(rt, alloc, storage, handles)?;
+    check_reads(rt, storage, handles)?;
+    check_births(rt, storage, handles)?;
+    check_interning(rt, alloc, storage, handles)?;
+    check_owning(rt, storage, handles)?;
+    check_lowering(rt, storage, handles)?;
+    check_owed(rt, storage, handles)
 }
 
 // Stores the texts.
@@ -81,13 +102,22 @@ fn intern(alloc: Global, storage: &mut Storage, text: &str) -> Result<Handle, Fa
 
 fn check_making(rt: &impl Eprint, alloc: Global) -> Result<(), Fault> {
     takes_none(rt, "InternStorage::new");
-    ensure(InternStorage::<Text>::new(alloc, 1).is_empty())?;
+    ensure(is_empty(InternStorage::new(alloc, 1)))?;
     takes_none(rt, "InternStorage::with_limits");
-    ensure(InternStorage::<Text>::with_limits(alloc, 1, LIMITS).is_empty())?;
+    ensure(is_empty(make(alloc)))?;
     takes_none(rt, "Text::new of a short text, Text::as_str");
-    ensure(Text::new(alloc, "short")?.as_str() == "short")?;
+    ensure(is_kept(alloc, "short")?)?;
     takes_none(rt, "Refusal::number");
     ensure(Refusal::Foreign.number() == 1 && Refusal::OutOfMemory.number() == 6)
+}
+
+fn is_empty(storage: Storage) -> bool {
+    storage.is_empty()
+}
+
+// Whether a text has what it was made of.
+fn is_kept(alloc: Global, text: &'static str) -> Result<bool, AllocError> {
+    Ok(Text::new(alloc, text)?.as_str() == text)
 }
 
 // A text to offer, at the second try where the first is refused.
