@@ -98,6 +98,14 @@ fn store_numbers(
     Ok((slice, back.is_some()))
 }
 
+fn collect(alloc: Global, family: &mut Storages) -> Result<Collected, Fault> {
+    if !GarbageCollector::distinct(family) {
+        return Err(Fault::Wrong("two storages of a family have one number"));
+    }
+    let collected = GarbageCollector::new(alloc).collect(family);
+    collected.map_err(|_| Fault::NoMemory)
+}
+
 impl Scene {
     fn check(&mut self, rt: &(impl Print + Eprint), alloc: Global) -> Result<(), Fault> {
         marks::takes_none(rt, "reads");
@@ -123,11 +131,7 @@ impl Scene {
     }
 
     fn collect(&mut self, alloc: Global) -> Result<Collected, Fault> {
-        if !GarbageCollector::distinct(&self.family) {
-            return Err(Fault::Wrong("two storages of a family have one number"));
-        }
-        let collected = GarbageCollector::new(alloc).collect(&mut self.family);
-        collected.map_err(|_| Fault::NoMemory)
+        collect(alloc, &mut self.family)
     }
 
     // Fails unless all is there, as it was stored and counted.

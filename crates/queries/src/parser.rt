@@ -12,7 +12,7 @@ pub const MOST_CELLS: u64 = 1048576;
 /// What a line asks for.
 #[derive(Drop, Debug)]
 pub enum Line {
-    /// Nothing: it is blank, or a remark behind `#`.
+    /// Nothing: it is blank, but for a comment behind `#`.
     Nothing,
     /// A formula for a cell.
     Set(Place, Formula),
@@ -41,9 +41,6 @@ pub enum ParseError {
 
 /// What a line asks for.
 pub fn parse_line(alloc: Global, text: &str) -> Result<Line, ParseError> {
-    if text.trim_start().starts_with('#') {
-        return Ok(Line::Nothing);
-    }
     let mut tokens = Tokens::new(text);
     let first = tokens.next()?;
     let line = match first.kind {

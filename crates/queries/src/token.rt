@@ -3,6 +3,7 @@ use crate::formula::Operator;
 use crate::key::Function;
 use crate::place::{COLUMNS, Place, ROWS};
 use std::num::IntErrorKind;
+use text_run::{Language, Words};
 use thiserror::Error;
 
 /// What is wrong with a line.
@@ -44,7 +45,7 @@ pub struct SyntaxError {
     /// What is wrong.
     pub problem: Problem,
     /// Where.
-    pub column: usize,
+    pub column: u64,
 }
 
 /// What a token is.
@@ -86,7 +87,7 @@ pub struct Token {
     /// What it is.
     pub kind: TokenKind,
     /// Where it begins.
-    pub column: usize,
+    pub column: u64,
 }
 
 impl Token {
@@ -97,28 +98,40 @@ impl Token {
     }
 }
 
+// What the words of a line are.
+struct Formulas;
+
+impl Language for Formulas {
+    const COMMENT: char = '#';
+
+    fn is_of_word(character: char) -> bool {
+        character.is_ascii_alphanumeric()
+    }
+
+    fn other_word(_text: &str) -> Option<usize> {
+        None
+    }
+}
+
 /// The tokens of a line, one at a time.
-#[derive(Drop)]
+#[derive(Clone, Copy)]
 pub struct Tokens<'a> {
-    line: &'a str,
-    rest: &'a str,
+    words: Words<'a>,
 }
 
 impl<'a> Tokens<'a> {
     /// All of a line.
     pub fn new(line: &'a str) -> Tokens<'a> {
-        Tokens { line, rest: line }
+        Tokens {
+            words: Words::new(line, text_run::Place::START),
+        }
     }
 
     /// The next token. Behind the last it is `End` for ever.
     pub fn next(&mut self) -> Result<Token, SyntaxError> {
-        let text = self.rest.trim_start_matches([' ', '\t']);
-        let column = self.line.len().saturating_sub(text.len()).saturating_add(1);
-        let (word, rest) = text
-            .split_at_checked(first_length(text))
-            .unwrap_or((text, ""));
+        let (word, place) = self.words.next::<Formulas>();
+        let column = place.column;
         let kind = token_kind(word).map_err(|problem| SyntaxError { problem, column })?;
-        self.rest = rest;
         Ok(Token { kind, column })
     }
 
@@ -130,15 +143,6 @@ impl<'a> Tokens<'a> {
         } else {
             Err(token.problem(problem))
         }
-    }
-}
-
-// The length of the first token of a text.
-fn first_length(text: &str) -> usize {
-    match text.find(|c: char| !c.is_ascii_alphanumeric()) {
-        Some(0) => 1,
-        Some(length) => length,
-        None => text.len(),
     }
 }
 

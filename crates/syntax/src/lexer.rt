@@ -1,70 +1,50 @@
 //! Tokens from text.
 use crate::fault::Fault;
 use crate::message::{Expected, Stop};
-use crate::token::{Place, PlacedToken, Token};
+use crate::token::{PlacedToken, Token};
 use ra_ap_intern::{Symbol, SymbolTable};
+use text_run::{Language, Place, Words};
+
+// What the words of the language are.
+struct Syntactic;
+
+impl Language for Syntactic {
+    const COMMENT: char = '#';
+
+    fn is_of_word(character: char) -> bool {
+        character.is_ascii_alphanumeric() || character == '_'
+    }
+
+    fn other_word(text: &str) -> Option<usize> {
+        text.starts_with("==").then_some(2)
+    }
+}
 
 /// Adds the tokens of a line of this number. `#` begins a comment. `Unexpected` when a word is no
 /// token, with those before it added.
 pub fn read_line(
     line: &str,
-    number: usize,
+    number: u64,
     names: &mut SymbolTable,
     tokens: &mut Vec<PlacedToken>,
 ) -> Result<(), Stop> {
-    let mut rest = line;
-    let mut place = Place {
+    let place = Place {
         line: number,
         column: 1,
     };
+    let mut words = Words::new(line, place);
     for _ in 0..line.len() {
-        let (word, behind) = first_word(rest);
-        if word.is_empty() || word == "#" {
+        let (word, place) = words.next::<Syntactic>();
+        if word.is_empty() {
             break;
         }
-        let (gap, behind) = parenthesis(word, behind);
-        if !word.starts_with(char::is_whitespace) {
-            let token = token_of(word, gap.is_some(), place, names)?;
-            tokens
-                .push(PlacedToken { token, place })
-                .map_err(Fault::from)?;
-        }
-        let length = word.chars().count().saturating_add(gap.unwrap_or(0));
-        place.column = place.column.saturating_add(length);
-        rest = behind;
+        let is_call = is_name(word) && words.passes::<Syntactic>("(");
+        let token = token_of(word, is_call, place, names)?;
+        tokens
+            .push(PlacedToken { token, place })
+            .map_err(Fault::from)?;
     }
     Ok(())
-}
-
-// The first word of a text, and what is behind it: the letters, digits and underlines that stand
-// together, `==`, or one other character. No word where the text is empty.
-fn first_word(text: &str) -> (&str, &str) {
-    let length = match text.chars().next() {
-        Some(first) if is_word(first) => text.find(|c: char| !is_word(c)).unwrap_or(text.len()),
-        Some('=') if text.starts_with("==") => 2,
-        Some(first) => first.len_utf8(),
-        None => 0,
-    };
-    text.split_at_checked(length).unwrap_or((text, ""))
-}
-
-fn is_word(c: char) -> bool {
-    c.is_ascii_alphanumeric() || c == '_'
-}
-
-// Behind a name, how many characters there are up to an open parenthesis, and what is behind it.
-// None, and the same text, where there is no such parenthesis.
-fn parenthesis<'a>(word: &str, behind: &'a str) -> (Option<usize>, &'a str) {
-    if !is_name(word) {
-        return (None, behind);
-    }
-    match behind.trim_start().strip_prefix('(') {
-        Some(after) => {
-            let gap = behind.chars().take_while(|c| c.is_whitespace()).count();
-            (Some(gap.saturating_add(1)), after)
-        }
-        None => (None, behind),
-    }
 }
 
 // Whether a word is a name.
@@ -73,7 +53,7 @@ fn is_name(word: &str) -> bool {
         && Token::spelled(word).is_none()
 }
 
-// The token of a word. An open parenthesis may belong to it.
+// The token of a word, of which an open parenthesis may be the end.
 fn token_of(
     word: &str,
     is_call: bool,

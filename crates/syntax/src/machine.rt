@@ -7,10 +7,11 @@ ghost use Rattle.syntax.specs.declared.machine.Form.TheVariants.{Infix as infix_
 
 use crate::fault::Fault;
 use crate::message::Expected;
-use crate::token::{Mark, Operator, Place, Token};
+use crate::token::{Mark, Operator, Token};
 use intern_terms::TermRef;
 use ra_ap_intern::SymbolRef;
 use std::alloc::Global;
+use text_run::Place;
 
 /// What an open form will be.
 #[derive(Clone, Copy, PartialEq, Eq)]
@@ -241,7 +242,7 @@ impl Machine {
     // The spot of what was read last.
     fn last_spot(&self) -> Spot {
         self.spots.last().copied().unwrap_or(Spot {
-            place: Place { line: 1, column: 1 },
+            place: Place::START,
             size: 0,
         })
     }

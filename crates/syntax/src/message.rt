@@ -3,9 +3,10 @@ ghost use Rattle.std.specs.Prelude.{◌≡◌};
 
 use crate::fault::Fault;
 use crate::machine::Form;
-use crate::token::{Place, Token};
+use crate::token::Token;
 use ra_ap_intern::SymbolTable;
 use std::alloc::AllocError;
+use text_run::Place;
 
 /// What could have stood in a token's place.
 #[derive(Clone, Copy, PartialEq, Eq)]

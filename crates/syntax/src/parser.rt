@@ -13,8 +13,9 @@ ghost use Rattle.syntax.specs.Printing.{AreItems, program_tokens};
 use crate::machine::{Machine, Spot};
 use crate::message::Stop;
 use crate::syntax::Syntax;
-use crate::token::{Place, PlacedToken};
+use crate::token::PlacedToken;
 use intern_terms::{TermRef, laws};
+use text_run::Place;
 
 /// A program: its items, and the spots of their parts.
 #[derive(Drop)]

@@ -6,8 +6,9 @@ use crate::message::{Expected, Stop, write_token};
 use crate::parser::Program;
 use crate::report::tell_changes;
 use crate::syntax::Syntax;
-use crate::token::{Place, Token};
+use crate::token::Token;
 use std::alloc::{AllocError, Global};
+use text_run::Place;
 
 /// What stands between two versions.
 const RULE: &str = "---";
@@ -32,11 +33,11 @@ pub fn answer_all(alloc: Global, text: &str) -> Result<String, Fault> {
         number: 0,
         out: String::new(alloc),
     };
-    let mut first: usize = 1;
+    let mut first: u64 = 1;
     let lines: Vec<&str> = text.lines().collect(alloc)?;
     for version in lines.split(|line| line.trim_end() == RULE) {
         session.tell(version, first)?;
-        first = first.saturating_add(version.len()).saturating_add(1);
+        first = first.saturating_add(version.len() as u64).saturating_add(1);
     }
     let Session { out, .. } = session;
     Ok(out)
@@ -45,7 +46,7 @@ pub fn answer_all(alloc: Global, text: &str) -> Result<String, Fault> {
 impl Session {
     // Tells the version of these lines, of which the first has this number. One with an error is
     // passed over, and the next is compared with the one before it.
-    fn tell(&mut self, lines: &[&str], first: usize) -> Result<(), Fault> {
+    fn tell(&mut self, lines: &[&str], first: u64) -> Result<(), Fault> {
         self.number = self.number.saturating_add(1);
         let stored = self.syntax.terms.len();
         match self.program(lines, first) {
@@ -62,7 +63,7 @@ impl Session {
     }
 
     // The program of these lines.
-    fn program(&mut self, lines: &[&str], first: usize) -> Result<Program, Stop> {
+    fn program(&mut self, lines: &[&str], first: u64) -> Result<Program, Stop> {
         let mut tokens = Vec::new(self.syntax.alloc);
         let mut line = first;
         for text in lines {

@@ -4,21 +4,7 @@ ghost use Rattle.ra_ap_intern.specs.Symbols.{symbol_name};
 ghost use Rattle.syntax.specs.Lexeme.{atom_of, operator_head, operator_of, precedence as precedence_of};
 
 use ra_ap_intern::{Symbol, SymbolRef, laws, sym};
-use std::fmt;
-
-/// Where something stands in the input: a line, and a character in it, both from 1 on.
-#[derive(Clone, Copy, PartialEq, Eq, Debug)]
-pub struct Place {
-    pub line: usize,
-    pub column: usize,
-}
-
-impl fmt::Display for Place {
-    fn fmt<W: fmt::Write>(&self, f: &mut fmt::Formatter<W>) -> fmt::Result {
-        let Place { line, column } = self;
-        write!(f, "{line}:{column}")
-    }
-}
+use text_run::Place;
 
 /// An infix operator. `a + b` is another way to write the call `add(a, b)`, and so on.
 #[derive(Clone, Copy, PartialEq, Eq, Debug)]

@@ -1,12 +1,17 @@
 //! Programs that read a text, and write the answers to it.
 #![tactic(auto)]
 
+mod place;
+mod words;
+
+pub use place::Place;
 use std::alloc::{AllocError, Global};
 use std::fmt::Display;
 use std::io;
 use std::io::{ErrorKind, Read, Write};
 use std::process::ExitCode;
 use thiserror::Error;
+pub use words::{Language, Words};
 
 /// A program that answers a text.
 pub trait Program {

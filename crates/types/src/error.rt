@@ -3,10 +3,10 @@ ghost use Rattle.std.specs.Prelude.{◌≡◌};
 ghost use Rattle.std.specs.declared.alloc.AllocError.{AllocError as NoMemory};
 ghost use Rattle.types.specs.declared.error.TypeError.TheVariants.{OutOfMemory as out_of_memory};
 
-use crate::token::Place;
 use crate::value::TypeRef;
 use ra_ap_intern::{Refusal, SymbolRef};
 use std::alloc::{AllocError, AllocFailed};
+use text_run::Place;
 use thiserror::Error;
 
 /// Why a declaration has no type.

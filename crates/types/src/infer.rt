@@ -9,12 +9,13 @@ use crate::environment::Environment;
 use crate::error::{Failure, TypeError};
 use crate::scope::{Scheme, Scope};
 use crate::step::{Action, Binding, Step};
-use crate::token::{Operator, Place};
+use crate::token::Operator;
 use crate::unify::unify;
 use crate::unknowns::Unknowns;
 use crate::value::{TypeNode, TypeRef};
 use ra_ap_intern::SymbolRef;
 use std::alloc::Global;
+use text_run::Place;
 
 /// Infers the types of declarations in an environment.
 #[derive(Drop)]

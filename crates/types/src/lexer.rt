@@ -1,54 +1,46 @@
 //! Takes a text apart into tokens.
 use crate::fault::Fault;
-use crate::token::{Lexeme, Operator, Place, Token};
+use crate::token::{Lexeme, Operator, Token};
 use ra_ap_intern::{Refusal, Symbol, SymbolRef, SymbolTable};
 use std::alloc::Global;
+use text_run::{Language, Place, Words};
+
+// What the words of the language are.
+struct Functional;
+
+impl Language for Functional {
+    const COMMENT: char = '#';
+
+    fn is_of_word(character: char) -> bool {
+        character.is_alphanumeric() || character == '_' || character == '\''
+    }
+
+    fn other_word(text: &str) -> Option<usize> {
+        (text.starts_with("->") || text.starts_with("==")).then_some(2)
+    }
+}
 
 /// The tokens of a text, with `End` after the last. `OutOfMemory` when there is none.
 ///
 /// Each name becomes a symbol of the table, and keeps one count in it.
 pub fn tokens(alloc: Global, names: &mut SymbolTable, text: &str) -> Result<Vec<Lexeme>, Fault> {
     let mut lexemes = Vec::new(alloc);
-    let mut place = Place::START;
-    let mut rest = text;
-    for _ in 0..text.len() {
-        let (piece, behind) = first_piece(rest);
-        if let Some(token) = token_of(names, piece)? {
-            lexemes.push(Lexeme { token, place })?;
-        }
-        place = place.behind(piece);
-        rest = behind;
-        if rest.is_empty() {
+    let mut words = Words::new(text, Place::START);
+    for _ in 0..u64::MAX {
+        let (word, place) = words.next::<Functional>();
+        let token = token_of(names, word)?;
+        lexemes.push(Lexeme { token, place })?;
+        if word.is_empty() {
             break;
         }
     }
-    let token = Token::End;
-    lexemes.push(Lexeme { token, place })?;
     Ok(lexemes)
 }
 
-// The first piece of a text, and what is behind it: a word, a comment, a sign or a space.
-fn first_piece(text: &str) -> (&str, &str) {
-    let length = match text.chars().next() {
-        Some('#') => text.find('\n'),
-        Some(first) if is_letter(first) => text.find(|c: char| !is_letter(c)),
-        Some(_) if text.starts_with("->") || text.starts_with("==") => Some(2),
-        Some(first) => Some(first.len_utf8()),
-        None => None,
-    };
-    length
-        .and_then(|length| text.split_at_checked(length))
-        .unwrap_or((text, ""))
-}
-
-// Whether a character belongs to a word.
-fn is_letter(character: char) -> bool {
-    character.is_alphanumeric() || character == '_' || character == '\''
-}
-
-// The token that a piece is. None of a space or a comment.
-fn token_of(names: &mut SymbolTable, piece: &str) -> Result<Option<Token>, Refusal> {
-    let token = match piece {
+// The token that a word is.
+fn token_of(names: &mut SymbolTable, word: &str) -> Result<Token, Refusal> {
+    Ok(match word {
+        "" => Token::End,
         "let" => Token::Let,
         "rec" => Token::Rec,
         "in" => Token::In,
@@ -68,24 +60,18 @@ fn token_of(names: &mut SymbolTable, piece: &str) -> Result<Option<Token>, Refus
         "-" => Token::Operator(Operator::Subtract),
         "*" => Token::Operator(Operator::Multiply),
         "<" => Token::Operator(Operator::Less),
-        _ => return other_token(names, piece),
-    };
-    Ok(Some(token))
+        _ => other_token(names, word)?,
+    })
 }
 
-// The token of a piece that is no keyword and no sign.
-fn other_token(names: &mut SymbolTable, piece: &str) -> Result<Option<Token>, Refusal> {
-    let Some(first) = piece.chars().next() else {
-        return Ok(None);
-    };
-    Ok(if first == '#' || first.is_whitespace() {
-        None
-    } else if first.is_alphabetic() || first == '_' {
-        Some(Token::Name(symbol_of(names, piece)?))
-    } else if piece.bytes().all(|byte| byte.is_ascii_digit()) {
-        Some(Token::Integer)
+// The token of a word that is no keyword and no sign.
+fn other_token(names: &mut SymbolTable, word: &str) -> Result<Token, Refusal> {
+    Ok(if word.starts_with(|c: char| c.is_alphabetic() || c == '_') {
+        Token::Name(symbol_of(names, word)?)
+    } else if word.bytes().all(|byte| byte.is_ascii_digit()) {
+        Token::Integer
     } else {
-        Some(Token::Bad)
+        Token::Bad
     })
 }
 

@@ -2,9 +2,10 @@
 ghost use Rattle.std.specs.Prelude.{◌≡◌};
 
 use crate::step::{Action, Binding, Step};
-use crate::token::{Lexeme, Operator, Place, Token};
+use crate::token::{Lexeme, Operator, Token};
 use ra_ap_intern::SymbolRef;
 use std::alloc::{AllocError, Global};
+use text_run::Place;
 use thiserror::Error;
 
 /// A declaration: a name, and the steps of what is bound to it.

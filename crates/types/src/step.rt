@@ -1,6 +1,7 @@
 //! Expressions as steps: operands before what takes them.
-use crate::token::{Operator, Place};
+use crate::token::Operator;
 use ra_ap_intern::SymbolRef;
+use text_run::Place;
 
 /// What a step does to the operands before it.
 #[derive(Clone, Copy)]

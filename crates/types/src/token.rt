@@ -1,39 +1,6 @@
 //! Tokens, and where they stand.
 use ra_ap_intern::SymbolRef;
-use std::fmt;
-
-/// A line and a column, both counted from 1, the column in characters.
-#[derive(Clone, Copy, PartialEq, Eq, Debug)]
-pub struct Place {
-    pub line: u64,
-    pub column: u64,
-}
-
-impl Place {
-    /// The place of the first character.
-    pub const START: Place = Place { line: 1, column: 1 };
-
-    /// The place behind a text that begins here.
-    pub fn behind(self, text: &str) -> Place {
-        let mut place = self;
-        for character in text.chars() {
-            if character == '\n' {
-                place.line = place.line.saturating_add(1);
-                place.column = 1;
-            } else {
-                place.column = place.column.saturating_add(1);
-            }
-        }
-        place
-    }
-}
-
-impl fmt::Display for Place {
-    fn fmt<W: fmt::Write>(&self, f: &mut fmt::Formatter<W>) -> fmt::Result {
-        let Place { line, column } = self;
-        write!(f, "{line}:{column}")
-    }
-}
+use text_run::Place;
 
 /// An operator between two operands.
 #[derive(Clone, Copy)]

@@ -53,6 +53,3 @@ pub fn intern<B: BuildHasher>(
     let (handle, _) = Interned::new(texts, text)?;
     Ok(handle)
 }
-
-#[cfg(test)]
-mod tests;

@@ -62,6 +62,3 @@ pub fn find<'a, T: Internable>(storage: &'a InternStorage<T>, value: &T) -> Opti
 {
     storage.get(value)?.get(storage)
 }
-
-#[cfg(test)]
-mod tests;

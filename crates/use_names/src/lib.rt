@@ -66,6 +66,3 @@ impl<V: Drop> Scope<V> {
         self.values.get(&self.names.get(name)?)
     }
 }
-
-#[cfg(test)]
-mod tests;

@@ -96,6 +96,3 @@ pub fn handles_tell_expressions(exprs: &InternStorage<Expr>)
     expressions_are_their_parts();
     laws::references_are_names::<Expr>();
 }
-
-#[cfg(test)]
-mod tests;

@@ -86,6 +86,3 @@ impl Scope {
         Ok(())
     }
 }
-
-#[cfg(test)]
-mod tests;

@@ -92,6 +92,3 @@ pub fn handle_of_some(
     }
     Ok(handle_of(words, word)?)
 }
-
-#[cfg(test)]
-mod tests;

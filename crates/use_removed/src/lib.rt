@@ -82,6 +82,3 @@ impl Nodes {
         }
     }
 }
-
-#[cfg(test)]
-mod tests;

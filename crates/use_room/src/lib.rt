@@ -96,6 +96,3 @@ where
     let (second, _) = room.intern(second.0, second.1)?;
     Ok((first, second))
 }
-
-#[cfg(test)]
-mod tests;

@@ -91,6 +91,3 @@ impl Program {
         GarbageCollector::new(alloc).collect_keeping(&mut self.code, &roots)
     }
 }
-
-#[cfg(test)]
-mod tests;

@@ -49,6 +49,3 @@ pub fn simplify(terms: &TermStore, plus: &Symbol, zero: TermRef, term: TermRef) 
     let _number = terms.number();
     added_to_zero(terms, plus, zero, term).unwrap_or(term)
 }
-
-#[cfg(test)]
-mod tests;

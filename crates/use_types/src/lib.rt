@@ -3,8 +3,6 @@
 
 pub mod laws;
 mod store;
-#[cfg(test)]
-mod tests;
 mod value;
 
 pub use store::Types;

@@ -85,6 +85,3 @@ impl GcInternedSliceVisit for Uses {
         gc.mark_all(slice);
     }
 }
-
-#[cfg(test)]
-mod tests;

@@ -96,6 +96,3 @@ impl Words {
         laws::names_tell_values::<Text>();
     }
 }
-
-#[cfg(test)]
-mod tests;

@@ -195,14 +195,25 @@ fn is_as_told<T: Numeral>(rt: &impl Abort, storage: &mut InternStorage<T>, ledge
     requires { T.Internable.USE_GC ≡ false }
 {
     for birth in ledger {
-        match birth.number {
-            Some(number) => is_there(rt, storage, birth.reference, number),
-            None => is_gone(rt, storage, birth.reference),
-        }
+        is_as_noted(rt, storage, *birth);
     }
-    let there = ledger.iter().filter(|birth| birth.number.is_some()).count();
-    has_len(rt, storage, there);
+    has_len(rt, storage, live(ledger));
     not_found(rt, storage, ledger.len() as u64);
+}
+
+/// How many births have entries.
+fn live<T>(ledger: &Ledger<T>) -> usize {
+    ledger.iter().filter(|birth| birth.number.is_some()).count()
+}
+
+/// The entry of a birth is there, or is gone, as is noted.
+fn is_as_noted<T: Numeral>(rt: &impl Abort, storage: &mut InternStorage<T>, birth: Birth<T>)
+    requires { T.Internable.USE_GC ≡ false }
+{
+    match birth.number {
+        Some(number) => is_there(rt, storage, birth.reference, number),
+        None => is_gone(rt, storage, birth.reference),
+    }
 }
 
 /// The reference reads this number, and has the count of its birth. Its birth leads to the same

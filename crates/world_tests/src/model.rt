@@ -27,7 +27,7 @@ struct Entry {
 
 /// What a slot holds: an owned handle or a reference of a birth, or the preset of a key. The symbol
 /// of a text that is no preset is an owned handle.
-#[derive(Clone, Copy)]
+#[derive(Clone, Copy, PartialEq)]
 enum Held {
     Nothing,
     Owned(Which, u64),
@@ -49,6 +49,18 @@ pub struct Model {
     slices: Part,
     texts: Part,
     slots: Vec<Held>,
+}
+
+impl Held {
+    /// The part of what is held, and whether it is owned.
+    fn sort(self) -> Option<(Which, bool)> {
+        match self {
+            Held::Nothing => None,
+            Held::Owned(which, _) => Some((which, true)),
+            Held::Reference(which, _) => Some((which, false)),
+            Held::Preset(_) => Some((Which::Symbols, true)),
+        }
+    }
 }
 
 impl Part {
@@ -270,19 +282,11 @@ impl Model {
     }
 
     pub fn same(&self, n: usize, m: usize) -> KeyRow {
-        let is_same = match (self.held(n), self.held(m)) {
-            (Held::Owned(a, birth), Held::Owned(b, other)) if a == b => Some(birth == other),
-            (Held::Reference(a, birth), Held::Reference(b, other)) if a == b => {
-                Some(birth == other)
-            }
-            (Held::Preset(key), Held::Preset(other)) => Some(key == other),
-            (Held::Owned(Which::Symbols, _), Held::Preset(_))
-            | (Held::Preset(_), Held::Owned(Which::Symbols, _)) => Some(false),
-            _ => None,
-        };
-        let tell = match is_same {
-            Some(is_same) => Tell::Truth(is_same),
-            None => Tell::WrongSlot,
+        let (one, other) = (self.held(n), self.held(m));
+        let tell = if one.sort().is_some() && one.sort() == other.sort() {
+            Tell::Truth(one == other)
+        } else {
+            Tell::WrongSlot
         };
         (Ask::Same(n, m), tell)
     }
@@ -336,11 +340,7 @@ impl Model {
 
     /// The part of what a slot holds.
     fn part_of(&self, slot: usize) -> Option<Which> {
-        match self.held(slot) {
-            Held::Owned(which, _) | Held::Reference(which, _) => Some(which),
-            Held::Preset(_) => Some(Which::Symbols),
-            Held::Nothing => None,
-        }
+        self.held(slot).sort().map(|(which, _)| which)
     }
 
     /// The key that a slot reads.

@@ -98,8 +98,8 @@ pub fn reply_to<G: Internable + GcInternedVisit + Drop>(
 ) -> Reply<Word, G, String> {
     let mut calls = Vec::new(alloc);
     push(rt, &mut calls, call);
-    let told = run(world, calls).ok().expect(rt, "memory");
-    told.into_iter().next().expect(rt, "a reply")
+    let mut told = run(world, calls).ok().expect(rt, "memory");
+    told.pop().expect(rt, "a reply")
 }
 
 /// The reply is this one.

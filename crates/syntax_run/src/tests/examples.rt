@@ -5,7 +5,7 @@ use syntax::lexer::read_line;
 use syntax::parser::Program;
 use syntax::session::answer_all;
 use syntax::syntax::Syntax;
-use syntax::token::Place;
+use text_run::Place;
 
 const MOST: usize = 1 << 40;
 

@@ -1,8 +1,8 @@
 //! One storage of numbers.
 ghost use Rattle.std.specs.Prelude.{true};
 
-use crate::{find, find_or_intern, find_or_intern_all};
 use ra_ap_intern::{InternStorage, Internable};
+use use_lookups::{find, find_or_intern, find_or_intern_all};
 
 /// A number that is collected.
 #[derive(Debug, Drop, PartialEq, Eq, Hash)]

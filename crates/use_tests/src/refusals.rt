@@ -1,8 +1,8 @@
 //! What callers read of refusals.
-use crate::{Token, handle_of, handle_of_some, handle_of_token};
 use ra_ap_intern::{InternStorage, Limits, Text};
 use std::alloc::Global;
 use std::process::Abort;
+use use_refusals::{Token, handle_of, handle_of_some, handle_of_token};
 
 fn word(rt: &impl Abort, alloc: Global, text: &str) -> Text {
     Text::new(alloc, text).expect(rt, "memory")

@@ -1,10 +1,10 @@
 //! What two roots keep.
 ghost use Rattle.std.specs.Prelude.{◌≡◌, true};
 
-use crate::{Class, Method, Program};
 use ra_ap_intern::{GarbageCollector, InternStorage, Internable, Interned, InternedRef, Text};
 use std::alloc::Global;
 use std::process::Abort;
+use use_roots::{Class, Method, Program};
 
 fn store<T: Internable + Drop>(
     rt: &impl Abort,

@@ -1,7 +1,6 @@
 //! Values that are chosen against a seed that is known, and storages and tables of keyed hashers.
 ghost use Rattle.std.specs.Prelude.{◌≡◌, true, false, []};
 
-use crate::{Names, intern, new_names, new_texts};
 use ra_ap_intern::{
     FixedState, GarbageCollector, GcInternedSliceVisit, GcInternedVisit, InternSliceStorage,
     InternStorage, Internable, Interned, InternedSlice, Limits, NoStorages, SliceInternable,
@@ -12,6 +11,7 @@ use std::collections::HashSet;
 use std::hash::{BuildHasher, RandomState};
 use std::process::Abort;
 use std::test::Fail;
+use use_hashers::{Names, intern, new_names, new_texts};
 
 /// How many values are chosen.
 const COUNT: u64 = 1_000;

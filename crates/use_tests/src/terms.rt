@@ -1,8 +1,8 @@
 //! Sums of zero, and others.
-use crate::simplify;
 use intern_terms::{TermRef, TermStore};
 use ra_ap_intern::{Symbol, SymbolTable};
 use std::process::Abort;
+use use_terms::simplify;
 
 fn term(
     rt: &impl Abort,

@@ -1,9 +1,8 @@
 //! Worked examples.
-use crate::store::Types;
-use crate::value::TypeRef;
 use ra_ap_intern::{SymbolRef, SymbolTable};
 use std::alloc::Global;
 use std::process::Abort;
+use use_types::{TypeRef, Types};
 
 // A store in which the types of two names were made.
 fn scene(rt: &impl Abort, alloc: Global) -> (Types, TypeRef, TypeRef) {

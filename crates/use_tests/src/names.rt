@@ -1,6 +1,6 @@
 //! A scope of numbers.
-use crate::Scope;
 use ra_ap_intern::Refusal;
+use use_names::Scope;
 
 #[test]
 fn the_last_declaration_is_found(rt: HostRuntime) -> Result<(), Refusal> {

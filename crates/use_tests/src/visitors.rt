@@ -1,10 +1,10 @@
 //! What the collection of a family keeps.
-use crate::{Signature, TypeNode, Uses};
 use ra_ap_intern::{
     GarbageCollector, InternSliceStorage, InternStorage, Interned, InternedRef, InternedSlice,
     NoStorages,
 };
 use std::process::Abort;
+use use_visitors::{Signature, TypeNode, Uses};
 
 fn stored(
     rt: &impl Abort,

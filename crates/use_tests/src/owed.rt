@@ -1,6 +1,6 @@
 //! A scope comes back from another storage, and leaves nothing in its own.
-use super::Scope;
 use ra_ap_intern::{InternStorage, Limits, Refusal, Refused, Text};
+use use_owed::Scope;
 
 #[test]
 fn a_closed_scope_leaves_nothing(rt: HostRuntime) {

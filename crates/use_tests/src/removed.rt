@@ -1,7 +1,7 @@
 //! Names go with the nodes that had them.
-use crate::{Node, Nodes};
 use ra_ap_intern::{InternStorage, Interned, InternedRef, Refusal, Symbol, SymbolTable};
 use std::alloc::Global;
+use use_removed::{Node, Nodes};
 
 // A node of a new name, which counts it.
 fn node(

@@ -1,8 +1,8 @@
 //! A word is stored once.
-use crate::Words;
 use ra_ap_intern::{Interned, Text};
 use std::alloc::Global;
 use std::process::Abort;
+use use_words::Words;
 
 fn intern(rt: &impl Abort, alloc: Global, words: &mut Words, word: &str) -> Interned<Text> {
     let word = Text::new(alloc, word).expect(rt, "memory");

@@ -1,6 +1,6 @@
 //! An expression is stored once.
-use crate::{add, number, parts};
 use ra_ap_intern::{InternStorage, Refusal};
+use use_nodes::{add, number, parts};
 
 #[test]
 fn equal_expressions_have_one_handle(rt: HostRuntime) -> Result<(), Refusal> {

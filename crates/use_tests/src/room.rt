@@ -1,11 +1,11 @@
 //! Two values, and two lists, in one call each.
 ghost use Rattle.std.specs.Prelude.{true};
 
-use crate::{intern_next, intern_two, intern_two_lists};
 use ra_ap_intern::{
     InternSliceStorage, InternStorage, Internable, InternedRef, InternedSliceRef, SliceInternable,
 };
 use std::process::Abort;
+use use_room::{intern_next, intern_two, intern_two_lists};
 
 /// A number that is collected.
 #[derive(Debug, Drop, PartialEq, Eq, Hash)]

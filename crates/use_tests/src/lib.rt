@@ -1,0 +1,29 @@
+//! Tests of the uses: what each does with values of its own.
+#![tactic(auto)]
+
+#[cfg(test)]
+mod hashers;
+#[cfg(test)]
+mod lookups;
+#[cfg(test)]
+mod names;
+#[cfg(test)]
+mod nodes;
+#[cfg(test)]
+mod owed;
+#[cfg(test)]
+mod refusals;
+#[cfg(test)]
+mod removed;
+#[cfg(test)]
+mod room;
+#[cfg(test)]
+mod roots;
+#[cfg(test)]
+mod terms;
+#[cfg(test)]
+mod types;
+#[cfg(test)]
+mod visitors;
+#[cfg(test)]
+mod words;
