@@ -5,7 +5,7 @@ use ra_ap_intern::{
     GarbageCollector, GcInternedVisit, InternStorage, Internable, Interned, InternedRef, NoStorages,
 };
 use std::alloc::Global;
-use std::test::Fail;
+use std::process::Abort;
 
 /// A type of some language: its tag, and the types that it is made of.
 #[derive(Drop, PartialEq, Eq, Hash)]
@@ -36,40 +36,32 @@ impl GcInternedVisit for Type {
 }
 
 fn store(
+    rt: &impl Abort,
     alloc: Global,
     types: &mut InternStorage<Type>,
     tag: u32,
     parts: &[InternedRef<Type>],
-) -> Result<InternedRef<Type>, Fail> {
-    let parts = parts.to_vec(alloc)?;
-    let (reference, _) = Interned::new_gc(types, Type { tag, parts }).map_err(|r| r.why)?;
-    Ok(reference)
-}
-
-/// Stores a number, a list of numbers, and a text.
-fn store_three(
-    alloc: Global,
-    types: &mut InternStorage<Type>,
-) -> Result<[InternedRef<Type>; 3], Fail> {
-    let number = store(alloc, types, 0, &[])?;
-    let list = store(alloc, types, 1, &[number])?;
-    let text = store(alloc, types, 2, &[])?;
-    Ok([number, list, text])
+) -> InternedRef<Type> {
+    let parts = parts.to_vec(alloc).expect(rt, "memory");
+    let (reference, _) = Interned::new_gc(types, Type { tag, parts }).expect(rt, "interned");
+    reference
 }
 
 #[test]
-fn a_collection_keeps_what_is_declared(rt: HostRuntime) -> Result<(), Fail> {
+fn a_collection_keeps_what_is_declared(rt: HostRuntime) {
     let alloc = rt.alloc();
     let mut types = InternStorage::new(alloc, 1);
-    let [number, list, text] = store_three(alloc, &mut types)?;
-    let owned = list.to_owned(&mut types)?;
+    let number = store(&rt, alloc, &mut types, 0, &[]);
+    let list = store(&rt, alloc, &mut types, 1, &[number]);
+    let text = store(&rt, alloc, &mut types, 2, &[]);
+    let owned = list.to_owned(&mut types).expect(&rt, "counted");
 
     // The list is owned, and declares the number. Nothing leads to the text.
     let mut family = GarbageCollector::add_storage(NoStorages, types);
-    let told = GarbageCollector::new(alloc).collect(&mut family)?;
+    let told = GarbageCollector::new(alloc).collect(&mut family);
+    let told = told.expect(&rt, "memory");
     assert_eq!(rt; (told.visits, told.mark_calls, told.removed), (2, 1, 1));
     assert!(rt; owned.get(&family.second).is_some());
     assert!(rt; number.get(&family.second).is_some());
     assert!(rt; text.get(&family.second).is_none());
-    Ok(())
 }

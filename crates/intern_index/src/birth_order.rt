@@ -201,7 +201,7 @@ impl Births for BirthOrder {
         additional: usize,
     ) -> Result<(), AllocError> {
         match self.row {
-            Some(_) => self.places.reserve(slots.capacity()),
+            Some(_) => self.places.reserve(slots.len().saturating_add(additional)),
             None => self.places.reserve(additional),
         }
     }

@@ -1,5 +1,5 @@
 //! How a name is found: by its place, by its birth, by its hash, or by a look at all slots.
-ghost use Rattle.std.specs.Prelude.{◌≡◌, ℕ, ◌+◌, ◌<◌, ◌≤◌, ◌^◌, true, Some, None, IfSome, IfNone, IsTrue};
+ghost use Rattle.std.specs.Prelude.{◌≡◌, ℕ, ◌+◌, ◌<◌, ◌≤◌, ◌^◌, true, false, Some, None, IfSome, IfNone, IsTrue};
 ghost use Rattle.intern_store.specs.Named.{key_name};
 ghost use Rattle.intern_store.specs.declared.names.Name.{Name as EntryName};
 ghost use Rattle.intern_buckets.specs.Filling.{HasRoom};
@@ -122,7 +122,9 @@ fn fill_buckets(slots: &Slots, buckets: &mut Buckets) -> bool
 /// Fills a table where it has the room for that, unless births are in row. It takes no memory.
 pub(crate) fn fill(slots: &Slots, table: &mut Table)
     requires { slot_count slots.now < 2 ^ 48 }
-    ensures { IsLed slots.now table.new }
+    ensures led { IsLed slots.now table.new }
+    ensures filled { slots.now.in_row ≡ false → HasRoom table.new.buckets →
+        table.new.is_filled ≡ true }
 {
     table.is_filled = !slots.in_row && fill_buckets(slots, &mut table.buckets);
 }

@@ -98,7 +98,7 @@ impl Marks {
     }
 
     /// Adds an entry, whose name isn't registered, with its flags. It is the next that is marked, if
-    /// the flags say so. Where there is no memory, or 2^48 slots are taken, `AllocError`, and nothing
+    /// the flags say so. Where there is no memory, or no slot is left, `AllocError`, and nothing
     /// has changed.
     ///
     /// The entry's slot is that of its place. Slots before it that no entry takes stay vacant, and

@@ -1,6 +1,6 @@
 //! Births and flags in slots, storage after storage.
 ghost use Rattle.std.specs.Prelude.{◌≡◌, ◌+◌, ◌-◌, ◌^◌, ◌<◌, ◌≤◌, ◌==◌, ℕ, length, set, replicate, ◌++◌, [], ◌∷◌};
-ghost use Rattle.std.specs.Prelude.{true, false, Some, None, IsSome, IfOk, OnOk, if◌then◌else◌, slice_index_or, vec_len, vec_capacity};
+ghost use Rattle.std.specs.Prelude.{true, false, Some, None, IsSome, IfOk, OnOk, if◌then◌else◌, slice_index_or, vec_len, vec_capacity, max, min};
 ghost use Rattle.intern_store.specs.Named.{key_name};
 ghost use Rattle.intern_store.specs.declared.names.Name.{Name as EntryName};
 ghost use Rattle.intern_marks.specs.Parts.{Follow, last_part, row_at};
@@ -68,6 +68,7 @@ impl Slots {
     pub(crate) fn new(alloc: Global) -> Slots
         ensures count { slot_count result ≡ 0 }
         ensures parts { result.parts.items ≡ [] }
+        ensures row { result.in_row ≡ true }
     {
         Slots {
             alloc,
@@ -82,6 +83,8 @@ impl Slots {
     pub(crate) fn with_room(alloc: Global, slots: usize) -> Result<Slots, AllocError>
         ensures count { IfOk result (λ s. slot_count s ≡ 0) }
         ensures parts { IfOk result (λ s. s.parts.items ≡ []) }
+        ensures row { IfOk result (λ s. s.in_row ≡ true) }
+        ensures room { IfOk result (λ s. slots ≤ vec_capacity s.flags) }
     {
         Ok(Slots {
             alloc,
@@ -184,7 +187,7 @@ impl Slots {
 
     // The vacant slot for an entry of the last part: that of its place, or else the next.
     fn vacant(&self, part: Part, place: usize) -> usize
-        ensures { slot_count self.now ≤ result }
+        ensures { result ≡ max (min (part.start + place) usize.MAX) (slot_count self.now) }
     {
         part.start.saturating_add(place).max(self.len())
     }
@@ -223,7 +226,7 @@ impl Slots {
 
     /// Makes room for an entry, and says which slot is to be its: that of its place, or else the
     /// next. Where its birth isn't in row, births are listed from now on. Where there is no memory, or
-    /// 2^48 slots are taken, nothing has changed.
+    /// no slot below 2^48 - 1 is left, nothing has changed.
     pub(crate) fn make_room(&mut self, key: EntryKey) -> Result<usize, AllocError>
         ensures same { (i : ℕ) → registered_at self.new i ≡ registered_at self.old i }
         ensures count { slot_count self.new ≡ slot_count self.old }

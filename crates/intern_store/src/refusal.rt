@@ -6,7 +6,8 @@ use std::error::Error as StdError;
 use std::fmt;
 use thiserror::Error;
 
-/// Why a call was refused. A refused call leaves the storage as it was.
+/// Why a call was refused. A refused call leaves the storage as it was, but for that of many values,
+/// which keeps what it stored before.
 ///
 /// The reasons are looked for in this order, and a call answers the first that holds.
 #[derive(Clone, Copy, Debug, PartialEq, Eq, Error)]
@@ -27,7 +28,7 @@ pub enum Refusal {
     #[error("the storage has given all its births; begin another one")]
     NumbersUsedUp,
     /// A growth that the call needs was refused.
-    #[error("out of memory; the storage is as it was")]
+    #[error("out of memory; try again once some is free")]
     OutOfMemory,
 }
 

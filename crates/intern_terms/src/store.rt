@@ -28,7 +28,7 @@ use std::marker::Model;
 /// A store of terms. Each is kept once: a head over the same arguments is the same term. Terms are
 /// hashed by a hasher that `B` builds.
 ///
-/// Only a term that isn't stored, and a collection, take memory.
+/// Only a term that isn't stored, a collection, `walk` and `written` take memory.
 #[derive(Drop)]
 pub struct TermStore<B: BuildHasher = FixedState> {
     alloc: Global,
@@ -182,7 +182,8 @@ impl<B: BuildHasher> TermStore<B> {
         self.terms.count(term.reference)
     }
 
-    /// The terms, in no promised order. It takes no memory.
+    /// The terms, in no promised order. It takes no memory, and goes over as many places as there were
+    /// terms at one time.
     pub fn iter(&self) -> TermIter<'_>
         ensures { IsPermutation result (names_in self.now) }
     {
@@ -221,8 +222,9 @@ impl<B: BuildHasher> TermStore<B> {
         Ok(Term { owned })
     }
 
-    /// Removes every term that is in no tree of a term that is kept. No birth is given again. Where
-    /// there is no memory, `AllocError`, and the store is as it was.
+    /// Removes every term that is in no tree of a term that is kept. No birth is given again. The head
+    /// of a term that goes keeps its count in its table. Where there is no memory, `AllocError`, and
+    /// the store is as it was.
     pub fn collect(&mut self) -> Result<Collected, AllocError>
         ensures ok { IfOk result (λ told. (names : List TermName)
             × IsCollection (starts (terms_of self.old)) (terms_of self.old) names told

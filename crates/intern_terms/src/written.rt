@@ -20,10 +20,10 @@ impl<B: BuildHasher> TermStore<B> {
     /// A head that the table can't read, and a term of another store or one that is gone, is shown
     /// by its name: `#3.5` is birth 5 of the storage of number 3. Where there is no memory,
     /// `AllocError`. It never recurses.
-    pub fn written(
+    pub fn written<N: BuildHasher>(
         &self,
         term: TermRef,
-        table: &SymbolTable,
+        table: &SymbolTable<N>,
         most: usize,
     ) -> Result<String, AllocError> {
         let mut text = String::new(self.alloc());
@@ -45,10 +45,10 @@ impl<B: BuildHasher> TermStore<B> {
     }
 
     // Writes a term's head, or the name of what can't be read.
-    fn write_head(
+    fn write_head<N: BuildHasher>(
         &self,
         term: TermRef,
-        table: &SymbolTable,
+        table: &SymbolTable<N>,
         text: &mut String,
     ) -> Result<(), AllocError> {
         let Some(head) = self.head(term) else {

@@ -27,7 +27,7 @@ module _ {V : Type 0} where
       pub state : new ≡ fold after old values
       pub named : names ≡ listed ++ names_in_turn after eq old values
 
-  -- a value is refused as interning it alone is, or since the list is full and there is no memory for it
+  -- a value is refused as interning it alone is, or for want of memory for the list, where this holds
   abbrev pub IsOwed : (V → V → Bool) → State V → (ℕ → Option Refusal) → Type 0 → Refused V → Type 0
-  IsOwed eq s by_count is_full r = IsWhy (due_interning eq s r.back by_count) (is_new eq s r.back) r.why
-      ⊎ ((r.why ≡ OutOfMemory) × is_full)
+  IsOwed eq s by_count holds r = IsWhy (due_interning eq s r.back by_count) (is_new eq s r.back) r.why
+      ⊎ ((r.why ≡ OutOfMemory) × holds)

@@ -2,13 +2,17 @@
 use Rattle.std.specs.Prelude.{◌≡◌, ℕ, ◌<◌, ◌==◌, Bool, false, ◌&&◌, List, Option, Some, None, is_none, map as list_map, ◌-◌, ◌^◌, if◌then◌else◌}
 use Rattle.std.specs.FinMap as map
 use Rattle.std.specs.Option.{option_eq, option_map}
+use Rattle.std.specs.Ordering.{nat_cmp}
 use Rattle.std.specs.Str.{bytes_eq}
+use Rattle.std.specs.declared.cmp.Ordering.{Ordering}
+use Rattle.std.specs.declared.cmp.Ordering.TheVariants.{Less, Greater}
 use Rattle.intern_presets.specs.Presets.{preset_text, place_of}
 use Rattle.intern_store.specs.Kept.{Kept}
 use Rattle.intern_store.specs.Named.{key_name, same_name}
 use Rattle.intern_store.specs.State.{State, entry_at, name_in, name_of_value, reads, counts, is_new, interned_name, interned_counted, due, due_interning, full}
 use Rattle.intern_store.specs.declared.names.Name.{Name}
 use Rattle.intern_store.specs.declared.refusal.Refusal.{Refusal}
+use Rattle.ra_ap_intern.specs.Handle.{name_cmp}
 use Rattle.ra_ap_intern.specs.declared.symbol.Symbol.{Symbol}
 use Rattle.ra_ap_intern.specs.declared.symbol.SymbolRef.{SymbolRef}
 use Rattle.ra_ap_intern.specs.declared.symbol.packed.Packed.{Packed}
@@ -31,6 +35,13 @@ same_named (preset p) (preset q) = p == q
 same_named (preset p) (entry m) = false
 same_named (entry n) (preset q) = false
 same_named (entry n) (entry m) = same_name n m
+
+-- the order of what symbols name: presets by their places, and then entries by their names
+abbrev pub named_cmp : Named → Named → Ordering
+named_cmp (preset p) (preset q) = nat_cmp p q
+named_cmp (preset p) (entry m) = Less
+named_cmp (entry n) (preset q) = Greater
+named_cmp (entry n) (entry m) = name_cmp n m
 
 -- what a symbol holds: a preset stands as the birth of what lies nowhere
 unfoldable pub source_of : Packed → Source

@@ -50,9 +50,10 @@ pub struct Collected {
 
 /// Collects families of storages.
 ///
-/// A collection takes time linear in the entries and the children that they declare, and never
-/// recurses. It takes about 11 bytes an entry beside the family, or 28 where places were used again,
-/// all of it before the first mark call.
+/// A collection takes time linear in the entries, the children that they declare, and the places of
+/// entries, vacant ones too, and never recurses. Beside the family it takes about 11 bytes an entry,
+/// or 28 where places were used again, and 3 or 20 a vacant place, all of it before the first mark
+/// call.
 #[derive(Drop)]
 pub struct GarbageCollector {
     alloc: Global,
@@ -123,8 +124,8 @@ impl GarbageCollector {
     }
 
     /// Learns the names of a family's entries, and which of them are counted. Nothing is marked
-    /// then, and both tallies are zero. Where there is no memory for that, or the family has more
-    /// than 2^48 entries, `AllocError`, and nothing has changed.
+    /// then, and both tallies are zero. Where there is no memory for that, or the family has 2^48
+    /// places or more, vacant ones too, `AllocError`, and nothing has changed.
     ///
     /// No two storages of the family may have one number ([`GarbageCollector::distinct`]).
     pub fn register<F: Family>(&mut self, family: &F) -> Result<(), AllocError>

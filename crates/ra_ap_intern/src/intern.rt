@@ -50,7 +50,8 @@ impl<T: Internable, B: BuildHasher> InternStorage<T, B> {
         Some(Ref::new(self.inner.store.find(obj)?))
     }
 
-    /// The entries, each with a reference to it, in no promised order. It takes no memory.
+    /// The entries, each with a reference to it, in no promised order. It takes no memory, and goes
+    /// over as many places as there were entries at one time.
     pub fn iter(&self) -> Iter<'_, T>
         ensures { IsPermutation result (named_values self.now) }
     {

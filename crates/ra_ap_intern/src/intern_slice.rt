@@ -70,7 +70,8 @@ impl<T: SliceInternable, L: Layout<T::SliceType>, B: BuildHasher> InternSliceSto
         Some(Ref::new(self.inner.store.find(&(header, slice))?))
     }
 
-    /// The entries, each with a reference to it, in no promised order. It takes no memory.
+    /// The entries, each with a reference to it, in no promised order. It takes no memory, and goes
+    /// over as many places as there were entries at one time.
     pub fn iter(&self) -> SliceIter<'_, T, L>
         ensures { IsPermutation result (named_slices self.now) }
     {

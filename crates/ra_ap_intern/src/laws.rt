@@ -12,7 +12,7 @@ ghost use Rattle.intern_table.specs.Sliced.{Sliced, sliced_eq};
 ghost use Rattle.ra_ap_intern.specs.Constants.{constants};
 ghost use Rattle.ra_ap_intern.specs.Families.{IsCollection, kept_named};
 ghost use Rattle.ra_ap_intern.specs.Handle.{handle_of, name_cmp, name_of, ref_name};
-ghost use Rattle.ra_ap_intern.specs.Symbols.{IsTable, Named, Counted, symbol_name, symbol_ref_name, has_its_text, text_of, symbol_in, due_symbol, at_entry, is_new_text};
+ghost use Rattle.ra_ap_intern.specs.Symbols.{IsTable, Named, Counted, named_cmp, symbol_name, symbol_ref_name, has_its_text, text_of, symbol_in, due_symbol, at_entry, is_new_text};
 ghost use Rattle.ra_ap_intern.specs.Symbols.Named.{preset, entry};
 ghost use Rattle.ra_ap_intern.specs.declared.gc.Collected.{Collected as Told};
 ghost use Rattle.intern_table.specs.declared.layout.Far.{Far};
@@ -260,6 +260,15 @@ pub fn symbol_references_are_what_they_name()
         (⟦<SymbolRef as PartialEq>⟧.eq a b ≡ true) ↔ (symbol_ref_name a ≡ symbol_ref_name b) }
     ensures hashed { (a b : SymRef) → symbol_ref_name a ≡ symbol_ref_name b →
         ⟦<SymbolRef as Hash>⟧.hash_input a ≡ ⟦<SymbolRef as Hash>⟧.hash_input b }
+{}
+
+/// Symbols, and references to them, are ordered as what they name: presets by their places, and
+/// then entries by their names.
+pub fn symbols_are_ordered_as_what_they_name()
+    ensures symbols { (a b : Sym) →
+        ⟦<Symbol as Ord>⟧.cmp a b ≡ named_cmp (symbol_name a) (symbol_name b) }
+    ensures references { (a b : SymRef) →
+        ⟦<SymbolRef as Ord>⟧.cmp a b ≡ named_cmp (symbol_ref_name a) (symbol_ref_name b) }
 {}
 
 /// The symbol of a text reads the text.

@@ -22,7 +22,7 @@ mod packed;
 pub mod symbols;
 
 pub use display::SymbolDisplay;
-use intern_store::{EntryKey, Limits, Name, Refusal, Refused, Store};
+use intern_store::{Limits, Name, Refusal, Refused, Store};
 use intern_table::{FixedState, Table, Text};
 pub use iter::SymbolIter;
 use packed::{Packed, Source, text_of_preset};
@@ -181,7 +181,8 @@ impl<B: BuildHasher> SymbolTable<B> {
     }
 
     /// The texts that the table keeps, each with a reference to its symbol, in no promised order.
-    /// Presets are none of them. It takes no memory.
+    /// Presets are none of them. It takes no memory, and goes over as many places as there were texts at
+    /// one time.
     pub fn iter(&self) -> SymbolIter<'_>
         ensures { IsPermutation result (named_texts self.now) }
     {
@@ -196,10 +197,7 @@ impl<B: BuildHasher> SymbolTable<B> {
     pub fn count(&self, symbol: &Symbol) -> Option<u64>
         ensures { result ≡ count_of self.now (symbol_name symbol.now) }
     {
-        match symbol.0.source() {
-            Source::Preset(_) => None,
-            Source::Runtime(key) => self.inner.store.count(key),
-        }
+        symbol.as_ref().count(self)
     }
 }
 
@@ -354,6 +352,17 @@ impl SymbolRef {
                 let text = table.inner.store.own(key.storage)?.get(key.spot)?;
                 Some(text.as_str())
             }
+        }
+    }
+
+    /// The count of the symbol's text. None for a preset, for a symbol of another table, and for one
+    /// whose text is gone.
+    pub fn count<B: BuildHasher>(self, table: &SymbolTable<B>) -> Option<u64>
+        ensures { result ≡ count_of table.now (symbol_ref_name self) }
+    {
+        match self.0.source() {
+            Source::Preset(_) => None,
+            Source::Runtime(key) => table.inner.store.count(key),
         }
     }
 

@@ -1,7 +1,7 @@
 //! Counts of stored texts.
 use crate::steps::{
-    clone, decrease, drop_table, free, intern_again, intern_new, intern_preset, is_preset,
-    is_stored, keeps, limited_table, new_table, not_cloned, not_decreased, not_interned,
+    clone, decrease, drop_table, free, intern_again, intern_new, intern_preset, is_equal,
+    is_preset, is_stored, keeps, limited_table, new_table, not_cloned, not_decreased, not_interned,
     not_released, reads_nothing, release,
 };
 use ra_ap_intern::{Limits, Refusal, sym};
@@ -69,6 +69,7 @@ fn a_symbol_let_fall_leaves_its_count(rt: HostRuntime) {
     drop(fallen);
     keeps(&rt, &table, 1);
     let mut x = intern_again(&rt, &mut table, "x", 2);
+    is_equal(&rt, x.as_ref().count(&table), Some(2));
     decrease(&rt, &mut table, &mut x, Some(1));
     release(&rt, &mut table, x, 0);
     drop_table(table);

@@ -14,7 +14,7 @@ use Rattle.syntax.specs.Parsing.{Store, Keeps, Stand, IsUnclosed, AreUnclosed, I
 use Rattle.syntax.specs.declared.message.Expected.{Expected}
 use Rattle.syntax.specs.declared.message.Stop.{Stop}
 use Rattle.syntax.specs.declared.message.Stop.TheVariants.{Unexpected, Fault}
-use Rattle.syntax.specs.declared.token.Place.{Place}
+use Rattle.text_run.specs.declared.place.Place.{Place}
 use Rattle.syntax.specs.declared.machine.Form.{Form}
 use Rattle.syntax.specs.declared.machine.Form.TheVariants as form
 use Rattle.syntax.specs.declared.token.Operator.{Operator}

@@ -1,4 +1,4 @@
-//! A store whose terms are hashed under random keys.
+//! A store whose terms are hashed under random keys, and so are the texts of its heads.
 use crate::texts::is_equal;
 use intern_terms::{TermRef, TermStore};
 use ra_ap_intern::{Limits, Symbol, SymbolTable};
@@ -9,7 +9,7 @@ use std::process::Abort;
 fn term(
     rt: &impl Abort,
     store: &mut TermStore<RandomState>,
-    heads: &mut SymbolTable,
+    heads: &mut SymbolTable<RandomState>,
     head: &str,
     args: &[TermRef],
 ) -> TermRef {
@@ -19,11 +19,23 @@ fn term(
     term
 }
 
+/// A term is written so.
+fn is_written(
+    rt: &impl Abort,
+    store: &TermStore<RandomState>,
+    heads: &SymbolTable<RandomState>,
+    term: TermRef,
+    expected: &str,
+) {
+    let text = store.written(term, heads, 100).expect(rt, "memory");
+    assert_eq!(rt; text.as_str(), expected);
+}
+
 /// Stores `x`, `f(x)` and `g(f(x), x)`, each twice.
 fn fill(
     rt: &impl Abort,
     store: &mut TermStore<RandomState>,
-    heads: &mut SymbolTable,
+    heads: &mut SymbolTable<RandomState>,
 ) -> (TermRef, TermRef) {
     let x = term(rt, store, heads, "x", &[]);
     let f = term(rt, store, heads, "f", &[x]);
@@ -48,15 +60,16 @@ fn collect(rt: &impl Abort, store: &mut TermStore<RandomState>, f: TermRef, g: T
     kept.release(store).ok().expect(rt, "counted");
 }
 
-fn drop_all(_store: TermStore<RandomState>, _heads: SymbolTable) {}
+fn drop_all(_store: TermStore<RandomState>, _heads: SymbolTable<RandomState>) {}
 
 #[test]
 fn terms_under_random_keys(rt: HostRuntime) {
     let alloc = rt.alloc();
     let keys = RandomState::new(&rt).expect(&rt, "keys");
     let mut store = TermStore::with_hasher(alloc, 1, Limits::MAX, keys);
-    let mut heads = SymbolTable::new(alloc, 2);
+    let mut heads = SymbolTable::with_hasher(alloc, 2, Limits::MAX, keys);
     let (f, g) = fill(&rt, &mut store, &mut heads);
+    is_written(&rt, &store, &heads, g, "g(f(x), x)");
     collect(&rt, &mut store, f, g);
     drop_all(store, heads);
 }

@@ -27,7 +27,7 @@ pub trait Program {
 
 /// Why a run gave up. But for `Output`, nothing was written.
 #[derive(Debug, Drop, Error)]
-pub enum RunError<F: Display> {
+enum RunError<F: Display> {
     /// When a read failed.
     #[error("input failed")]
     Input,

@@ -51,10 +51,11 @@ impl<'a> Words<'a> {
             } else {
                 self.rest.find(|c: char| !c.is_whitespace())
             };
-            if end == Some(0) {
+            let end = end.unwrap_or(self.rest.len());
+            if end == 0 {
                 break;
             }
-            self.take(end.unwrap_or(self.rest.len()));
+            self.take(end);
         }
     }
 
@@ -70,14 +71,14 @@ impl<'a> Words<'a> {
     }
 }
 
-// The length of the word that a text begins with.
+// The length of the word that a text begins with. No blank is part of it.
 fn first_length<L: Language>(text: &str) -> usize {
     if let Some(length) = L::other_word(text) {
         return length;
     }
     match text.chars().next() {
         Some(first) if L::is_of_word(first) => text
-            .find(|c: char| !L::is_of_word(c))
+            .find(|c: char| c.is_whitespace() || !L::is_of_word(c))
             .unwrap_or(text.len()),
         Some(first) => first.len_utf8(),
         None => 0,

@@ -20,7 +20,8 @@ impl Language for Functional {
     }
 }
 
-/// The tokens of a text, with `End` after the last. `OutOfMemory` when there is none.
+/// The tokens of a text, with `End` after the last. `OutOfMemory` or `Refused` when there is no
+/// memory for them.
 ///
 /// Each name becomes a symbol of the table, and keeps one count in it.
 pub fn tokens(alloc: Global, names: &mut SymbolTable, text: &str) -> Result<Vec<Lexeme>, Fault> {

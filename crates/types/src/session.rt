@@ -1,7 +1,8 @@
 //! The answers to a text of declarations.
-ghost use Rattle.std.specs.Prelude.{◌≡◌, ◌↔◌};
+ghost use Rattle.std.specs.Prelude.{◌≡◌, ◌↔◌, Some, OnOk};
+ghost use Rattle.ra_ap_intern.specs.Handle.{ref_name};
 ghost use Rattle.ra_ap_intern.specs.Symbols.{Named, symbol_ref_name};
-ghost use Rattle.types.specs.Environment.{Declares, KeepsOthers};
+ghost use Rattle.types.specs.Environment.{Declares, KeepsOthers, declared_as};
 ghost use Rattle.types.specs.Tree.{Tree};
 
 use crate::error::{Failure, TypeError};
@@ -105,8 +106,10 @@ impl Session {
 
     // Declares a name with a type, and tells it.
     fn bind(&mut self, name: SymbolRef, handle: TypeRef) -> Result<(), Fault>
-        ensures { KeepsOthers (symbol_ref_name name)
+        ensures others { KeepsOthers (symbol_ref_name name)
             self.old.inference.environment self.new.inference.environment }
+        ensures declares { OnOk result (declared_as self.new.inference.environment.declared
+            (symbol_ref_name name) ≡ Some (ref_name handle)) }
     {
         self.inference.environment.declare(name, handle)?;
         let name = name.display(&self.names);

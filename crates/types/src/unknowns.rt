@@ -1,5 +1,5 @@
 //! Types that aren't known yet, and what became of them.
-ghost use Rattle.std.specs.Prelude.{◌≡◌, ◌≢◌, ◌↔◌, ℕ, Some, IfOk, IfSome, IsSome, IsTrue, length, slice_get};
+ghost use Rattle.std.specs.Prelude.{◌≡◌, ◌≢◌, ◌↔◌, ℕ, Some, IfOk, IfSome, IsSome, IsTrue, length, min, slice_get};
 ghost use Rattle.ra_ap_intern.specs.Handle.{ref_name};
 ghost use Rattle.ra_ap_intern.specs.State.{State};
 ghost use Rattle.ra_ap_intern.specs.declared.kind.Values.{Values as ValueKind};
@@ -43,6 +43,8 @@ impl Unknowns {
     pub fn add(&mut self, level: u64) -> Result<u64, AllocError>
         ensures number { IfOk result (λ number. number ≡ length self.old.known.items) }
         ensures nothing { IfOk result (λ number. IsOpen self.new number) }
+        ensures level { IfOk result (λ number.
+            slice_get self.new.known.items number ≡ Some (known.Nothing level)) }
         ensures known { (n : ℕ) (handle : Reference (ValueKind Node)) →
             slice_get self.new.known.items n ≡ Some (known.Is handle)
             ↔ slice_get self.old.known.items n ≡ Some (known.Is handle) }
@@ -54,7 +56,9 @@ impl Unknowns {
 
     /// The level of an unknown type. None when it is known.
     pub fn level(&self, number: u64) -> Option<u64>
-        ensures { IsSome result ↔ IsOpen self.now number }
+        ensures open { IsSome result ↔ IsOpen self.now number }
+        ensures level { IfSome result (λ level.
+            slice_get self.now.known.items number ≡ Some (known.Nothing level)) }
     {
         match self.known.get(number as usize)? {
             Known::Nothing(level) => Some(*level),
@@ -77,6 +81,9 @@ impl Unknowns {
     /// known of it: else it stays as it is.
     pub fn lower(&mut self, number: u64, to: u64) -> bool
         ensures nothing { IsTrue result ↔ IsOpen self.old number }
+        ensures lowered { (level : ℕ) →
+            slice_get self.old.known.items number ≡ Some (known.Nothing level) →
+            slice_get self.new.known.items number ≡ Some (known.Nothing (min level to)) }
         ensures solved { (s : State Node) (v : ℕ → Tree) →
             Solves s self.new v ↔ Solves s self.old v }
         ensures open { (n : ℕ) → IsOpen self.old n → IsOpen self.new n }

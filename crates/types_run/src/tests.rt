@@ -79,7 +79,8 @@ fn textbook_examples(rt: HostRuntime) -> Result<(), Fail> {
     Ok(())
 }
 
-// A declaration of a text, with another `count` times before it and a third as often behind it.
+// A declaration of the text in the middle, with the first of the three so often before it, and the
+// last so often behind it.
 fn nested(
     alloc: Global,
     (before, middle, after): (&str, &str, &str),

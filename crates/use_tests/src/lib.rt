@@ -1,4 +1,4 @@
-//! Tests of the uses: what each does with values of its own.
+//! Tests of the callers to copy from: what each does with values of its own.
 #![tactic(auto)]
 
 #[cfg(test)]

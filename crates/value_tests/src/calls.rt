@@ -125,7 +125,7 @@ fn refusals(rt: HostRuntime) {
         (
             Refusal::OutOfMemory,
             6,
-            "out of memory; the storage is as it was",
+            "out of memory; try again once some is free",
         ),
     ] {
         is_equal(&rt, why.number(), number);

@@ -3,7 +3,7 @@ ghost use Rattle.std.specs.Prelude.{false};
 
 use ra_ap_intern::{InternStorage, Internable, Interned};
 use std::alloc::Global;
-use std::test::Fail;
+use std::process::Abort;
 
 /// A word that is stored once.
 #[derive(Debug, Drop, PartialEq, Eq, Hash)]
@@ -16,28 +16,28 @@ impl Internable for Word {
 }
 
 fn store(
+    rt: &impl Abort,
     alloc: Global,
     words: &mut InternStorage<Word>,
     text: &str,
-) -> Result<Interned<Word>, Fail> {
-    let word = Word(String::from_str(alloc, text)?);
-    let (handle, _) = Interned::new(words, word)?;
-    Ok(handle)
+) -> Interned<Word> {
+    let text = String::from_str(alloc, text).expect(rt, "memory");
+    let (handle, _) = Interned::new(words, Word(text)).expect(rt, "interned");
+    handle
 }
 
 #[test]
-fn equal_words_are_stored_once(rt: HostRuntime) -> Result<(), Fail> {
+fn equal_words_are_stored_once(rt: HostRuntime) {
     let alloc = rt.alloc();
     let mut words = InternStorage::new(alloc, 1);
-    let first = store(alloc, &mut words, "hello")?;
-    let second = store(alloc, &mut words, "hello")?;
+    let first = store(&rt, alloc, &mut words, "hello");
+    let second = store(&rt, alloc, &mut words, "hello");
     assert!(rt; first == second);
     assert_eq!(rt; words.len(), 1);
 
     // The last release removes the word and gives it back.
-    let none = first.release(&mut words).map_err(|r| r.why)?;
+    let none = first.release(&mut words).expect(&rt, "an owner");
     assert!(rt; none.is_none());
-    let word = second.release(&mut words).map_err(|r| r.why)?;
+    let word = second.release(&mut words).expect(&rt, "the last owner");
     assert_eq!(rt; word.as_ref().map(|word| word.0.as_str()), Some("hello"));
-    Ok(())
 }

@@ -3,7 +3,7 @@ ghost use Rattle.std.specs.Prelude.{◌≡◌, ◌++◌, ◌∷◌, [], Bool, Li
 ghost use Rattle.std.specs.Prelude.{vec_len, vec_capacity, ◌+◌, ◌<◌};
 ghost use Rattle.std.specs.Vec.Iter.{into_iter_items, into_iter_len};
 ghost use Rattle.intern_store.specs.Outcome.{MayWantBack, Becomes};
-ghost use Rattle.intern_store.specs.State.{is_new, interned_name};
+ghost use Rattle.intern_store.specs.State.{is_new, interned_name, given_back};
 ghost use Rattle.ra_ap_intern.specs.Interning.{Interns, IsOwed};
 
 use super::{InternStorage, Internable, Interned, InternedRef};
@@ -37,6 +37,7 @@ pub trait InternHandle<T: Internable>: Sized {
     ) -> Result<(Self, Option<T>), Refused<T>>
         requires { T.Internable.USE_GC ≡ USE_GC }
         ensures name { IfOk result (λ r. name r.0 ≡ interned_name T.eq storage.old value) }
+        ensures back { IfOk result (λ r. r.1 ≡ given_back T.eq storage.old value value) }
         ensures refused { MayWantBack result
             (due_interning T.eq storage.old value (owed storage.old))
             (is_new T.eq storage.old value) value }
@@ -89,10 +90,10 @@ impl<T: Internable + Drop, B: BuildHasher> InternStorage<T, B> {
     /// Interns values in turn, and adds their handles to a list: owned ones in counted mode,
     /// references in collected mode. A value is dropped where an equal one is stored.
     ///
-    /// It asks for room in the list first, for all handles at once. A value is refused as
-    /// [`Interned::new`] and [`Interned::new_gc`] refuse it, and for want of room in the list by
-    /// `OutOfMemory`. It comes back then: the handles of those before it are in the list, and those
-    /// behind it are left in the iterator.
+    /// It asks for room in the list first, for all handles at once: where there is none, the first
+    /// value comes back with `OutOfMemory`, and nothing has changed. A value is refused as
+    /// [`Interned::new`] and [`Interned::new_gc`] refuse it. It comes back then: the handles of those
+    /// before it are in the list, and those behind it are left in the iterator.
     pub fn extend<H: InternHandle<T>>(
         &mut self,
         values: &mut IntoIter<T>,
@@ -108,7 +109,8 @@ impl<T: Internable + Drop, B: BuildHasher> InternStorage<T, B> {
             × Interns H.after T.eq H.owed self.old self.new done
             (list_map H.name handles.old.items) (list_map H.name handles.new.items)) }
         ensures why { IfErr result (λ r. IsOwed T.eq self.new (H.owed self.new)
-            (vec_capacity handles.old < vec_len handles.old + into_iter_len values.old) r) }
+            ((vec_capacity handles.old < vec_len handles.old + into_iter_len values.old)
+            × (self.new ≡ self.old)) r) }
     {
         if handles.reserve(values.len()).is_err() {
             return match values.next() {

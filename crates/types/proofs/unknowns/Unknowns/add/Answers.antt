@@ -3,13 +3,14 @@ use Rattle.types.specs.declared.unknowns.Known.TheVariants as known
 use Rattle.types.proofs.Unifying.{added_last, added_knows}
 use Rattle.types.proofs.unknowns.Unknowns.add.Goals as goal
 
+pub returns-clause-level : goal.returns-clause-level
+returns-clause-level c =
+    let number : c.len-number.result ≡ length c.args.self.now.known.items = search rules in
+    ap (slice_get c.push.new.self.items) number ∙ ap (λ xs. slice_get xs (length c.args.self.now.known.items)) c.in_ok-push.ensures.items
+    ∙ added_last c.args.level c.args.self.now.known.items
+
 pub returns-clause-nothing : goal.returns-clause-nothing
-returns-clause-nothing c =
-    let number : c.len-number.result ≡ length c.args.self.now.known.items = search rules in (
-      c.args.level,
-      ap (slice_get c.push.new.self.items) number ∙ ap (λ xs. slice_get xs (length c.args.self.now.known.items)) c.in_ok-push.ensures.items
-          ∙ added_last c.args.level c.args.self.now.known.items,
-    )
+returns-clause-nothing c = (c.args.level, returns-clause-level c)
 
 pub returns-clause-known : goal.returns-clause-known
 returns-clause-known c n handle =
