@@ -1,5 +1,5 @@
 //! A spreadsheet over an incremental cache of queries, with plain values: a query is the key of its
-//! memo in a hash table, and what it read is a list of such keys.
+//! memo in a hash table.
 //!
 //! It reads what `crates/queries_run` reads, caches in the same way, and writes the same answers, for
 //! inputs without errors. At a wrong line it writes to standard error, and ends with status 1.
@@ -147,10 +147,9 @@ fn total(function: Function, values: &[Value]) -> Result<i64, CellError> {
     Ok(so_far.unwrap_or(0))
 }
 
-/// What a query came to, what it read, the values of that, and when it was last right.
+/// What a query came to, the values that it read, and when it was last right.
 struct Memo {
     answer: Answer,
-    reads: Vec<Key>,
     values: Vec<Value>,
     verified: u64,
 }
@@ -216,9 +215,9 @@ impl Spreadsheet {
         (memo.verified == self.revision).then_some(memo.answer)
     }
 
-    fn put(&mut self, key: Key, answer: Answer, reads: Vec<Key>, values: Vec<Value>) {
+    fn put(&mut self, key: Key, answer: Answer, values: Vec<Value>) {
         let verified = self.revision;
-        self.memos.insert(key, Some(Memo { answer, reads, values, verified }));
+        self.memos.insert(key, Some(Memo { answer, values, verified }));
     }
 
     fn open(&self, key: Key) -> Frame {
@@ -253,7 +252,7 @@ impl Spreadsheet {
                 }
                 Some(cycle) => {
                     for frame in path.iter().chain([&top]) {
-                        self.put(frame.key, cycle, Vec::new(), Vec::new());
+                        self.put(frame.key, cycle, Vec::new());
                     }
                     return cycle;
                 }
@@ -280,7 +279,7 @@ impl Spreadsheet {
                 self.give(frame.key, &frame.values)
             }
         };
-        self.put(frame.key, Answer::Value(value), frame.reads, frame.values);
+        self.put(frame.key, Answer::Value(value), frame.values);
         value
     }
 
@@ -292,12 +291,11 @@ impl Spreadsheet {
 
     /// Removes the queries that no cell with a formula needs, and tells how many.
     fn collect(&mut self) -> usize {
-        let cells = self.places().into_iter().map(Key::Cell);
-        let mut open: Vec<Key> = cells.filter(|key| self.memos.contains_key(key)).collect();
+        let mut open: Vec<Key> = self.places().into_iter().map(Key::Cell).collect();
         let mut needed: HashSet<Key> = open.iter().copied().collect();
         while let Some(key) = open.pop() {
-            let reads = self.memo(key).map_or(&[][..], |memo| &memo.reads);
-            open.extend(reads.iter().filter(|read| needed.insert(**read)));
+            let reads = self.reads(key).into_iter().filter(|read| self.memos.contains_key(read));
+            open.extend(reads.filter(|read| needed.insert(*read)));
         }
         let before = self.memos.len();
         self.memos.retain(|key, _| needed.contains(key));

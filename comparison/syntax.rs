@@ -231,18 +231,10 @@ fn parse(tokens: Vec<(Token, Place)>) -> Result<Program, Error> {
 fn write_tree(out: &mut String, tree: &Tree) {
     let operator = OPERATORS.iter().find(|operator| operator.1 == tree.head);
     let parts = match (&tree.head[..], &tree.parts[..], operator) {
-        (head, [], _) => return out.push_str(head),
         (_, [left, right], Some((sign, ..))) => vec![("(", left), (sign, right)],
         ("then", [first, second, third], _) => vec![("(if ", first), ("then", second), ("else", third)],
         ("let", [first, second, third], _) => vec![("(let ", first), ("=", second), ("in", third)],
-        (head, parts, _) => {
-            out.push_str(head);
-            for (place, part) in parts.iter().enumerate() {
-                out.push_str(if place == 0 { "(" } else { ", " });
-                write_tree(out, part);
-            }
-            return out.push(')');
-        }
+        _ => return write_call(out, tree),
     };
     for (place, (before, part)) in parts.into_iter().enumerate() {
         out.push_str(if place == 0 { "" } else { " " });
@@ -253,47 +245,90 @@ fn write_tree(out: &mut String, tree: &Tree) {
     out.push(')');
 }
 
-fn write_item(out: &mut String, what: &str, item: &Tree) {
-    let (line, column) = item.place;
-    out.push_str(&format!("  {what} at {line}:{column}: {} ", item.head));
-    write_tree(out, &item.parts[0]);
-    out.push_str(" = ");
-    write_tree(out, &item.parts[1]);
-    out.push_str(";\n");
+/// Writes the head of a tree, and in parentheses its parts, if it has any.
+fn write_call(out: &mut String, tree: &Tree) {
+    out.push_str(&tree.head);
+    for (place, part) in tree.parts.iter().enumerate() {
+        out.push_str(if place == 0 { "(" } else { ", " });
+        write_tree(out, part);
+    }
+    out.push_str(if tree.parts.is_empty() { "" } else { ")" });
 }
 
-/// Tells the smallest parts with another head, or another number of parts.
-fn write_changes(out: &mut String, old: &Tree, new: &Tree) {
+/// Writes an item. What it defines is a name or a call, also where its head is an operator's.
+fn write_item(out: &mut String, item: &Tree) {
+    out.push_str(&format!("{} ", item.head));
+    write_call(out, &item.parts[0]);
+    out.push_str(" = ");
+    write_tree(out, &item.parts[1]);
+    out.push(';');
+}
+
+/// Tells an item that was added or removed.
+fn tell_item(out: &mut String, what: &str, item: &Tree) {
+    out.push_str(&format!("  {what} at {}:{}: ", item.place.0, item.place.1));
+    write_item(out, item);
+    out.push('\n');
+}
+
+/// Tells the smallest parts with another head, or another number of parts, each written so.
+fn write_changes(out: &mut String, old: &Tree, new: &Tree, write: fn(&mut String, &Tree)) {
     if old.head == new.head && old.parts.len() == new.parts.len() {
         for (old, new) in old.parts.iter().zip(&new.parts) {
-            write_changes(out, old, new);
+            write_changes(out, old, new, write_tree);
         }
         return;
     }
     out.push_str(&format!("  changed at {}:{}: ", old.place.0, old.place.1));
-    write_tree(out, old);
+    write(out, old);
     out.push_str(&format!(", now at {}:{}: ", new.place.0, new.place.1));
-    write_tree(out, new);
+    write(out, new);
     out.push('\n');
 }
 
-/// The items of a program, under the names that they define.
-fn under_names(program: &Program) -> HashMap<&str, &Tree> {
-    program.items.iter().map(|item| (&item.parts[0].head[..], item)).collect()
+/// Tells what changed in an item.
+fn write_item_changes(out: &mut String, old: &Tree, new: &Tree) {
+    if old.head != new.head {
+        return write_changes(out, old, new, write_item);
+    }
+    write_changes(out, &old.parts[0], &new.parts[0], write_call);
+    write_changes(out, &old.parts[1], &new.parts[1], write_tree);
+}
+
+/// The items of a program, each under the name that it defines and how many before it define the
+/// same name.
+fn by_definition(program: &Program) -> HashMap<(&str, usize), &Tree> {
+    let mut items = HashMap::default();
+    for (definition, item) in definitions(program).into_iter().zip(&program.items) {
+        items.insert(definition, item);
+    }
+    items
+}
+
+/// The name that each item defines, and how many items before it define the same name.
+fn definitions(program: &Program) -> Vec<(&str, usize)> {
+    let mut counts: HashMap<&str, usize> = HashMap::default();
+    let mut definitions = Vec::new();
+    for item in &program.items {
+        let count = counts.entry(&item.parts[0].head).or_default();
+        definitions.push((&item.parts[0].head[..], *count));
+        *count += 1;
+    }
+    definitions
 }
 
 /// Tells each item that was added, each that was removed, and in each other what changed.
 fn write_all_changes(out: &mut String, old: &Program, new: &Program) {
-    let (old_names, new_names) = (under_names(old), under_names(new));
-    for item in &old.items {
-        if !new_names.contains_key(&item.parts[0].head[..]) {
-            write_item(out, "removed", item);
+    let (old_items, new_items) = (by_definition(old), by_definition(new));
+    for (definition, item) in definitions(old).iter().zip(&old.items) {
+        if !new_items.contains_key(definition) {
+            tell_item(out, "removed", item);
         }
     }
-    for item in &new.items {
-        match old_names.get(&item.parts[0].head[..]) {
-            Some(old) => write_changes(out, old, item),
-            None => write_item(out, "added", item),
+    for (definition, item) in definitions(new).iter().zip(&new.items) {
+        match old_items.get(definition) {
+            Some(old) => write_item_changes(out, old, item),
+            None => tell_item(out, "added", item),
         }
     }
 }

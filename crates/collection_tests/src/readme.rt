@@ -8,7 +8,7 @@ use std::alloc::Global;
 use std::process::Abort;
 
 /// A type of some language: its tag, and the types that it is made of.
-#[derive(Drop, PartialEq, Eq, Hash)]
+#[derive(Debug, Drop, PartialEq, Eq, Hash)]
 struct Type {
     tag: u32,
     parts: Vec<InternedRef<Type>>,

@@ -1,6 +1,11 @@
 -- What queries over sheets read and give.
-use Rattle.std.proofs.Common.{◌≡◌, Bool, cond, List, Option, Result, Ok, Err, IfOk, sym, ap, ◌∙◌}
+use Rattle.std.proofs.Common.{◌≡◌, ◌↔◌, ◌==◌, Bool, true, cond, Contains, Decides, IsPermutation, IsSome, is_some, List, Option, Result, Ok, Err, IfOk, refl, sym, ap, subst, ◌∙◌}
+use Rattle.std.proofs.lemmas.Bool.{and_parts, and_from}
+use Rattle.std.proofs.lemmas.Bool.Decides.{Decides-eqb}
+use Rattle.std.proofs.lemmas.List.Sorted.{Contains-permutation, IsPermutation-sym}
+use Rattle.std.proofs.lemmas.Map.Made.{is_member-Decides}
 use Rattle.std.specs.Map.{lookup}
+use Rattle.std.specs.Set.{is_member}
 use Rattle.queries.specs.declared.key.Key.{Key}
 use Rattle.queries.specs.declared.key.Key.TheVariants.{Cell}
 use Rattle.queries.specs.declared.place.Place.{Place}
@@ -29,6 +34,33 @@ pub put_at : (eq : Place → Place → Bool) → ((p q : Place) → eq p q ≡ s
 put_at eq same before after sheet is place found put p =
     (λ i. lookup (λ q. sym (same p q) i) after) ∙ put p
     ∙ (λ i. cond (same place p i) found (lookup (λ q. same p q i) (is i)))
+
+-- places are the same where their columns and rows are
+same_places : (p q : Place) → Decides (same_place p q) (p ≡ q)
+same_places p q = (
+  λ e.
+      let h : ((p.column == q.column) ≡ true) × ((p.row == q.row) ≡ true) = and_parts _ _ e in
+      let column : p.column ≡ q.column = (Decides-eqb p.column q.column).0 h.0 in
+      let row : p.row ≡ q.row = (Decides-eqb p.row q.row).0 h.1 in
+      λ i. record { column = column i; row = row i },
+  λ e. and_from _ _ ((Decides-eqb p.column q.column).1 (ap (λ (r : Place). r.column) e))
+      ((Decides-eqb p.row q.row).1 (ap (λ (r : Place). r.row) e)),
+)
+
+-- the keys of a sheet, in any order, are the cells with formulas
+pub keys_are_cells : (eq : Place → Place → Bool) → ((p q : Place) → eq p q ≡ same_place p q)
+    → (entries sheet : Formulas) → entries ≡ sheet → (keys places : List Place)
+    → ((q : Place) → is_some (lookup (eq q) entries) ≡ is_member eq keys q) → IsPermutation keys places
+    → (p : Place) → Contains places p ↔ IsSome (formula_at sheet p)
+keys_are_cells eq same entries sheet is keys places has moved p =
+    let decides : (a b : Place) → Decides (eq a b) (a ≡ b) =
+    λ a b. subst (λ t. Decides t (a ≡ b)) (sym (same a b)) (same_places a b) in
+    let member : Decides (is_member eq keys p) (Contains keys p) = is_member-Decides decides keys p in
+    let found : formula_at sheet p ≡ lookup (eq p) entries = found_at eq same entries sheet is p _ refl in (
+      λ c. ap is_some found ∙ has p
+          ∙ member.1 (Contains-permutation places keys p (IsPermutation-sym keys places moved) c),
+      λ some. Contains-permutation keys places p moved (member.0 (sym (has p) ∙ sym (ap is_some found) ∙ some)),
+    )
 
 module _ (sheet : Formulas) (place : Place) (key : Key) (cell : key ≡ Cell place) where
   pub cell_reads : (found : Option Postfix) → formula_at sheet place ≡ found

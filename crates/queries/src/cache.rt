@@ -27,8 +27,6 @@ use std::collections::HashMap;
 pub struct Memo {
     /// The answer.
     pub answer: Answer,
-    /// What it read.
-    pub reads: Vec<KeyRef>,
     /// The values that it read, in order.
     pub values: Vec<Value>,
     /// The revision at which the answer was last right.
@@ -244,7 +242,7 @@ impl Cache {
     {
         let handle = self.handle(key)?;
         match self.known(path, &top, key, handle) {
-            Some(answer) => self.resume(path, top, handle, answer),
+            Some(answer) => self.resume(path, top, answer),
             None => {
                 path.push(top)?;
                 Ok(Progress::At(self.open(sheet, key, handle)?))
@@ -253,13 +251,7 @@ impl Cache {
     }
 
     // The query that waited for this answer goes on with it.
-    fn resume(
-        &mut self,
-        path: &Path,
-        mut top: Frame,
-        handle: KeyRef,
-        answer: Answer,
-    ) -> Result<Progress, Fault>
+    fn resume(&mut self, path: &Path, mut top: Frame, answer: Answer) -> Result<Progress, Fault>
         ensures cache { (sheet : Formulas) (first key : KeyType) → IsCache sheet self.old →
             IsFrame sheet self.old.keys top →
             IsPath sheet self.old.keys first path.now.frames.items top.key → WaitsFor top key →
@@ -273,7 +265,7 @@ impl Cache {
         match answer {
             Answer::Value(value) => {
                 self.counts.reused = self.counts.reused.saturating_add(1);
-                top.take(handle, value)?;
+                top.take(value)?;
                 Ok(Progress::At(top))
             }
             Answer::Cycle(through) => {
@@ -315,11 +307,10 @@ impl Cache {
             IsPath sheet.now self.old.keys root path.old.frames.items top.key →
             IfOk result (GoesOn sheet.now self.new.keys root path.new.frames.items) }
     {
-        let handle = top.handle;
         let value = self.settle(sheet, top)?;
         match path.pop() {
             Some(mut waiting) => {
-                waiting.take(handle, value)?;
+                waiting.take(value)?;
                 Ok(Progress::At(waiting))
             }
             None => Ok(Progress::Done(Answer::Value(value))),
@@ -343,7 +334,6 @@ impl Cache {
         let value = self.given(sheet, &frame)?;
         let memo = Memo {
             answer: Answer::Value(value),
-            reads: frame.reads,
             values: frame.values,
             verified: self.revision,
         };
@@ -415,7 +405,6 @@ impl Cache {
     {
         let memo = Memo {
             answer: Answer::Cycle(through),
-            reads: Vec::new(self.alloc),
             values: Vec::new(self.alloc),
             verified: self.revision,
         };

@@ -96,7 +96,7 @@ fn parse_block(tokens: &mut Tokens) -> Result<Block, SyntaxError> {
             tokens.expect(TokenKind::Closing, Problem::Wants("')'"))?;
             Ok(block)
         }
-        _ => Err(token.problem(Problem::Wants("')'"))),
+        _ => Err(token.problem(Problem::Wants("':' or ')'"))),
     }
 }
 

@@ -17,8 +17,6 @@ pub struct Frame {
     pub handle: KeyRef,
     /// What it reads, in order.
     pub wants: Vec<Key>,
-    /// The handles of what it has read so far.
-    pub reads: Vec<KeyRef>,
     /// The values that it has read so far.
     pub values: Vec<Value>,
 }
@@ -44,7 +42,6 @@ impl Frame {
             key,
             handle,
             wants,
-            reads: Vec::new(alloc),
             values: Vec::new(alloc),
         }
     }
@@ -57,13 +54,12 @@ impl Frame {
     }
 
     /// Takes the value of that query.
-    pub fn take(&mut self, handle: KeyRef, value: Value) -> Result<(), AllocError>
+    pub fn take(&mut self, value: Value) -> Result<(), AllocError>
         ensures key { OnOk result (self.new.key ≡ self.old.key) }
         ensures handle { OnOk result (self.new.handle ≡ self.old.handle) }
         ensures wants { OnOk result (self.new.wants.items ≡ self.old.wants.items) }
         ensures values { OnOk result (self.new.values.items ≡ self.old.values.items ++ value ∷ []) }
     {
-        self.reads.push(handle)?;
         Ok(self.values.push(value)?)
     }
 }

@@ -1,5 +1,5 @@
 //! Sheets: which cells have which formulas.
-ghost use Rattle.std.specs.Prelude.{◌≡◌, ◌-◌, ◌++◌, [], Some, None, IfOk, OnOk, OnErr, if◌then◌else◌};
+ghost use Rattle.std.specs.Prelude.{◌≡◌, ◌↔◌, ◌-◌, ◌++◌, [], Some, None, Contains, IsSome, IfOk, OnOk, OnErr, if◌then◌else◌};
 ghost use Rattle.queries.specs.Sheet.{formula_at, same_place, reads_of, gives, block_cells, column_cells};
 ghost use Rattle.queries.specs.declared.place.Place.{Place as PlaceType};
 
@@ -60,7 +60,11 @@ impl Sheet {
     }
 
     /// The cells that have formulas, in order.
-    pub fn places(&self) -> Result<Vec<Place>, AllocError> {
+    pub fn places(&self) -> Result<Vec<Place>, AllocError>
+        ensures { IfOk result (λ places. (p : PlaceType) →
+            Contains places.items p ↔ IsSome (formula_at self.now p)) }
+    {
+        laws::places_are_their_columns_and_rows();
         let mut places: Vec<Place> = self.formulas.keys().copied().collect(self.alloc)?;
         places.sort()?;
         Ok(places)

@@ -1,5 +1,5 @@
 //! A spreadsheet: a sheet, and a cache of its queries.
-ghost use Rattle.std.specs.Prelude.{◌≡◌, [], Some, None, IfOk, OnOk, OnErr, if◌then◌else◌};
+ghost use Rattle.std.specs.Prelude.{◌≡◌, ◌↔◌, [], Some, None, Contains, IsSome, IfOk, OnOk, OnErr, if◌then◌else◌};
 ghost use Rattle.queries.specs.Evaluation.{Answers};
 ghost use Rattle.queries.specs.Sheet.{formula_at, same_place};
 ghost use Rattle.queries.specs.declared.key.Key.TheVariants.{Cell as cell_key};
@@ -80,7 +80,10 @@ impl Spreadsheet {
     }
 
     /// The cells that have formulas, in order.
-    pub fn places(&self) -> Result<Vec<Place>, AllocError> {
+    pub fn places(&self) -> Result<Vec<Place>, AllocError>
+        ensures { IfOk result (λ places. (p : PlaceType) →
+            Contains places.items p ↔ IsSome (formula_at self.now p)) }
+    {
         self.sheet.places()
     }
 
@@ -103,27 +106,36 @@ impl Spreadsheet {
         Ok(self.cache.collect(needed.as_slice())?)
     }
 
-    // The queries of the cells with formulas, and all that those have read.
+    // The handles of what cells with formulas need.
     fn needed(&self) -> Result<IndexSet<KeyRef>, AllocError> {
+        let mut handles = IndexSet::new(self.alloc);
+        for key in &self.needed_keys()? {
+            if let Some(handle) = self.cache.keys.get(key) {
+                handles.insert(handle)?;
+            }
+        }
+        Ok(handles)
+    }
+
+    // The cells with formulas, and what they need: memos don't tell, since an edited cell has none.
+    fn needed_keys(&self) -> Result<IndexSet<Key>, AllocError> {
         let mut needed = IndexSet::new(self.alloc);
         for place in &self.places()? {
-            if let Some(handle) = self.cache.keys.get(&Key::Cell(*place)) {
-                needed.insert(handle)?;
-            }
+            needed.insert(Key::Cell(*place))?;
         }
         for index in 0..usize::MAX {
             match needed.get_index(index).copied() {
-                Some(handle) => self.need_reads(handle, &mut needed)?,
+                Some(key) => self.need_reads(key, &mut needed)?,
                 None => break,
             }
         }
         Ok(needed)
     }
 
-    // What a query has read is needed too.
-    fn need_reads(&self, handle: KeyRef, needed: &mut IndexSet<KeyRef>) -> Result<(), AllocError> {
-        if let Some(memo) = self.cache.memos.get(&handle) {
-            for read in &memo.reads {
+    // What a query reads is needed too, if it has a handle.
+    fn need_reads(&self, key: Key, needed: &mut IndexSet<Key>) -> Result<(), AllocError> {
+        for read in &self.sheet.reads(key)? {
+            if self.cache.keys.get(read).is_some() {
                 needed.insert(*read)?;
             }
         }

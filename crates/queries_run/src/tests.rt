@@ -119,6 +119,21 @@ fn collections_remove_what_nothing_needs(rt: HostRuntime) {
     are_answered(&rt, rt.alloc(), lines, answers);
 }
 
+#[test]
+fn collections_follow_formulas(rt: HostRuntime) {
+    let edited = "A1 = SUM(B1:B3)\nshow A1\nA1 = SUM(B1:B3) + 1\ncollect\n";
+    are_answered(&rt, rt.alloc(), edited, "A1 = 0\nremoved 0 queries\n");
+    let cyclic = "A1 = B1 + 1\nshow A1\nB1 = A1\nshow A1\ncollect\n";
+    are_answered(
+        &rt,
+        rt.alloc(),
+        cyclic,
+        "A1 = 1\nA1 = cycle through A1\nremoved 0 queries\n",
+    );
+    let unasked = "A1 = C1\nA2 = C1\nshow A2\nclear A2\ncollect\n";
+    are_answered(&rt, rt.alloc(), unasked, "A2 = 0\nremoved 1 queries\n");
+}
+
 // A formula of the reference. Cells are A1 to A6.
 #[derive(Clone, Copy)]
 enum Plain {

@@ -9,7 +9,7 @@ use Rattle.ra_ap_intern.specs.declared.symbol.symbols.TheConstants as constant
 use Rattle.syntax.specs.Lexeme.{Lexeme, mark, operator_of}
 use Rattle.syntax.specs.Machine.{Reading, definition, binding, with_last, run, whole_items, program}
 use Rattle.syntax.specs.Parsing.{Store, Keeps}
-use Rattle.syntax.specs.Printing.{IsItem, AreItems, item_tokens, program_tokens, two_parts, three_parts, conditional, local, called_with, written, tokens_of, tokens_of_each}
+use Rattle.syntax.specs.Printing.{IsItem, AreItems, item_tokens, program_tokens, defined_tokens, name_or_call, two_parts, three_parts, conditional, local, called_with, written, tokens_of, tokens_of_each}
 use Rattle.syntax.specs.declared.token.Operator.{Operator}
 use Rattle.syntax.specs.declared.token.Mark.TheVariants.{Equals, Semicolon}
 use Rattle.ra_ap_intern.proofs.CallerLemmas.{named_same}
@@ -79,6 +79,18 @@ mutual
   trees_read no_more = tt
   trees_read (one_more t ts) = (tree_read t, trees_read ts)
 
+name_or_call_read : (head : Named) (texts : List (List Lexeme)) (ts : Trees) → EachRead texts ts
+    → AreRead (name_or_call head texts) (tree head ts)
+name_or_call_read head [] no_more each = λ items o os rest. refl
+name_or_call_read head [] (one_more t ts) each = absurd each
+name_or_call_read head (a ∷ more) no_more each = absurd each
+name_or_call_read head (a ∷ more) (one_more t ts) each =
+    called_read head a more t ts each.0 each.1
+
+defined_read : (t : Tree) → AreRead (defined_tokens t) t
+defined_read (tree head parts) =
+    name_or_call_read head (tokens_of_each parts) parts (trees_read parts)
+
 -- between items
 abbrev pub between_items : Trees → Reading
 between_items items = record { items = items; opens = []; value = None }
@@ -96,13 +108,13 @@ item_read_as : (items : Trees) (head : Named) (l r : Tree) (rest : List Lexeme)
 unfolding source_of
 item_read_as items head l r rest (inl is) =
     subst (IsItemRead items l r rest) (sym is)
-    (then_rest (tokens_of l) l (tree_read l) items (frame definition no_more) []
+    (then_rest (defined_tokens l) l (defined_read l) items (frame definition no_more) []
     (mark Equals ∷ (tokens_of r ++ (mark Semicolon ∷ []))) rest
     ∙ then_rest (tokens_of r) r (tree_read r) items (frame definition (one_more l no_more)) []
     (mark Semicolon ∷ []) rest)
 item_read_as items head l r rest (inr is) =
     subst (IsItemRead items l r rest) (sym is)
-    (then_rest (tokens_of l) l (tree_read l) items (frame binding no_more) []
+    (then_rest (defined_tokens l) l (defined_read l) items (frame binding no_more) []
     (mark Equals ∷ (tokens_of r ++ (mark Semicolon ∷ []))) rest
     ∙ then_rest (tokens_of r) r (tree_read r) items (frame binding (one_more l no_more)) []
     (mark Semicolon ∷ []) rest)

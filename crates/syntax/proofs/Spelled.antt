@@ -15,7 +15,7 @@ use Rattle.ra_ap_intern.specs.declared.symbol.symbols.TheConstants as constant
 use Rattle.syntax.specs.Lexeme.{Lexeme, lexeme, call, mark, between, operator_of}
 use Rattle.syntax.specs.Parsing.{Store, Stand}
 use Rattle.syntax.specs.Pieces.{Spell, Prints, comma_pieces}
-use Rattle.syntax.specs.Printing.{arguments, called_with, two_parts, conditional, local, three_parts, written, tokens_of, tokens_of_each, definition, item_mark}
+use Rattle.syntax.specs.Printing.{arguments, called_with, two_parts, conditional, local, three_parts, written, tokens_of, tokens_of_each, definition, item_mark, name_or_call, defined_tokens}
 use Rattle.syntax.specs.declared.printer.Piece.{Piece}
 use Rattle.syntax.specs.declared.printer.Piece.TheVariants as piece
 use Rattle.syntax.specs.declared.token.Mark.{Mark}
@@ -111,35 +111,6 @@ module _ (s : Store) where
         ),
       ) in
       subst Q (sym whole) spelled
-
-  pub spelled_item : (a b : TermRef) (t u : Tree) → UnfoldsTo s (term_name a) t
-      → UnfoldsTo s (term_name b) u → (head : Named) (k : Mark) → k ≡ item_mark head
-      → (items : List Piece)
-      → items ≡ marked k ∷ piece.Tree a ∷ marked Equals ∷ piece.Tree b ∷ marked Semicolon ∷ []
-      → Spell s items (definition head (tokens_of t) (tokens_of u))
-  spelled_item a b t u first second head k is items whole =
-      let end : List Lexeme = mark Semicolon ∷ [] in
-      let last : List Lexeme = tokens_of u ++ end in
-      let begin : List Lexeme = tokens_of t ++ (mark Equals ∷ last) in
-      let P : Mark → Type 0 = λ m. Spell s items (mark m ∷ begin) in
-      let Q : List Piece → Type 0 = λ ps. Spell s ps (mark k ∷ begin) in
-      let spelled : Q (marked k ∷ piece.Tree a ∷ marked Equals ∷ piece.Tree b
-      ∷ marked Semicolon ∷ []) = (
-        begin,
-        refl,
-        (
-          t,
-          mark Equals ∷ last,
-          first,
-          refl,
-          (
-            last,
-            refl,
-            (u, end, second, refl, ([], refl, refl)),
-          ),
-        ),
-      ) in
-      subst P is (subst Q (sym whole) spelled)
 
   spelled_arguments : (terms : List TermRef) (ts : Trees) → Stand s terms ts
       → Spell s (comma_pieces terms ++ marked Close ∷ []) (arguments (tokens_of_each ts))
@@ -240,6 +211,19 @@ module _ (s : Store) where
       let found : None ≡ Some is.0.header = none ∙ ap (option_map (λ v. v.header)) is.1 in
       absurd (cc)
 
+  -- what holds of the head and the parts that a name reads holds of those of its tree
+  read_tree : (name : Name) (head : Named) (ts : Trees) (header : Symbol) (parts : List TermRef)
+      → Some header ≡ option_map (λ v. v.header) (reads s name)
+      → Some parts ≡ option_map (λ v. v.items) (reads s name)
+      → UnfoldsTo s name (tree head ts) → (P : Named → Type 0)
+      → (Stand s parts ts → P (symbol_name header)) → P head
+  read_tree name head ts header parts headed parted is P made =
+      let same : header ≡ is.0.header =
+      same_Some _ _ (headed ∙ ap (option_map (λ v. v.header)) is.1) in
+      let all : parts ≡ is.0.items = same_Some _ _ (parted ∙ ap (option_map (λ v. v.items)) is.1) in
+      subst P (ap symbol_name same ∙ is.2)
+      (made (subst (λ terms. Stand s terms ts) (sym all) is.3))
+
   -- a tree that a name reads is written by its head and its parts
   pub written_tree : (name : Name) (t : Tree) (header : Symbol) (parts : List TermRef)
       → Some header ≡ option_map (λ v. v.header) (reads s name)
@@ -248,11 +232,19 @@ module _ (s : Store) where
       → ((ts : Trees) → Stand s parts ts → P (written (symbol_name header) (tokens_of_each ts)))
       → P (tokens_of t)
   written_tree name (tree head ts) header parts headed parted is P made =
-      let same : header ≡ is.0.header =
-      same_Some _ _ (headed ∙ ap (option_map (λ v. v.header)) is.1) in
-      let all : parts ≡ is.0.items = same_Some _ _ (parted ∙ ap (option_map (λ v. v.items)) is.1) in
-      subst (λ h. P (written h (tokens_of_each ts))) (ap symbol_name same ∙ is.2)
-      (made ts (subst (λ terms. Stand s terms ts) (sym all) is.3))
+      read_tree name head ts header parts headed parted is
+      (λ h. P (written h (tokens_of_each ts))) (made ts)
+
+  pub defined_tree : (name : Name) (t : Tree) (header : Symbol) (parts : List TermRef)
+      → Some header ≡ option_map (λ v. v.header) (reads s name)
+      → Some parts ≡ option_map (λ v. v.items) (reads s name)
+      → UnfoldsTo s name t → (P : List Lexeme → Type 0)
+      → ((ts : Trees) → Stand s parts ts
+      → P (name_or_call (symbol_name header) (tokens_of_each ts)))
+      → P (defined_tokens t)
+  defined_tree name (tree head ts) header parts headed parted is P made =
+      read_tree name head ts header parts headed parted is
+      (λ h. P (name_or_call h (tokens_of_each ts))) (made ts)
 
   spell_append : (ps qs : List Piece) (ls ms : List Lexeme) → Spell s ps ls → Spell s qs ms
       → Spell s (ps ++ qs) (ls ++ ms)
@@ -270,6 +262,29 @@ module _ (s : Store) where
     ap (λ all. all ++ ms) first.3 ∙ append_assoc (tokens_of first.0) first.1 ms,
     spell_append ps qs first.1 ms first.4 second,
   )
+
+  -- an item, from the pieces of what it defines
+  pub spelled_item : (defined : List Piece) (b : TermRef) (t u : Tree)
+      → Spell s defined (defined_tokens t) → UnfoldsTo s (term_name b) u → (head : Named) (k : Mark)
+      → k ≡ item_mark head → (items : List Piece)
+      → items ≡ (marked k ∷ defined)
+      ++ (marked Equals ∷ piece.Tree b ∷ marked Semicolon ∷ [])
+      → Spell s items (definition head (defined_tokens t) (tokens_of u))
+  spelled_item defined b t u first second head k is items whole =
+      let end : List Lexeme = mark Semicolon ∷ [] in
+      let last : List Lexeme = tokens_of u ++ end in
+      let begin : List Lexeme = defined_tokens t ++ (mark Equals ∷ last) in
+      let P : Mark → Type 0 = λ m. Spell s items (mark m ∷ begin) in
+      let Q : List Piece → Type 0 = λ ps. Spell s ps (mark k ∷ begin) in
+      let spelled : Q ((marked k ∷ defined)
+      ++ (marked Equals ∷ piece.Tree b ∷ marked Semicolon ∷ [])) = (
+        begin,
+        refl,
+        spell_append defined (marked Equals ∷ piece.Tree b ∷ marked Semicolon ∷ [])
+            (defined_tokens t) (mark Equals ∷ last) first
+            (last, refl, (u, end, second, refl, ([], refl, refl))),
+      ) in
+      subst P is (subst Q (sym whole) spelled)
 
   pub prints_first : (layout pieces : List Piece) (spelled : List Lexeme)
       → reverse pieces ≡ layout ++ reverse [] → Spell s layout spelled → Prints s [] pieces spelled

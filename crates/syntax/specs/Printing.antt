@@ -68,12 +68,18 @@ abbrev pub definition : Named → List Lexeme → List Lexeme → List Lexeme
 definition head a b =
     mark (item_mark head) ∷ (a ++ (mark Equals ∷ (b ++ (mark Semicolon ∷ []))))
 
-abbrev pub defined_as : Named → List (List Lexeme) → List Lexeme
-defined_as head (a ∷ b ∷ []) = definition head a b
-defined_as head _ = []
+-- what an item defines: a name, or a call of its head, which may be that of an operator
+abbrev pub name_or_call : Named → List (List Lexeme) → List Lexeme
+name_or_call head [] = atom head ∷ []
+name_or_call head (a ∷ more) = called_with head a more
+
+abbrev pub defined_tokens : Tree → List Lexeme
+defined_tokens (tree head parts) = name_or_call head (tokens_of_each parts)
 
 abbrev pub item_tokens : Tree → List Lexeme
-item_tokens (tree head parts) = defined_as head (tokens_of_each parts)
+item_tokens (tree head (one_more t (one_more u no_more))) =
+    definition head (defined_tokens t) (tokens_of u)
+item_tokens (tree head _) = []
 
 -- the tokens of a program
 abbrev pub program_tokens : Trees → List Lexeme

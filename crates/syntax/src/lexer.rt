@@ -2,7 +2,7 @@
 use crate::fault::Fault;
 use crate::message::{Expected, Stop};
 use crate::token::{PlacedToken, Token};
-use ra_ap_intern::{Symbol, SymbolTable};
+use ra_ap_intern::{Symbol, SymbolRef, SymbolTable};
 use text_run::{Language, Place, Words};
 
 // What the words of the language are.
@@ -38,8 +38,10 @@ pub fn read_line(
         if word.is_empty() {
             break;
         }
-        let is_call = is_name(word) && words.passes::<Syntactic>("(");
-        let token = token_of(word, is_call, place, names)?;
+        let token = match Token::spelled(word) {
+            Some(token) => token,
+            None => name_or_number(word, place, &mut words, names)?,
+        };
         tokens
             .push(PlacedToken { token, place })
             .map_err(Fault::from)?;
@@ -47,39 +49,28 @@ pub fn read_line(
     Ok(())
 }
 
-// Whether a word is a name.
-fn is_name(word: &str) -> bool {
-    word.starts_with(|c: char| c.is_ascii_alphabetic() || c == '_')
-        && Token::spelled(word).is_none()
-}
-
-// The token of a word, of which an open parenthesis may be the end.
-fn token_of(
+// The token of another word: of a name, of which an open parenthesis may be part, or of a number.
+fn name_or_number(
     word: &str,
-    is_call: bool,
     place: Place,
+    words: &mut Words<'_>,
     names: &mut SymbolTable,
 ) -> Result<Token, Stop> {
-    match Token::spelled(word) {
-        Some(token) => Ok(token),
-        None if is_name(word) || word.chars().all(|c| c.is_ascii_digit()) => {
-            Ok(word_token(word, is_call, names)?)
-        }
-        None => Err(Stop::Unexpected {
+    let is_name = word.starts_with(|c: char| c.is_ascii_alphabetic() || c == '_');
+    if is_name && words.passes::<Syntactic>("(") {
+        Ok(Token::Call(symbol(word, names)?))
+    } else if is_name || word.chars().all(|c| c.is_ascii_digit()) {
+        Ok(Token::Atom(symbol(word, names)?))
+    } else {
+        Err(Stop::Unexpected {
             place,
             expected: Expected::Token,
             found: None,
-        }),
+        })
     }
 }
 
-// A name, with its parenthesis or without, or a number. Its symbol stays counted, and so in the
-// table.
-fn word_token(word: &str, is_call: bool, names: &mut SymbolTable) -> Result<Token, Fault> {
-    let symbol = Symbol::intern(names, word)?.as_ref();
-    Ok(if is_call {
-        Token::Call(symbol)
-    } else {
-        Token::Atom(symbol)
-    })
+// The symbol of a word. It stays counted, and so in the table.
+fn symbol(word: &str, names: &mut SymbolTable) -> Result<SymbolRef, Fault> {
+    Ok(Symbol::intern(names, word)?.as_ref())
 }

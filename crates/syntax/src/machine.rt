@@ -256,10 +256,17 @@ impl Machine {
         }
     }
 
-    /// What can stand behind the expression that was read last, in the innermost form.
+    /// What can stand behind the expression that was read last: in the innermost form that doesn't
+    /// end with it.
     pub fn expected_behind(&self) -> Expected {
-        match self.frames.last() {
-            Some(frame) => Expected::After(frame.form, frame.parts.len()),
+        let goes_on = |frame: &Frame| !frame.form.yields(frame.parts.len(), None);
+        let depth = self.frames.iter().rposition(goes_on).unwrap_or(0);
+        match self.frames.get(depth) {
+            Some(frame) => Expected::After {
+                form: frame.form,
+                parts: frame.parts.len(),
+                is_outermost: depth == 0,
+            },
             None => Expected::Item,
         }
     }

@@ -22,8 +22,13 @@ pub enum Expected {
     Parameter,
     /// `=` after what is defined.
     Equals,
-    /// An operator, or what goes on after so many parts of a form.
-    After(Form, usize),
+    /// An operator, or what goes on after so many parts and one more of a form, which is the
+    /// outermost one or stands within another.
+    After {
+        form: Form,
+        parts: usize,
+        is_outermost: bool,
+    },
     /// A token of the language: no character of this kind begins one.
     Token,
 }
@@ -62,23 +67,26 @@ impl Expected {
             Expected::Function => "a name and its parameters",
             Expected::Parameter => "`,` or `)`",
             Expected::Equals => "`=`",
-            Expected::After(form, parts) => after(form, parts),
+            Expected::After {
+                form,
+                parts,
+                is_outermost,
+            } => after(form, parts, is_outermost),
             Expected::Token => "a token",
         }
     }
 }
 
-// What goes on after so many parts of a form.
-fn after(form: Form, parts: usize) -> &'static str {
+// What goes on after so many parts and one more of a form. A semicolon ends only the outermost one.
+fn after(form: Form, parts: usize, is_outermost: bool) -> &'static str {
     match (form, parts) {
         (Form::Group, _) => "an operator or `)`",
         (Form::Call(_), _) => "an operator, `,` or `)`",
         (Form::Choice, 0) => "an operator or `then`",
         (Form::Choice, _) => "an operator or `else`",
-        (Form::Binding, 0) | (Form::Definition, 0) => "`=`",
-        (Form::Binding, _) => "an operator, `in` or `;`",
-        (Form::Definition, _) => "an operator or `;`",
-        (Form::Infix(_), _) => "an operator or `;`",
+        (Form::Binding | Form::Definition, 0) => "`=`",
+        (Form::Binding, _) if !is_outermost => "an operator or `in`",
+        (Form::Binding | Form::Definition | Form::Infix(_), _) => "an operator or `;`",
     }
 }
 

@@ -6,7 +6,7 @@ ghost use Rattle.ra_ap_intern.specs.Symbols.{symbol_name, same_named};
 ghost use Rattle.syntax.specs.Lexeme.{Lexeme, lexeme, operator_of};
 ghost use Rattle.syntax.specs.Parsing.{Stand};
 ghost use Rattle.syntax.specs.Pieces.{Spell, Prints, comma_pieces};
-ghost use Rattle.syntax.specs.Printing.{tokens_of, tokens_of_each, item_tokens, written, called_with, two_parts, three_parts, definition, item_mark, IsItem};
+ghost use Rattle.syntax.specs.Printing.{tokens_of, tokens_of_each, item_tokens, written, called_with, two_parts, three_parts, definition, item_mark, name_or_call, defined_tokens, IsItem};
 ghost use Rattle.syntax.specs.declared.printer.Piece.TheVariants.{Token as token_piece};
 ghost use Rattle.syntax.specs.declared.token.Token.TheVariants.{Mark as mark_token};
 
@@ -43,6 +43,15 @@ impl Syntax {
             IfOk result (λ tokens. list_map lexeme tokens.items ≡ item_tokens t) }
     {
         let layout = self.item_layout(item)?;
+        self.print_pieces(layout, most)
+    }
+
+    /// What an item defines as tokens: a name or a call, also where its head is an operator's.
+    pub fn print_defined(&self, defined: TermRef, most: usize) -> Result<Vec<Token>, Fault>
+        ensures { (t : Tree) → UnfoldsTo self.now.terms (term_name defined) t →
+            IfOk result (λ tokens. list_map lexeme tokens.items ≡ defined_tokens t) }
+    {
+        let layout = self.defined_layout(defined)?;
         self.print_pieces(layout, most)
     }
 
@@ -257,16 +266,44 @@ impl Syntax {
         ensures { (t u : Tree) → UnfoldsTo self.now.terms (term_name defined) t →
             UnfoldsTo self.now.terms (term_name value) u → IfOk result (λ pieces.
             Spell self.now.terms pieces.items (definition (symbol_name head.now)
-            (tokens_of t) (tokens_of u))) }
+            (defined_tokens t) (tokens_of u))) }
     {
+        let name = self.defined_layout(defined)?;
         let keyword = keyword_of(head);
-        Ok(vec![in self.alloc;
-            mark(keyword),
-            Piece::Tree(defined),
+        let mut pieces = vec![in self.alloc; mark(keyword)]?;
+        pieces.extend_from_slice(name.as_slice())?;
+        pieces.extend_from_slice(&[
             mark(Mark::Equals),
             Piece::Tree(value),
             mark(Mark::Semicolon),
-        ]?)
+        ])?;
+        Ok(pieces)
+    }
+
+    // What an item defines as pieces.
+    fn defined_layout(&self, defined: TermRef) -> Result<Vec<Piece>, Fault>
+        ensures { (t : Tree) → UnfoldsTo self.now.terms (term_name defined) t →
+            IfOk result (λ pieces. Spell self.now.terms pieces.items (defined_tokens t)) }
+    {
+        let Some(head) = self.terms.head(defined) else {
+            return Ok(Vec::new(self.alloc));
+        };
+        let Some(parts) = self.terms.args(defined) else {
+            return Ok(Vec::new(self.alloc));
+        };
+        self.spell_defined(head, parts)
+    }
+
+    // A name, or a call of a head over parts.
+    fn spell_defined(&self, head: &Symbol, parts: &[TermRef]) -> Result<Vec<Piece>, Fault>
+        ensures { (ts : Trees) → Stand self.now.terms parts.now ts → IfOk result (λ pieces.
+            Spell self.now.terms pieces.items
+            (name_or_call (symbol_name head.now) (tokens_of_each ts))) }
+    {
+        match parts.split_first() {
+            None => self.spell_atom(head),
+            Some((first, others)) => self.call(head, *first, others),
+        }
     }
 
     /// Writes an expression as a text.
@@ -277,6 +314,16 @@ impl Syntax {
     /// Writes an item as a text.
     pub fn write_item(&self, item: TermRef, most: usize, out: &mut String) -> Result<(), Fault> {
         self.write_tokens(self.print_item(item, most)?.as_slice(), out)
+    }
+
+    /// Writes what an item defines as a text.
+    pub fn write_defined(
+        &self,
+        defined: TermRef,
+        most: usize,
+        out: &mut String,
+    ) -> Result<(), Fault> {
+        self.write_tokens(self.print_defined(defined, most)?.as_slice(), out)
     }
 
     // Writes tokens as a text.

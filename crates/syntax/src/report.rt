@@ -10,14 +10,22 @@ use std::collections::HashMap;
 /// How many pieces of a text are written, and how many parts are looked at, at the most.
 const MOST: usize = 1 << 40;
 
-// An item, under the name that it defines.
+// What an item defines: a name, and how many items before it define the same name.
+#[derive(Clone, Copy, PartialEq, Eq, Hash)]
+struct Definition {
+    name: SymbolRef,
+    earlier: usize,
+}
+
+// An item, under what it defines.
 #[derive(Clone, Copy)]
 struct Item {
-    name: SymbolRef,
+    definition: Definition,
     part: Part,
 }
 
-/// Tells each item that was added, each that was removed, and in each other what changed.
+/// Tells each item that was added, each that was removed, and in each other what changed. Of a name
+/// that is defined more than once, each definition is compared with the one of the same number.
 pub fn tell_changes(
     syntax: &Syntax,
     old: &Program,
@@ -30,15 +38,15 @@ pub fn tell_changes(
     };
     let olds = items_of(syntax, old)?;
     let news = items_of(syntax, new)?;
-    let old_names = under_names(syntax, olds.as_slice())?;
-    let new_names = under_names(syntax, news.as_slice())?;
+    let old_parts = by_definition(syntax, olds.as_slice())?;
+    let new_parts = by_definition(syntax, news.as_slice())?;
     for item in olds.as_slice() {
-        if new_names.get(&item.name).is_none() {
+        if new_parts.get(&item.definition).is_none() {
             tell_item(syntax, "  removed at ", item.part, spots.old, out)?;
         }
     }
     for item in news.as_slice() {
-        match old_names.get(&item.name) {
+        match old_parts.get(&item.definition) {
             None => tell_item(syntax, "  added at ", item.part, spots.new, out)?,
             Some(old) => {
                 let whole = Change {
@@ -52,7 +60,7 @@ pub fn tell_changes(
     Ok(())
 }
 
-// The items of a program, the last first.
+// The items of a program.
 fn items_of(syntax: &Syntax, program: &Program) -> Result<Vec<Item>, Fault> {
     let spots = program.spots.as_slice();
     let mut items = Vec::new(syntax.alloc);
@@ -60,12 +68,26 @@ fn items_of(syntax: &Syntax, program: &Program) -> Result<Vec<Item>, Fault> {
     for tree in program.items.as_slice().iter().rev() {
         let part = Part { tree: *tree, spot };
         if let Some(name) = defined(syntax, part) {
-            items.push(Item { name, part })?;
+            let definition = Definition { name, earlier: 0 };
+            items.push(Item { definition, part })?;
         }
         spot = before(spots, spot);
     }
     items.reverse();
+    count_earlier(syntax, items.as_mut_slice())?;
     Ok(items)
+}
+
+// Notes of each item how many before it define the same name.
+fn count_earlier(syntax: &Syntax, items: &mut [Item]) -> Result<(), Fault> {
+    let mut counts: HashMap<SymbolRef, usize> = HashMap::new(syntax.alloc);
+    for item in items.iter_mut() {
+        let name = item.definition.name;
+        let earlier = counts.get(&name).copied().unwrap_or(0);
+        item.definition.earlier = earlier;
+        counts.insert(name, earlier.saturating_add(1))?;
+    }
+    Ok(())
 }
 
 // The name that an item defines: the head of its first part.
@@ -74,12 +96,13 @@ fn defined(syntax: &Syntax, item: Part) -> Option<SymbolRef> {
     Some(syntax.terms.head(*first)?.as_ref())
 }
 
-fn under_names(syntax: &Syntax, items: &[Item]) -> Result<HashMap<SymbolRef, Part>, Fault> {
-    let mut names = HashMap::new(syntax.alloc);
+// The items under what they define.
+fn by_definition(syntax: &Syntax, items: &[Item]) -> Result<HashMap<Definition, Part>, Fault> {
+    let mut parts = HashMap::new(syntax.alloc);
     for item in items {
-        names.insert(item.name, item.part)?;
+        parts.insert(item.definition, item.part)?;
     }
-    Ok(names)
+    Ok(parts)
 }
 
 // Tells an item that was added or removed.
@@ -105,12 +128,30 @@ fn tell_changed(
     let changes = syntax.changes(whole, spots, MOST)?;
     for change in changes.as_slice() {
         tell_place("  changed at ", change.old, spots.old, out)?;
-        syntax.write(change.old.tree, MOST, out)?;
+        write_part(syntax, whole.old, change.old, spots.old, out)?;
         tell_place(", now at ", change.new, spots.new, out)?;
-        syntax.write(change.new.tree, MOST, out)?;
+        write_part(syntax, whole.new, change.new, spots.new, out)?;
         out.push('\n')?;
     }
     Ok(())
+}
+
+// Writes a part of an item as it stands there: all of the item, what it defines, or an expression.
+fn write_part(
+    syntax: &Syntax,
+    item: Part,
+    part: Part,
+    spots: &[Spot],
+    out: &mut String,
+) -> Result<(), Fault> {
+    let value = item.spot.saturating_sub(1);
+    if part.spot == item.spot {
+        syntax.write_item(part.tree, MOST, out)
+    } else if part.spot == before(spots, value) {
+        syntax.write_defined(part.tree, MOST, out)
+    } else {
+        syntax.write(part.tree, MOST, out)
+    }
 }
 
 // Tells what became of a part, and where it begins.

@@ -6,7 +6,7 @@ use crate::message::{Expected, Stop, write_token};
 use crate::parser::Program;
 use crate::report::tell_changes;
 use crate::syntax::Syntax;
-use crate::token::Token;
+use crate::token::{PlacedToken, Token};
 use std::alloc::{AllocError, Global};
 use text_run::Place;
 
@@ -45,7 +45,7 @@ pub fn answer_all(alloc: Global, text: &str) -> Result<String, Fault> {
 
 impl Session {
     // Tells the version of these lines, of which the first has this number. One with an error is
-    // passed over, and the next is compared with the one before it.
+    // passed over with its trees, and the next is compared with the one before it.
     fn tell(&mut self, lines: &[&str], first: u64) -> Result<(), Fault> {
         self.number = self.number.saturating_add(1);
         let stored = self.syntax.terms.len();
@@ -58,21 +58,40 @@ impl Session {
                     expected,
                     found,
                 },
-            ) => Ok(self.tell_error(place, expected, found)?),
+            ) => {
+                self.tell_error(place, expected, found)?;
+                self.collect()?;
+                Ok(())
+            }
         }
     }
 
-    // The program of these lines.
+    // The program of these lines. Of several errors in them the first is told.
     fn program(&mut self, lines: &[&str], first: u64) -> Result<Program, Stop> {
         let mut tokens = Vec::new(self.syntax.alloc);
+        let read = self.read_lines(lines, first, &mut tokens);
+        let checked = check_headers(tokens.as_slice(), &self.syntax.names);
+        let line = first.saturating_add(lines.len() as u64);
+        let parsed = self
+            .syntax
+            .parse(tokens.as_slice(), Place { line, column: 1 });
+        unless_stopped(read, unless_stopped(checked, parsed))
+    }
+
+    // Adds the tokens of lines, of which the first has this number. `Unexpected` when a word is no
+    // token, with those before it added.
+    fn read_lines(
+        &mut self,
+        lines: &[&str],
+        first: u64,
+        tokens: &mut Vec<PlacedToken>,
+    ) -> Result<(), Stop> {
         let mut line = first;
         for text in lines {
-            read_line(text, line, &mut self.syntax.names, &mut tokens)?;
+            read_line(text, line, &mut self.syntax.names, tokens)?;
             line = line.saturating_add(1);
         }
-        check_headers(tokens.as_slice(), &self.syntax.names)?;
-        self.syntax
-            .parse(tokens.as_slice(), Place { line, column: 1 })
+        Ok(())
     }
 
     // Tells how large a program is and what changed, and keeps no other trees than its own.
@@ -89,10 +108,15 @@ impl Session {
             tell_changes(&self.syntax, &self.before, &program, &mut self.out)?;
         }
         self.before = program;
-        let roots = self.before.items.as_slice();
-        let removed = self.syntax.terms.collect_keeping(roots)?.removed;
+        let removed = self.collect()?;
         write!(self.out, "  {removed} terms are gone\n")?;
         Ok(())
+    }
+
+    // Keeps no other trees than those of the version before, and counts those that are gone.
+    fn collect(&mut self) -> Result<usize, Fault> {
+        let roots = self.before.items.as_slice();
+        Ok(self.syntax.terms.collect_keeping(roots)?.removed)
     }
 
     fn tell_error(
@@ -115,5 +139,28 @@ impl Session {
             self.out.push('`')?;
         }
         self.out.push('\n')
+    }
+}
+
+// A program that was read, if nothing else stopped before. Of two stops the first in the text.
+fn unless_stopped(
+    stopped: Result<(), Stop>,
+    parsed: Result<Program, Stop>,
+) -> Result<Program, Stop> {
+    match (stopped, parsed) {
+        (Err(stop), Err(other)) if is_before(other, stop) => Err(other),
+        (Err(stop), _) => Err(stop),
+        (Ok(()), parsed) => parsed,
+    }
+}
+
+// Whether a stop is told in place of another: a fault, or the error that comes first in the text.
+fn is_before(stop: Stop, other: Stop) -> bool {
+    match (stop, other) {
+        (Stop::Fault(_), _) => true,
+        (Stop::Unexpected { .. }, Stop::Fault(_)) => false,
+        (Stop::Unexpected { place, .. }, Stop::Unexpected { place: behind, .. }) => {
+            (place.line, place.column) < (behind.line, behind.column)
+        }
     }
 }

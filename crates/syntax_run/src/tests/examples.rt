@@ -92,7 +92,7 @@ fn errors_are_told_with_their_places(rt: HostRuntime) {
         ),
         (
             "let x = 1 2;",
-            "version 1: line 1, column 11: expected an operator, `in` or `;`, and found `2`\n",
+            "version 1: line 1, column 11: expected an operator or `;`, and found `2`\n",
         ),
         (
             "let 3 = 1;",
@@ -105,6 +105,164 @@ fn errors_are_told_with_their_places(rt: HostRuntime) {
         (
             "1 + 2;",
             "version 1: line 1, column 1: expected `fn` or `let`, and found `1`\n",
+        ),
+    ];
+    for (text, expected) in texts.iter() {
+        check_told(&rt, rt.alloc(), text, expected);
+    }
+}
+
+#[test]
+fn what_is_defined_is_written_as_a_call(rt: HostRuntime) {
+    for line in [
+        "fn add(x, y) = x;",
+        "fn sub(x, y) = x;",
+        "fn mul(x, y) = x;",
+        "fn div(x, y) = x;",
+        "fn lt(x, y) = x;",
+        "fn eq(x, y) = x;",
+    ] {
+        check_print(&rt, rt.alloc(), line, line);
+        check_told(
+            &rt,
+            rt.alloc(),
+            line,
+            "version 1: 5 terms, 4 distinct, 4 new\n  0 terms are gone\n",
+        );
+    }
+    check_told(
+        &rt,
+        rt.alloc(),
+        "let a = 1;\n---\nlet a = 1;\nfn add(x, y) = x * y;",
+        "version 1: 3 terms, 3 distinct, 3 new
+  0 terms are gone
+version 2: 10 terms, 8 distinct, 5 new
+  added at 4:1: fn add(x, y) = (x * y);
+  0 terms are gone
+",
+    );
+    check_told(
+        &rt,
+        rt.alloc(),
+        "fn add(x) = x;\n---\nfn add(x, y) = x;",
+        "version 1: 4 terms, 3 distinct, 3 new
+  0 terms are gone
+version 2: 5 terms, 4 distinct, 3 new
+  changed at 1:4: add(x), now at 3:4: add(x, y)
+  2 terms are gone
+",
+    );
+}
+
+#[test]
+fn a_whole_item_that_changed_is_written_as_an_item(rt: HostRuntime) {
+    check_told(
+        &rt,
+        rt.alloc(),
+        "let f = 1;\n---\nfn f(a) = a;",
+        "version 1: 3 terms, 3 distinct, 3 new
+  0 terms are gone
+version 2: 4 terms, 3 distinct, 3 new
+  changed at 1:1: let f = 1;, now at 3:1: fn f(a) = a;
+  3 terms are gone
+",
+    );
+}
+
+#[test]
+fn definitions_of_one_name_are_compared_by_their_numbers(rt: HostRuntime) {
+    check_told(
+        &rt,
+        rt.alloc(),
+        "let x = 1;
+let x = 2;
+---
+let x = 1;
+let x = 2;
+---
+let x = 1;
+let x = 3;
+---
+let x = 1;
+",
+        "version 1: 6 terms, 5 distinct, 5 new
+  0 terms are gone
+version 2: 6 terms, 5 distinct, 0 new
+  0 terms are gone
+version 3: 6 terms, 5 distinct, 2 new
+  changed at 5:9: 2, now at 8:9: 3
+  2 terms are gone
+version 4: 3 terms, 3 distinct, 0 new
+  removed at 8:1: let x = 3;
+  2 terms are gone
+",
+    );
+}
+
+#[test]
+fn trees_of_a_version_with_an_error_are_not_counted(rt: HostRuntime) {
+    check_told(
+        &rt,
+        rt.alloc(),
+        "let a = 1;\n---\nlet b = 2 + ;\n---\nlet b = 2;",
+        "version 1: 3 terms, 3 distinct, 3 new
+  0 terms are gone
+version 2: line 3, column 13: expected an expression, and found `;`
+version 3: 3 terms, 3 distinct, 3 new
+  removed at 1:1: let a = 1;
+  added at 5:1: let b = 2;
+  3 terms are gone
+",
+    );
+}
+
+#[test]
+fn what_is_expected_goes_on_in_an_open_form(rt: HostRuntime) {
+    let texts = [
+        (
+            "let x = (1 + 2",
+            "version 1: line 2, column 1: expected an operator or `)`\n",
+        ),
+        (
+            "let x = if a then b else c",
+            "version 1: line 2, column 1: expected an operator or `;`\n",
+        ),
+        (
+            "let x = f(if a then b else c",
+            "version 1: line 2, column 1: expected an operator, `,` or `)`\n",
+        ),
+        (
+            "let x = (let y = 1;",
+            "version 1: line 1, column 19: expected an operator or `in`, and found `;`\n",
+        ),
+        (
+            "let x = let y = 1 2",
+            "version 1: line 1, column 19: expected an operator or `in`, and found `2`\n",
+        ),
+    ];
+    for (text, expected) in texts.iter() {
+        check_told(&rt, rt.alloc(), text, expected);
+    }
+}
+
+#[test]
+fn the_first_of_several_errors_is_told(rt: HostRuntime) {
+    let texts = [
+        (
+            "let x = ;\nlet y = 1 $ 2;",
+            "version 1: line 1, column 9: expected an expression, and found `;`\n",
+        ),
+        (
+            "let x = ;\nlet 3 = 1;",
+            "version 1: line 1, column 9: expected an expression, and found `;`\n",
+        ),
+        (
+            "let 3 = 1;\nlet x = ;\nlet y = 1 $ 2;",
+            "version 1: line 1, column 5: expected a name, and found `3`\n",
+        ),
+        (
+            "let x = $;\nlet 3 = ;",
+            "version 1: line 1, column 9: expected a token\n",
         ),
     ];
     for (text, expected) in texts.iter() {

@@ -1,0 +1,16 @@
+use Rattle.std.specs.Prelude.{IfOk}
+use Rattle.intern_terms.specs.Handle.{term_name}
+use Rattle.syntax.specs.Pieces.{Spell}
+use Rattle.syntax.proofs.Spelled.{defined_tree, unread}
+use Rattle.syntax.proofs.syntax.Syntax.defined_layout.Goals as goal
+
+pub returns-in_default : goal.returns-in_default
+returns-in_default c t stands =
+    absurd (unread c.args.self.now.terms (term_name c.args.defined) t c.in_default.ensures stands)
+
+pub returns : goal.returns
+returns c t stands =
+    defined_tree c.args.self.now.terms (term_name c.args.defined) t c.in-Some.head.now
+    c.in-Some-args.parts.now c.in-Some.ensures c.in-Some-args.ensures stands
+    (λ ls. IfOk c.spell_defined.result (λ pieces. Spell c.args.self.now.terms pieces.items ls))
+    c.spell_defined.ensures
