@@ -16,6 +16,7 @@ mod scene;
 mod slices;
 mod storage;
 mod symbols;
+mod texts;
 mod two_texts;
 mod values;
 mod worlds;
@@ -28,6 +29,7 @@ use crate::reserved::check_reserved;
 use crate::scene::check;
 use crate::slices::Row;
 use crate::symbols::{Call, Symbols};
+use crate::texts::Texts;
 use crate::two_texts::check_two_texts;
 use crate::values::{OneHash, Term};
 use crate::worlds::{check_keeping, check_new, check_one_value, check_runs};
@@ -38,6 +40,7 @@ use std::process::ExitCode;
 /// Checks each call. Another call joins by a line.
 fn check_all(rt: &(impl Print + Eprint), alloc: Global) -> Result<(), Fault> {
     check(rt, alloc, InternStorage::<Text>::new(alloc, 1))?;
+    check(rt, alloc, Texts(InternStorage::new(alloc, 1)))?;
     check(rt, alloc, InternStorage::<OneHash>::new(alloc, 2))?;
     check(rt, alloc, InternStorage::<Term>::new(alloc, 3))?;
     check(rt, alloc, InternSliceStorage::<Row>::new(alloc, 4))?;

@@ -7,8 +7,8 @@ use crate::scene::room;
 use crate::values::text_of;
 use intern_fixtures::Unhashed;
 use ra_ap_intern::{
-    InternSliceStorage, InternStorage, Interned, Refused, SliceInternable, Symbol, SymbolTable,
-    Text,
+    InternSliceStorage, InternStorage, Interned, NearSliceStorage, Refused, SliceInternable,
+    Symbol, SymbolTable, Text,
 };
 use std::alloc::Global;
 
@@ -24,6 +24,10 @@ const VALUES: &str = "Storage::reserve, of values";
 const SLICES: &str = "Storage::reserve, of slices";
 
 const ALL_ITEMS: &str = "Reserved::reserve_items";
+
+const NEAR_SLICES: &str = "Storage::reserve, of near slices";
+
+const TEXT_VALUES: &str = "Storage::reserve, of texts";
 
 const TEXTS: &str = "SymbolTable::reserve";
 
@@ -48,6 +52,8 @@ pub(crate) fn check_reserved(rt: &(impl Print + Eprint), alloc: Global) -> Resul
     use_a_slot_again(&mut used)?;
     reserve_values(rt, &mut used)?;
     reserve_slices(rt, &mut InternSliceStorage::new(alloc, 1))?;
+    reserve_near_slices(rt, &mut NearSliceStorage::new(alloc, 1))?;
+    reserve_text_values(rt, alloc, &mut InternStorage::new(alloc, 1))?;
     reserve_texts(rt, alloc, &mut SymbolTable::new(alloc, 1))
 }
 
@@ -122,6 +128,54 @@ fn reserve_slices(
     )?;
     println!(rt; "{SLICES}: {}", storage.len())?;
     println!(rt; "{ALL_ITEMS}: {}", ENTRIES * ITEMS)?;
+    Ok(())
+}
+
+// Items that lie in their entries want no room beside these.
+fn reserve_near_slices(
+    rt: &(impl Print + Eprint),
+    storage: &mut NearSliceStorage<Row, ITEMS>,
+) -> Result<(), Fault> {
+    marks::asks(rt, NEAR_SLICES);
+    if storage.reserve(ENTRIES).is_err() {
+        marks::refused(rt, NEAR_SLICES);
+        storage.reserve(ENTRIES)?;
+    }
+    marks::takes_none(rt, "Reserved::intern, of near slices");
+    let room = storage.reserve(ENTRIES)?;
+    for number in 0..ENTRIES as u64 {
+        room.intern(number, &[number; ITEMS])?;
+    }
+    ensure(
+        storage.len() == ENTRIES,
+        "a near slice isn't stored in the room for it",
+    )?;
+    println!(rt; "{NEAR_SLICES}: {}", storage.len())?;
+    Ok(())
+}
+
+fn reserve_text_values(
+    rt: &(impl Print + Eprint),
+    alloc: Global,
+    storage: &mut InternStorage<Text>,
+) -> Result<(), Fault> {
+    marks::prepares(rt);
+    let texts = short_texts(alloc)?;
+    marks::asks(rt, TEXT_VALUES);
+    if storage.reserve(ENTRIES).is_err() {
+        marks::refused(rt, TEXT_VALUES);
+        storage.reserve(ENTRIES)?;
+    }
+    marks::takes_none(rt, "Reserved::intern_text");
+    let room = storage.reserve(ENTRIES)?;
+    for text in texts.iter() {
+        room.intern_text(text.as_str())?;
+    }
+    ensure(
+        storage.len() == ENTRIES,
+        "a text isn't stored as a value in the room for it",
+    )?;
+    println!(rt; "{TEXT_VALUES}: {}", storage.len())?;
     Ok(())
 }
 

@@ -1,5 +1,5 @@
 //! Where the items of slices lie: in the entries, or in one vector with those of others.
-ghost use Rattle.std.specs.Prelude.{◌≡◌, ◌<◌, ◌≤◌, ◌↔◌, ℕ, List, Option, None, IfSome, IsSome, IsTrue, false, length, take};
+ghost use Rattle.std.specs.Prelude.{◌≡◌, ◌<◌, ◌≤◌, ◌↔◌, ℕ, List, Option, None, IfSome, IsSome, length, take, nat_le, if◌then◌else◌};
 ghost use Rattle.std.specs.Option.{option_map};
 ghost use Rattle.intern_table.specs.Joined.{far_length, items_in};
 ghost use Rattle.intern_table.specs.Read.{read, shown_row};
@@ -33,12 +33,13 @@ pub trait NearItems<S>: Drop {
     // The items, with others behind them; none where they lie in the vector.
     ghost near_of: { Self → Option (List S) };
 
-    // Whether so many items lie in an entry.
-    ghost Keeps: { ℕ → Type 0 };
+    // How many of so many items lie outside of the entry, in the vector.
+    ghost outside: { ℕ → ℕ };
 
     /// What an entry is to have of these items.
     fn of(items: &[S]) -> Self
-        ensures keeps { IsSome (near_of result) ↔ Keeps (length items.now) }
+        ensures outside { far_length (near_of result) (length items.now)
+            ≡ outside (length items.now) }
         ensures items { IfSome (near_of result) (λ own. take (length items.now) own ≡ items.now) };
 
     /// The items, with others behind them; none where they lie in the vector.
@@ -53,7 +54,7 @@ pub struct NoItems;
 impl<S> NearItems<S> for NoItems {
     ghost near_of = { λ _. None };
 
-    ghost Keeps = { λ _. IsTrue false };
+    ghost outside = { λ n. n };
 
     fn of(_items: &[S]) -> NoItems {
         NoItems
@@ -88,7 +89,7 @@ fn filled<S: Copy, const N: usize>(items: &[S]) -> Option<[S; N]>
 impl<S: Copy, const N: usize> NearItems<S> for OwnItems<S, N> {
     ghost near_of = { λ a. a.items };
 
-    ghost Keeps = { λ n. (0 < n) × (n ≤ N) };
+    ghost outside = { λ n. if nat_le n N then 0 else n };
 
     fn of(items: &[S]) -> OwnItems<S, N> {
         OwnItems {

@@ -236,7 +236,7 @@ impl<'a, H: Hash + Eq, S: Hash + Eq + Copy, A: NearItems<S>, B: BuildHasher> Fin
 
 impl<'a, H: Hash + Eq, S: Hash + Eq + Copy, A: NearItems<S>, B: BuildHasher> Takes<(H, &'a [S])>
     for SliceTable<H, S, A, B> {
-    ghost outside = { λ o. length o.1.now };
+    ghost outside = { λ o. A.outside (length o.1.now) };
 
     fn insert(
         &mut self,

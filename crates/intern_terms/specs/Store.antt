@@ -1,5 +1,5 @@
 -- What a store of terms holds, and the words of its contracts.
-use Rattle.std.specs.Prelude.{◌≡◌, ◌<◌, Bool, true, ◌&&◌, List, [], ◌∷◌, map as list_map, Option, Some, None, IsSome}
+use Rattle.std.specs.Prelude.{◌≡◌, ◌<◌, ℕ, Bool, true, ◌&&◌, if◌then◌else◌, List, [], ◌∷◌, map as list_map, Option, Some, None, IsSome}
 use Rattle.std.specs.Cmp.Lexicographic.{pointwise}
 use Rattle.std.specs.FinMap as map
 use Rattle.std.specs.Option.{option_or}
@@ -12,10 +12,14 @@ use Rattle.ra_ap_intern.specs.Named.{same_name}
 use Rattle.ra_ap_intern.specs.Sliced.{Sliced}
 use Rattle.ra_ap_intern.specs.Slices.{due_slice}
 use Rattle.ra_ap_intern.specs.State.{State, IsState, name_in, reads, due, any_count}
-use Rattle.ra_ap_intern.specs.Symbols.{same_named, symbol_name}
+use Rattle.ra_ap_intern.specs.Symbols.{given_up, same_named, symbol_name}
 use Rattle.ra_ap_intern.specs.declared.symbol.Symbol.{Symbol}
 use Rattle.intern_terms.specs.Handle.{term_name}
 use Rattle.intern_terms.specs.declared.handle.TermRef.{TermRef}
+
+-- what a term is: its head, with its arguments
+abbrev pub Node : Type 0
+Node = Sliced Symbol TermRef
 
 -- the names of a term's arguments, in order
 abbrev pub arguments : Sliced Symbol TermRef → List Name
@@ -64,3 +68,10 @@ declared_by = sliced_children (λ _. []) (λ items. list_map term_name items)
 -- a store's terms, as a collection sees them
 abbrev pub terms_of : State (Sliced Symbol TermRef) → List Entry
 terms_of s = entries_of declared_by s
+
+-- a table, once the heads of the terms that aren't kept gave up their counts, in this order
+abbrev pub without_heads : (Name → Bool) → List (Name × (Node × ℕ)) → State (List ℕ)
+    → State (List ℕ)
+without_heads kept [] heads = heads
+without_heads kept (term ∷ terms) heads = without_heads kept terms
+    (if kept term.0 then heads else given_up heads (symbol_name term.1.0.header))

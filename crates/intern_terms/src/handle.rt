@@ -57,8 +57,10 @@ impl GcInternedVisit for TermRef {
 
 /// A term that is kept: while it is, no collection removes it, or a term in its tree.
 ///
-/// One that is dropped without `release` keeps its count.
+/// One that is dropped without `release` keeps its count. It is compared, ordered and hashed by its
+/// name alone, as a [`TermRef`].
 #[derive(Drop)]
+#[derive(PartialEq, Eq, PartialOrd, Ord, Hash)]
 pub struct Term {
     pub(crate) owned: InternedSlice<Terms>,
 }
@@ -71,7 +73,7 @@ impl fmt::Debug for TermRef {
 
 impl fmt::Debug for Term {
     fn fmt<W: fmt::Write>(&self, f: &mut fmt::Formatter<W>) -> fmt::Result {
-        write!(f, "Term({})", self.as_ref().name())
+        write!(f, "Term({})", self.name())
     }
 }
 
@@ -92,5 +94,20 @@ impl Term {
         TermRef {
             reference: self.owned.as_ref(),
         }
+    }
+
+    /// The term's name: the store's number and the birth.
+    pub fn name(&self) -> Name
+        ensures { result ≡ owned_name self.now }
+    {
+        self.owned.name()
+    }
+}
+
+impl<'a> From<&'a Term> for TermRef {
+    ghost from_gives = { λ term reference. term_name reference ≡ owned_name term.now };
+
+    fn from(term: &'a Term) -> TermRef {
+        term.as_ref()
     }
 }

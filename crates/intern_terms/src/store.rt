@@ -1,5 +1,5 @@
 //! The store of terms.
-ghost use Rattle.std.specs.Prelude.{◌≡◌, ◌<◌, ◌≤◌, ◌==◌, List, map as list_map, Some, None, IsSome, is_some, IsPermutation, IfOk, OnErr};
+ghost use Rattle.std.specs.Prelude.{◌≡◌, ◌<◌, ◌≤◌, ◌==◌, ℕ, List, map as list_map, Some, None, IsSome, is_some, IsPermutation, IfOk, OnErr};
 ghost use Rattle.std.specs.FinMap as map;
 ghost use Rattle.std.specs.Option.{option_map};
 ghost use Rattle.ra_ap_intern.specs.Names.{has};
@@ -8,18 +8,18 @@ ghost use Rattle.ra_ap_intern.specs.Memory.{least_memory};
 ghost use Rattle.ra_ap_intern.specs.Name.{Name as TermName};
 ghost use Rattle.ra_ap_intern.specs.Outcome.{Owes, OwesBack, MayWantBack, Becomes};
 ghost use Rattle.ra_ap_intern.specs.Reach.{starts, starts_with};
-ghost use Rattle.ra_ap_intern.specs.Slices.{slice_of, slice_name_in, slice_in, slice_back, is_new_slice};
+ghost use Rattle.ra_ap_intern.specs.Slices.{slice_of, slice_name_in, slice_in, slice_back, is_new_slice, named_slices};
 ghost use Rattle.ra_ap_intern.specs.State.{new_state, name_of_value, reads, counts, counted_up, counted_down, due, full, zero_count, any_count};
 ghost use Rattle.ra_ap_intern.specs.Symbols.{symbol_name};
 ghost use Rattle.intern_terms.specs.Handle.{term_name, owned_name};
-ghost use Rattle.intern_terms.specs.Store.{IsTerms, names_in, same_node, due_arguments, due_term, terms_of};
+ghost use Rattle.intern_terms.specs.Store.{IsTerms, Node, names_in, same_node, due_arguments, due_term, terms_of, without_heads};
 ghost use Rattle.intern_terms.specs.Tree.{Tree as TermTree, Trees as TermTrees, tree as tree_of, UnfoldsTo, AllUnfold};
 
 use crate::handle::{Term, TermRef, Terms};
 use crate::iter::TermIter;
 use ra_ap_intern::{
-    Collected, FixedState, GarbageCollector, InternSliceStorage, InternedSlice, Limits, Refusal,
-    Refused, Symbol,
+    Collected, FixedState, GarbageCollector, InternSliceStorage, InternedSlice, Limits, Name,
+    Refusal, Refused, Symbol, SymbolTable, Trace,
 };
 use std::alloc::{AllocError, Global};
 use std::hash::BuildHasher;
@@ -192,6 +192,15 @@ impl<B: BuildHasher> TermStore<B> {
         }
     }
 
+    /// A term's head with its arguments. None for a term of another store, or one that is gone.
+    pub fn node(&self, term: TermRef) -> Option<(&Symbol, &[TermRef])>
+        ensures { option_map (λ r. slice_of r.0.now r.1.now) result
+            ≡ reads self.now (term_name term) }
+    {
+        let read = term.reference.get(&self.terms)?;
+        Some((read.header.header, read.slice))
+    }
+
     /// A term's head. None for a term of another store, or one that is gone.
     pub fn head(&self, term: TermRef) -> Option<&Symbol>
         ensures { option_map (λ h. h.now) result
@@ -206,6 +215,16 @@ impl<B: BuildHasher> TermStore<B> {
             ≡ option_map (λ v. v.items) (reads self.now (term_name term)) }
     {
         Some(term.reference.get(&self.terms)?.slice)
+    }
+
+    /// The term of a name, which may come from anywhere. It looks the birth up, and takes no memory.
+    /// Refused: `Foreign`, `Gone`.
+    pub fn named(&self, name: Name) -> Result<TermRef, Refusal>
+        ensures ok { IfOk result (λ t. term_name t ≡ name) }
+        ensures refused { Owes result (due self.now name any_count) }
+    {
+        let reference = self.terms.reference(name)?;
+        Ok(TermRef { reference })
     }
 
     /// Keeps a term, and so all that is in its tree: it is counted once more.
@@ -223,8 +242,8 @@ impl<B: BuildHasher> TermStore<B> {
     }
 
     /// Removes every term that is in no tree of a term that is kept. No birth is given again. The head
-    /// of a term that goes keeps its count in its table. Where there is no memory, `AllocError`, and
-    /// the store is as it was.
+    /// of a term that goes keeps its count in its table ([`TermStore::collect_releasing`] gives it up).
+    /// Where there is no memory, `AllocError`, and the store is as it was.
     pub fn collect(&mut self) -> Result<Collected, AllocError>
         ensures ok { IfOk result (λ told. (names : List TermName)
             × IsCollection (starts (terms_of self.old)) (terms_of self.old) names told
@@ -248,6 +267,45 @@ impl<B: BuildHasher> TermStore<B> {
             UnfoldsTo self.old name t → UnfoldsTo self.new name t }
     {
         GarbageCollector::new(self.alloc).collect_from(&mut self.terms, &roots)
+    }
+
+    /// Does what [`TermStore::collect_keeping`] does, and gives up what the heads of the terms that go
+    /// count in a table: a text that nothing else counts goes with them. A head that is a preset, or
+    /// that the table can't read, changes nothing there. Where there is no memory, `AllocError`, and
+    /// both are as they were.
+    pub fn collect_releasing<N: BuildHasher>(
+        &mut self,
+        roots: &[TermRef],
+        heads: &mut SymbolTable<N>,
+    ) -> Result<Collected, AllocError>
+        ensures ok { IfOk result (λ told. (names : List TermName)
+            × IsCollection (starts_with (list_map term_name roots.now) (terms_of self.old))
+            (terms_of self.old) names told
+            × (self.new ≡ kept_named self.old (has names))
+            × (listed : List (TermName × (Node × ℕ)))
+            × IsPermutation listed (named_slices self.old)
+            × (heads.new ≡ without_heads (has names) listed heads.old)) }
+        ensures err { OnErr result ((self.new ≡ self.old) × (heads.new ≡ heads.old)) }
+        ensures trees { (name : TermName) (t : TermTree) → IsSome (reads self.new name) →
+            UnfoldsTo self.old name t → UnfoldsTo self.new name t }
+    {
+        let trace = GarbageCollector::new(self.alloc).trace(&self.terms, &roots)?;
+        self.release_heads(&trace, heads);
+        Ok(trace.sweep(&mut self.terms))
+    }
+
+    // Gives up the heads of the terms that don't stay.
+    fn release_heads<N: BuildHasher>(&self, trace: &Trace, heads: &mut SymbolTable<N>)
+        ensures { (listed : List (TermName × (Node × ℕ)))
+            × IsPermutation listed (named_slices self.now)
+            × (heads.new ≡ without_heads (has trace.now.marked) listed heads.old) }
+    {
+        for (term, node) in self.terms.iter() {
+            if !trace.keeps(term) {
+                let head = node.header.header.as_ref();
+                let _ = head.decrease_refcount(heads);
+            }
+        }
     }
 
     // Where the store's memory is from.
@@ -281,6 +339,18 @@ impl<B: BuildHasher> TermStore<B> {
             Some(_) => None,
             None => Some(Refusal::Gone),
         }
+    }
+}
+
+impl<'a, B: BuildHasher> IntoIterator for &'a TermStore<B> {
+    type Item = TermRef;
+
+    type IntoIter = TermIter<'a>;
+
+    ghost into_iter_gives = { λ store terms. IsPermutation terms (names_in store.now) };
+
+    fn into_iter(self) -> TermIter<'a> {
+        self.iter()
     }
 }
 

@@ -9,12 +9,13 @@ use Rattle.std.specs.declared.cmp.Ordering.TheVariants.{Less, Greater}
 use Rattle.intern_presets.specs.Presets.{preset_text, place_of}
 use Rattle.intern_store.specs.Kept.{Kept}
 use Rattle.intern_store.specs.Named.{key_name, same_name}
-use Rattle.intern_store.specs.State.{State, entry_at, name_in, name_of_value, reads, counts, is_new, interned_name, interned_counted, due, due_interning, full}
+use Rattle.intern_store.specs.State.{State, entry_at, name_in, name_of_value, reads, counts, is_new, interned_name, interned_counted, due, due_interning, full, any_count, released}
 use Rattle.intern_store.specs.declared.names.Name.{Name}
 use Rattle.intern_store.specs.declared.refusal.Refusal.{Refusal}
 use Rattle.ra_ap_intern.specs.Handle.{name_cmp}
 use Rattle.ra_ap_intern.specs.declared.symbol.Symbol.{Symbol}
 use Rattle.ra_ap_intern.specs.declared.symbol.SymbolRef.{SymbolRef}
+use Rattle.ra_ap_intern.specs.declared.symbol.display.SymbolDisplay.{SymbolDisplay}
 use Rattle.ra_ap_intern.specs.declared.symbol.packed.Packed.{Packed}
 use Rattle.ra_ap_intern.specs.declared.symbol.packed.Source.{Source}
 use Rattle.ra_ap_intern.specs.declared.symbol.packed.Source.TheVariants.{Preset, Runtime}
@@ -59,6 +60,10 @@ symbol_name s = source_name (source_of s.0)
 abbrev pub symbol_ref_name : SymbolRef → Named
 symbol_ref_name s = source_name (source_of s.0)
 
+-- a symbol that is to be written, and the table that reads it
+abbrev pub displayed : {B H : Type 0} → SymbolDisplay B H → Named × State (List ℕ)
+displayed d = (symbol_ref_name d.symbol, d.table.now)
+
 -- the name of a symbol's entry; presets have none
 abbrev pub entry_name : Named → Option Name
 entry_name (preset place) = None
@@ -93,6 +98,10 @@ abbrev pub at_entry : (State (List ℕ) → ℕ → State (List ℕ)) → State 
     → State (List ℕ)
 at_entry change s (preset place) = s
 at_entry change s (entry name) = change s name.birth
+
+-- a table, in which one count of a symbol is given up where it is there
+abbrev pub given_up : State (List ℕ) → Named → State (List ℕ)
+given_up s name = if is_none (due_of s name any_count) then at_entry (released false) s name else s
 
 -- a symbol, and the table in which it is counted
 pub record Counted : Type 0 where

@@ -7,7 +7,7 @@
 //! A handle that is dropped without `release` keeps its count.
 ghost use Rattle.std.specs.Prelude.{◌≡◌, ◌<◌, if◌then◌else◌, true, false, Bool, IsPermutation, IfOk, option_copied};
 ghost use Rattle.std.specs.Option.{option_map};
-ghost use Rattle.intern_store.specs.Outcome.{Owes, OwesBack, MayWantBack, Becomes, Spends};
+ghost use Rattle.intern_store.specs.Outcome.{Owes, OwesBack, MayWant, MayWantBack, Becomes, Spends};
 ghost use Rattle.intern_store.specs.State.{name_in, entry_at, reads, is_new, interned, interned_name, interned_counted, given_back, name_of_value, named_values, due, due_at, due_interning, full, zero_count, any_count, freed, released};
 ghost use Rattle.ra_ap_intern.specs.Handle.{name_of, ref_name};
 
@@ -59,6 +59,34 @@ impl<T: Internable, B: BuildHasher> InternStorage<T, B> {
             number: self.inner.store.number(),
             entries: self.inner.store.table().iter(),
         }
+    }
+}
+
+impl<T: Internable + Drop, B: BuildHasher> InternStorage<T, B> {
+    /// Counted mode: the owned handle that [`Interned::new`] gives, and nothing beside it. The value
+    /// is dropped where an equal one is stored, and where it is refused: for the same reasons.
+    pub fn get_or_intern(&mut self, obj: T) -> Result<Interned<T>, Refusal>
+        requires { T.Internable.USE_GC ≡ false }
+        ensures name { IfOk result (λ h. name_of h ≡ interned_name T.eq self.old obj) }
+        ensures refused { MayWant result (due_interning T.eq self.old obj (full self.old.top))
+            (is_new T.eq self.old obj) }
+        ensures state { Becomes result self.old self.new (interned_counted T.eq self.old obj) }
+    {
+        let (handle, _stored) = self.inner.intern(obj)?;
+        Ok(handle)
+    }
+
+    /// Collected mode: the reference that [`Interned::new_gc`] gives, and nothing beside it. The
+    /// value is dropped where an equal one is stored, and where it is refused: for the same reasons.
+    pub fn get_or_intern_gc(&mut self, obj: T) -> Result<InternedRef<T>, Refusal>
+        requires { T.Internable.USE_GC ≡ true }
+        ensures name { IfOk result (λ h. ref_name h ≡ interned_name T.eq self.old obj) }
+        ensures refused { MayWant result (due_interning T.eq self.old obj any_count)
+            (is_new T.eq self.old obj) }
+        ensures state { Becomes result self.old self.new (interned T.eq self.old obj).state }
+    {
+        let (reference, _stored) = self.inner.intern_gc(obj)?;
+        Ok(reference)
     }
 }
 

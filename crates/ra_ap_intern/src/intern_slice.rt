@@ -82,9 +82,35 @@ impl<T: SliceInternable, L: Layout<T::SliceType>, B: BuildHasher> InternSliceSto
     }
 }
 
+impl<T: SliceInternable, L: Layout<T::SliceType>, B: BuildHasher> InternSliceStorage<T, B, L>
+where
+    T::Header: Drop,
+{
+    /// The reference that [`InternedSlice::from_header_and_slice`] gives, and nothing beside it. The
+    /// header is dropped where an equal pair is stored, and where it is refused: for the same
+    /// reasons.
+    pub fn get_or_intern(
+        &mut self,
+        header: T::Header,
+        slice: &[T::SliceType],
+    ) -> Result<InternedSliceRef<T, L>, Refusal>
+        requires { T.SliceInternable.USE_GC ≡ true }
+        ensures name { let eq = sliced_eq T.Header.eq T.SliceType.eq in
+            IfOk result (λ r. ref_name r ≡ slice_name_in eq self.old header slice.now) }
+        ensures refused { let eq = sliced_eq T.Header.eq T.SliceType.eq in
+            MayWant result (due_slice eq self.old header slice.now)
+            (is_new_slice eq self.old header slice.now) }
+        ensures state { let eq = sliced_eq T.Header.eq T.SliceType.eq in
+            Becomes result self.old self.new (slice_in eq self.old header slice.now).state }
+    {
+        let (reference, _stored) = self.inner.intern(header, slice)?;
+        Ok(reference)
+    }
+}
+
 impl<T: SliceInternable, L: Layout<T::SliceType>, B: BuildHasher> Reserved<Slices<T, L>, B> {
-    /// Makes room for this many more items, of all slices together. Refused: `OutOfMemory`, where
-    /// there isn't room for so many yet; what there was stays.
+    /// Makes room for this many more items, of all slices together; those that lie in entries need
+    /// none. Refused: `OutOfMemory`, where there isn't room for so many yet; what there was stays.
     pub fn reserve_items(&mut self, additional: usize) -> Result<(), Refusal>
         ensures refused { MayWant result None true }
         ensures roomy { additional ≤ self.old.store.spare → IsOk result }
@@ -97,7 +123,8 @@ impl<T: SliceInternable, L: Layout<T::SliceType>, B: BuildHasher> Reserved<Slice
     }
 
     /// What [`InternedSlice::from_header_and_slice`] does. Where there is room for an entry and for
-    /// its items, a pair that isn't stored takes of it, and is not refused with `OutOfMemory`.
+    /// those of its items that don't lie in the entry, a pair that isn't stored takes of it, and is
+    /// not refused with `OutOfMemory`.
     pub fn intern(
         &mut self,
         header: T::Header,
@@ -112,7 +139,7 @@ impl<T: SliceInternable, L: Layout<T::SliceType>, B: BuildHasher> Reserved<Slice
             MayWantBack result (due_slice eq self.old.store.state header slice.now)
             (is_new_slice eq self.old.store.state header slice.now) header }
         ensures roomy { let eq = sliced_eq T.Header.eq T.SliceType.eq in
-            HasRoom self.old.store (length slice.now) →
+            HasRoom self.old.store (L.Near.outside (length slice.now)) →
             OwesBack result (due_slice eq self.old.store.state header slice.now) header }
         ensures room { let eq = sliced_eq T.Header.eq T.SliceType.eq in
             Spends result self.old.store.room self.new.store.room
@@ -120,7 +147,7 @@ impl<T: SliceInternable, L: Layout<T::SliceType>, B: BuildHasher> Reserved<Slice
         ensures items { let eq = sliced_eq T.Header.eq T.SliceType.eq in
             Spends result self.old.store.spare self.new.store.spare
             (if is_new_slice eq self.old.store.state header slice.now
-            then length slice.now else 0) }
+            then L.Near.outside (length slice.now) else 0) }
         ensures state { let eq = sliced_eq T.Header.eq T.SliceType.eq in
             Becomes result self.old.store.state self.new.store.state
             (slice_in eq self.old.store.state header slice.now).state }

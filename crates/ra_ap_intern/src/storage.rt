@@ -8,7 +8,7 @@ ghost use Rattle.std.specs.FinMap as map;
 ghost use Rattle.intern_store.specs.Memory.{least_memory};
 ghost use Rattle.intern_store.specs.Named.{key_name};
 ghost use Rattle.intern_store.specs.Outcome.{Owes, MayWant, Becomes};
-ghost use Rattle.intern_store.specs.State.{IsState, new_state, reads, counts, counted_up, counted_down, due, full, zero_count};
+ghost use Rattle.intern_store.specs.State.{IsState, new_state, reads, counts, counted_up, counted_down, due, full, zero_count, any_count};
 ghost use Rattle.ra_ap_intern.specs.Handle.{name_of, ref_name};
 
 use crate::kind::Kind;
@@ -172,6 +172,18 @@ impl<K: Kind<B>, B> Storage<K, B> {
         ensures { least_memory (map.len self.now.map) ≤ result }
     {
         self.inner.store.memory()
+    }
+
+    /// The reference of a name, which may come from anywhere. It looks the birth up, and takes no
+    /// memory. Refused: `Foreign`, `Gone`.
+    pub fn reference(&self, name: Name) -> Result<Ref<K>, Refusal>
+        ensures ok { IfOk result (λ r. ref_name r ≡ name) }
+        ensures refused { Owes result (due self.now name any_count) }
+    {
+        if name.storage != self.number() {
+            return Err(Refusal::Foreign);
+        }
+        Ok(Ref::new(self.inner.store.entry(name.birth)?))
     }
 
     /// The count of the entry that a reference names: how many owners it has.

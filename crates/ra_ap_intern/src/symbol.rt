@@ -12,7 +12,7 @@ ghost use Rattle.std.specs.Str.{bytes_eq};
 ghost use Rattle.intern_store.specs.Memory.{least_memory};
 ghost use Rattle.intern_store.specs.Outcome.{Owes, OwesBack, MayWant, Becomes, Spends};
 ghost use Rattle.intern_store.specs.State.{IsState, new_state, counted_up, full, any_count, released};
-ghost use Rattle.ra_ap_intern.specs.Symbols.{IsTable, symbol_name, symbol_ref_name, named_in, named_texts, entry_name, own_text, text_of, count_of, symbol_in, due_of, due_symbol, is_new_text, at_entry};
+ghost use Rattle.ra_ap_intern.specs.Symbols.{IsTable, displayed, symbol_name, symbol_ref_name, named_in, named_texts, entry_name, own_text, text_of, count_of, symbol_in, due_of, due_symbol, is_new_text, at_entry};
 ghost use Rattle.ra_ap_intern.specs.declared.symbol.symbols.TheConstants as sym;
 
 mod display;
@@ -180,6 +180,20 @@ impl<B: BuildHasher> SymbolTable<B> {
         Some(SymbolRef(packed))
     }
 
+    /// A reference to the symbol of a text, which the table keeps from then on: unless it is a
+    /// preset, it is counted once more, and nobody gives that count up. For tables that only grow.
+    /// Refused as [`Symbol::intern`].
+    pub fn get_or_intern(&mut self, text: &str) -> Result<SymbolRef, Refusal>
+        ensures ok { IfOk result (λ r.
+            symbol_ref_name r ≡ (symbol_in self.old text.now).symbol) }
+        ensures refused { MayWant result (due_symbol self.old text.now)
+            (is_new_text self.old text.now) }
+        ensures state { Becomes result self.old self.new (symbol_in self.old text.now).table }
+    {
+        let symbol = self.inner.intern(text)?;
+        Ok(symbol.as_ref())
+    }
+
     /// The texts that the table keeps, each with a reference to its symbol, in no promised order.
     /// Presets are none of them. It takes no memory, and goes over as many places as there were texts at
     /// one time.
@@ -198,6 +212,18 @@ impl<B: BuildHasher> SymbolTable<B> {
         ensures { result ≡ count_of self.now (symbol_name symbol.now) }
     {
         symbol.as_ref().count(self)
+    }
+}
+
+impl<'a, B: BuildHasher> IntoIterator for &'a SymbolTable<B> {
+    type Item = (SymbolRef, &'a str);
+
+    type IntoIter = SymbolIter<'a>;
+
+    ghost into_iter_gives = { λ table texts. IsPermutation texts (named_texts table.now) };
+
+    fn into_iter(self) -> SymbolIter<'a> {
+        self.iter()
     }
 }
 
@@ -278,7 +304,9 @@ impl Symbol {
     }
 
     /// The symbol as it is written by `{}`: its text, or its name where that can't be read.
-    pub fn display<'a, B: BuildHasher>(&self, table: &'a SymbolTable<B>) -> SymbolDisplay<'a, B> {
+    pub fn display<'a, B: BuildHasher>(&self, table: &'a SymbolTable<B>) -> SymbolDisplay<'a, B>
+        ensures { displayed result ≡ (symbol_name self.now, table.now) }
+    {
         self.as_ref().display(table)
     }
 
@@ -367,7 +395,9 @@ impl SymbolRef {
     }
 
     /// The symbol as it is written by `{}`: its text, or its name where that can't be read.
-    pub fn display<B: BuildHasher>(self, table: &SymbolTable<B>) -> SymbolDisplay<'_, B> {
+    pub fn display<B: BuildHasher>(self, table: &SymbolTable<B>) -> SymbolDisplay<'_, B>
+        ensures { displayed result ≡ (symbol_ref_name self, table.now) }
+    {
         SymbolDisplay {
             symbol: self,
             table,

@@ -1,12 +1,15 @@
 //! Texts as single values.
-ghost use Rattle.std.specs.Prelude.{◌≡◌, false};
+ghost use Rattle.std.specs.Prelude.{◌≡◌, ◌<◌, ◌≤◌, if◌then◌else◌, false, length, IfOk};
 ghost use Rattle.std.specs.Option.{option_map};
 ghost use Rattle.std.specs.Str.{bytes_eq};
-ghost use Rattle.intern_store.specs.State.{name_of_value};
-ghost use Rattle.ra_ap_intern.specs.Handle.{ref_name};
+ghost use Rattle.intern_store.specs.Outcome.{Owes, MayWant, Becomes, Spends};
+ghost use Rattle.intern_store.specs.State.{is_new, interned_name, interned_counted, name_of_value, due_interning, full};
+ghost use Rattle.ra_ap_intern.specs.Handle.{name_of, ref_name};
 
-use crate::intern::{InternStorage, Internable, InternedRef};
-use crate::storage::Ref;
+use crate::intern::{InternStorage, Internable, Interned, InternedRef};
+use crate::kind::Values;
+use crate::storage::{Owned, Ref, Reserved};
+use intern_store::Refusal;
 use intern_table::Text;
 use std::hash::BuildHasher;
 
@@ -23,5 +26,44 @@ impl<B: BuildHasher> InternStorage<Text, B> {
         ensures { option_map ref_name result ≡ name_of_value bytes_eq self.now text.now }
     {
         Some(Ref::new(self.inner.store.find(&text)?))
+    }
+
+    /// The owned handle of a text, which is counted once more: what [`Interned::new`] gives for it.
+    /// Only a text that isn't stored is copied, which may take memory. Refused: `CountFull` where the
+    /// text is stored and its count is at the limit; `NumbersUsedUp` and `OutOfMemory` where it isn't
+    /// stored.
+    pub fn intern_text(&mut self, text: &str) -> Result<Interned<Text>, Refusal>
+        ensures name { IfOk result (λ h.
+            name_of h ≡ interned_name bytes_eq self.old text.now) }
+        ensures refused { MayWant result
+            (due_interning bytes_eq self.old text.now (full self.old.top))
+            (is_new bytes_eq self.old text.now) }
+        ensures state { Becomes result self.old self.new
+            (interned_counted bytes_eq self.old text.now) }
+    {
+        self.inner.intern_text(text)
+    }
+}
+
+impl<B: BuildHasher> Reserved<Values<Text>, B> {
+    /// What [`InternStorage::intern_text`] does. Where there is room, a text of up to 24 bytes that
+    /// isn't stored takes of it, and is not refused with `OutOfMemory`.
+    pub fn intern_text(&mut self, text: &str) -> Result<Interned<Text>, Refusal>
+        ensures name { IfOk result (λ h.
+            name_of h ≡ interned_name bytes_eq self.old.store.state text.now) }
+        ensures refused { MayWant result
+            (due_interning bytes_eq self.old.store.state text.now (full self.old.store.state.top))
+            (is_new bytes_eq self.old.store.state text.now) }
+        ensures roomy { 0 < self.old.store.room → length text.now ≤ 24 → Owes result
+            (due_interning bytes_eq self.old.store.state text.now
+            (full self.old.store.state.top)) }
+        ensures room { Spends result self.old.store.room self.new.store.room
+            (if is_new bytes_eq self.old.store.state text.now then 1 else 0) }
+        ensures state { Becomes result self.old.store.state self.new.store.state
+            (interned_counted bytes_eq self.old.store.state text.now) }
+    {
+        let (key, _stored) = self.store.intern_counted(text)?;
+        let reference = Ref::new(key);
+        Ok(Owned { reference })
     }
 }

@@ -1,6 +1,8 @@
 //! Look-ups that intern nothing, and the entries of a storage one after the other.
+use crate::kinds::Numbers;
 use crate::steps::{Numbered, has_len, intern_new, is_equal, reads};
 use intern_fixtures::{drop_slices, make_word, new_slices};
+use ra_ap_intern::InternedSliceRef;
 use std::alloc::Global;
 use std::process::Abort;
 
@@ -64,4 +66,29 @@ fn gives(rt: &impl Abort, storage: &Numbered, birth: u64, pair: (&str, &[u64])) 
         }
     }
     assert!(rt; found);
+}
+
+#[test]
+fn references_alone(rt: HostRuntime) {
+    let alloc = rt.alloc();
+    let mut storage = new_slices(alloc, 1);
+    let x = alone(&rt, alloc, &mut storage, ("x", &[1, 2]));
+    let y = alone(&rt, alloc, &mut storage, ("y", &[1, 2]));
+    let again = alone(&rt, alloc, &mut storage, ("x", &[1, 2]));
+    assert!(rt; x == again && x != y);
+    reads(&rt, &storage, x, ("x", &[1, 2]));
+    has_len(&rt, &storage, 2);
+    assert!(rt; storage.reference(y.name()) == Ok(y));
+    drop_slices(storage);
+}
+
+/// The reference to a pair, which is stored unless it is already.
+fn alone(
+    rt: &impl Abort,
+    alloc: Global,
+    storage: &mut Numbered,
+    (text, items): (&str, &[u64]),
+) -> InternedSliceRef<Numbers> {
+    let header = make_word(alloc, text).expect(rt, "memory");
+    storage.get_or_intern(header, items).expect(rt, "interned")
 }

@@ -49,7 +49,7 @@ fn entries(rt: HostRuntime) {
 fn gives(rt: &impl Abort, table: &SymbolTable, symbol: &Symbol, text: &str) {
     let wanted = symbol.as_ref();
     let mut found = false;
-    for (reference, kept) in table.iter() {
+    for (reference, kept) in table {
         if reference == wanted {
             is_first(rt, found, kept, text);
             found = true;
@@ -77,6 +77,20 @@ fn references(rt: HostRuntime) {
         .to_owned(&mut table)
         .expect(&rt, "a preset");
     assert!(rt; clone == sym::Clone);
+    keeps(&rt, &table, 1);
+    drop_table(table);
+}
+
+#[test]
+fn references_that_stay(rt: HostRuntime) {
+    let mut table = new_table(rt.alloc(), 1);
+    let x = table.get_or_intern("x").expect(&rt, "interned");
+    let second = Symbol::intern(&mut table, "x").expect(&rt, "interned");
+    assert!(rt; second.as_ref() == x);
+    is_stored(&rt, &table, &second, "x", 2);
+    release(&rt, &mut table, second, 1);
+    is_equal(&rt, x.as_str(&table), Some("x"));
+    assert!(rt; table.get_or_intern("Clone") == Ok(sym::Clone.as_ref()));
     keeps(&rt, &table, 1);
     drop_table(table);
 }

@@ -2,7 +2,7 @@
 use crate::fault::Fault;
 use crate::message::{Expected, Stop};
 use crate::token::{PlacedToken, Token};
-use ra_ap_intern::{Symbol, SymbolRef, SymbolTable};
+use ra_ap_intern::{SymbolRef, SymbolTable};
 use text_run::{Language, Place, Words};
 
 // What the words of the language are.
@@ -70,7 +70,7 @@ fn name_or_number(
     }
 }
 
-// The symbol of a word. It stays counted, and so in the table.
+// The symbol of a word, which stays in the table.
 fn symbol(word: &str, names: &mut SymbolTable) -> Result<SymbolRef, Fault> {
-    Ok(Symbol::intern(names, word)?.as_ref())
+    Ok(names.get_or_intern(word)?)
 }

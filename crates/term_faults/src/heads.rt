@@ -1,19 +1,45 @@
-//! A term whose head a table keeps.
-use crate::fault::Fault;
+//! A term whose head a table keeps, and `TermStore::collect_releasing`.
+use crate::collecting::tells;
+use crate::fault::{Fault, ensure};
 use crate::making::{try_leaf, try_term};
+use crate::marks::mark;
 use crate::reading::writes;
 use intern_terms::{TermRef, TermStore};
-use ra_ap_intern::{Symbol, SymbolTable};
+use ra_ap_intern::{Collected, Symbol, SymbolTable};
 use std::alloc::Global;
 
-/// Stores and writes a term whose head a table keeps.
-pub(crate) fn check_kept_head(rt: &impl Eprint, alloc: Global) -> Result<(), Fault> {
+/// Stores and writes a term whose head a table keeps, and collects it with its head.
+pub(crate) fn check_kept_head(rt: &(impl Print + Eprint), alloc: Global) -> Result<(), Fault> {
     let mut store = TermStore::new(alloc, 3);
     let mut table = SymbolTable::new(alloc, 5);
     let term = make_kept(rt, &mut store, &mut table)?;
     writes(rt, &store, term, &table, 9, "a head")?;
-    table = SymbolTable::new(alloc, 6);
-    writes(rt, &store, term, &table, 9, "#5.0")
+    writes(rt, &store, term, &SymbolTable::new(alloc, 6), 9, "#5.0")?;
+    let did = collect_releasing(rt, &mut store, term, &mut table)?;
+    tells(did, (0, 0, 1))?;
+    println!(rt; "TermStore::collect_releasing: {}", did.removed)?;
+    ensure(table.is_empty(), "a head stays without its term")
+}
+
+// Collects a term with its head. Where that is refused, both are as they were.
+fn collect_releasing(
+    rt: &impl Eprint,
+    store: &mut TermStore,
+    term: TermRef,
+    table: &mut SymbolTable,
+) -> Result<Collected, Fault> {
+    mark(rt, "asks: TermStore::collect_releasing");
+    let first = store.collect_releasing(&[], table);
+    if let Ok(did) = first {
+        mark(rt, "prepares");
+        return Ok(did);
+    }
+    mark(rt, "refused: TermStore::collect_releasing");
+    ensure(
+        store.contains(term) && store.len() == 1 && table.len() == 1,
+        "a refused collection changed something",
+    )?;
+    Ok(store.collect_releasing(&[], table)?)
 }
 
 fn make_kept(
@@ -22,7 +48,9 @@ fn make_kept(
     table: &mut SymbolTable,
 ) -> Result<TermRef, Fault> {
     let head = intern(table)?;
-    make_over(rt, store, table, &head)
+    let term = make_over(rt, store, table, &head)?;
+    head.release(table)?;
+    Ok(term)
 }
 
 // Stores a term with a copy of a head.
@@ -36,6 +64,8 @@ fn make_over(
     if let Some(term) = first {
         return Ok(term);
     }
+    // The head that came back was dropped, and kept its count.
+    head.as_ref().decrease_refcount(table)?;
     let second = try_term(store, head.clone(table)?, &[], head)?;
     second.ok_or(Fault("a term was refused twice"))
 }

@@ -13,6 +13,8 @@ mod readme;
 #[cfg(test)]
 mod refused;
 #[cfg(test)]
+mod releasing;
+#[cfg(test)]
 mod rows;
 #[cfg(test)]
 mod scene;

@@ -97,6 +97,8 @@ impl Scene {
         assert!(rt; self.store.contains(term));
         assert!(rt; self.store.head(term) == Some(&head));
         assert!(rt; self.store.args(term) == Some(args));
+        assert!(rt; self.store.node(term) == Some((&head, args)));
+        assert!(rt; self.store.named(term.name()) == Ok(term));
     }
 
     /// The term reads nothing.
@@ -104,7 +106,9 @@ impl Scene {
         assert!(rt; !self.store.contains(term));
         assert!(rt; self.store.head(term).is_none());
         assert!(rt; self.store.args(term).is_none());
+        assert!(rt; self.store.node(term).is_none());
         assert!(rt; self.store.count(term).is_none());
+        assert!(rt; self.store.named(term.name()).is_err());
     }
 
     /// The store has these terms, which are distinct, and lists each once.
@@ -122,7 +126,7 @@ impl Scene {
     }
 
     fn is_listed(&self, term: TermRef) -> bool {
-        for listed in self.store.iter() {
+        for listed in &self.store {
             if listed == term {
                 return true;
             }

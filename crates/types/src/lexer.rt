@@ -1,7 +1,7 @@
 //! Takes a text apart into tokens.
 use crate::fault::Fault;
 use crate::token::{Lexeme, Operator, Token};
-use ra_ap_intern::{Refusal, Symbol, SymbolRef, SymbolTable};
+use ra_ap_intern::{Refusal, SymbolTable};
 use std::alloc::Global;
 use text_run::{Language, Place, Words};
 
@@ -68,18 +68,10 @@ fn token_of(names: &mut SymbolTable, word: &str) -> Result<Token, Refusal> {
 // The token of a word that is no keyword and no sign.
 fn other_token(names: &mut SymbolTable, word: &str) -> Result<Token, Refusal> {
     Ok(if word.starts_with(|c: char| c.is_alphabetic() || c == '_') {
-        Token::Name(symbol_of(names, word)?)
+        Token::Name(names.get_or_intern(word)?)
     } else if word.bytes().all(|byte| byte.is_ascii_digit()) {
         Token::Integer
     } else {
         Token::Bad
     })
-}
-
-/// The symbol of a name, which is counted once, when it is met first.
-pub fn symbol_of(names: &mut SymbolTable, name: &str) -> Result<SymbolRef, Refusal> {
-    match names.get(name) {
-        Some(symbol) => Ok(symbol),
-        None => Ok(Symbol::intern(names, name)?.as_ref()),
-    }
 }

@@ -8,7 +8,7 @@ ghost use Rattle.types.specs.Tree.{Tree};
 use crate::error::{Failure, TypeError};
 use crate::fault::Fault;
 use crate::infer::Inference;
-use crate::lexer::{symbol_of, tokens};
+use crate::lexer::tokens;
 use crate::parser::{Declaration, ParseError, parse};
 use crate::token::{Lexeme, Token};
 use crate::value::{TypeNode, TypeRef};
@@ -68,8 +68,8 @@ impl Session {
         let pair = environment.types.pair(first, second)?;
         let first = environment.types.function(pair, first)?;
         let second = environment.types.function(pair, second)?;
-        environment.declare(symbol_of(&mut self.names, "fst")?, first)?;
-        environment.declare(symbol_of(&mut self.names, "snd")?, second)?;
+        environment.declare(self.names.get_or_intern("fst")?, first)?;
+        environment.declare(self.names.get_or_intern("snd")?, second)?;
         Ok(())
     }
 

@@ -10,7 +10,7 @@ ghost use Rattle.ra_ap_intern.specs.Outcome.{Becomes};
 ghost use Rattle.ra_ap_intern.specs.State.{interned_name, interned_counted, due_interning, full};
 ghost use Rattle.use_owed.specs.Scope.{closed, IsClosed, IsRefused};
 
-use ra_ap_intern::{InternStorage, Interned, InternedRef, Owed, OwedValue, Refusal, Refused, Text};
+use ra_ap_intern::{InternStorage, InternedRef, Owed, OwedValue, Refusal, Refused, Text};
 use std::alloc::Global;
 use std::cmp::PartialEq;
 use std::marker::Model;
@@ -62,7 +62,7 @@ impl Scope {
         if self.names.reserve(1).is_err() {
             return Err(Refusal::OutOfMemory);
         }
-        let (handle, _) = Interned::new(texts, name)?;
+        let handle = texts.get_or_intern(name)?;
         let reference = handle.as_ref();
         self.names.push(Owed::from(handle)).unwrap();
         Ok(reference)

@@ -1,11 +1,11 @@
 -- Names, once nodes are removed.
-use Rattle.std.specs.Prelude.{ℕ, Bool, false, List, [], ◌∷◌, is_none, if◌then◌else◌}
+use Rattle.std.specs.Prelude.{ℕ, Bool, List, [], ◌∷◌, if◌then◌else◌}
 use Rattle.std.specs.List.{flat_map}
 use Rattle.ra_ap_intern.specs.Families.{entries_of}
 use Rattle.ra_ap_intern.specs.Name.{Name}
 use Rattle.ra_ap_intern.specs.Reach.{Entry}
-use Rattle.ra_ap_intern.specs.State.{State, any_count, released}
-use Rattle.ra_ap_intern.specs.Symbols.{Named, at_entry, due_of, symbol_ref_name}
+use Rattle.ra_ap_intern.specs.State.{State}
+use Rattle.ra_ap_intern.specs.Symbols.{given_up, symbol_ref_name}
 use Rattle.ra_ap_intern.specs.Visitors.{own_name}
 use Rattle.use_removed.specs.declared.Node.{Node, out-Node}
 
@@ -16,11 +16,6 @@ declared_by n = flat_map own_name (out-Node n).behind.items
 -- the nodes, as a collection sees them
 abbrev pub nodes_of : State Node → List Entry
 nodes_of s = entries_of declared_by s
-
--- names, of which one is counted once less, where it is there
-abbrev pub given_up : State (List ℕ) → Named → State (List ℕ)
-given_up names name =
-    if is_none (due_of names name any_count) then at_entry (released false) names name else names
 
 -- names, once those of the nodes are given up that aren't kept, in this order
 abbrev pub without_removed : (Name → Bool) → List (Name × Node) → State (List ℕ) → State (List ℕ)

@@ -27,9 +27,9 @@ impl GcInternedVisit for TypeNode {
     ghost children = { declared_by };
 
     fn visit_with(&self, gc: &mut GarbageCollector) {
-        if let TypeNode::Function(from, to) = self {
-            let _ = gc.mark_interned_alive(*from);
-            let _ = gc.mark_interned_alive(*to);
+        match self {
+            TypeNode::Named(_) => {}
+            TypeNode::Function(from, to) => (*from, *to).visit_with(gc),
         }
     }
 }

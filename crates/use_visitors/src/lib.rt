@@ -29,8 +29,9 @@ impl GcInternedVisit for TypeNode {
     ghost children = { of_type };
 
     fn visit_with(&self, gc: &mut GarbageCollector) {
-        if let TypeNode::List(item) = self {
-            item.visit_with(gc);
+        match self {
+            TypeNode::Named(_) => {}
+            TypeNode::List(item) => item.visit_with(gc),
         }
     }
 }
@@ -52,10 +53,17 @@ impl GcInternedVisit for Signature {
 
     #[tactic(auto, using(ra_ap_intern::proofs::Visitors::marks_append))]
     fn visit_with(&self, gc: &mut GarbageCollector) {
-        self.receiver.visit_with(gc);
-        self.bound.visit_with(gc);
-        self.answers.visit_with(gc);
-        self.parameters.visit_with(gc);
+        // Taken apart whole, so that the compiler shows a field that isn't visited.
+        let Signature {
+            receiver,
+            bound,
+            answers,
+            parameters,
+        } = self;
+        receiver.visit_with(gc);
+        bound.visit_with(gc);
+        answers.visit_with(gc);
+        parameters.visit_with(gc);
     }
 }
 

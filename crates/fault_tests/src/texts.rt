@@ -1,0 +1,68 @@
+//! Texts that are interned by what they are borrowed from.
+use crate::fault::{Fault, ensure, refused};
+use crate::storage::Storage;
+use crate::values::text_of;
+use ra_ap_intern::{InternStorage, InternedRef, Text};
+use std::alloc::{AllocError, Global};
+
+/// A storage of texts.
+#[derive(Drop)]
+pub(crate) struct Texts(pub(crate) InternStorage<Text>);
+
+impl Storage for Texts {
+    type Input = Text;
+
+    type Offer = ();
+
+    type Reference = InternedRef<Text>;
+
+    fn call(&self) -> &'static str {
+        "InternStorage::intern_text"
+    }
+
+    fn input(&self, alloc: Global, number: u64) -> Result<Text, AllocError> {
+        text_of(alloc, number)
+    }
+
+    fn offer(&self, _alloc: Global, _input: &Text) -> Result<(), AllocError> {
+        Ok(())
+    }
+
+    fn store(&mut self, _offer: (), input: &Text) -> Result<InternedRef<Text>, Fault> {
+        match self.0.intern_text(input.as_str()) {
+            Ok(handle) => Ok(handle.as_ref()),
+            Err(why) => Err(refused(why, true)),
+        }
+    }
+
+    fn lengths(&self) -> (usize, usize) {
+        self.0.lengths()
+    }
+
+    fn shows(&self, reference: InternedRef<Text>, input: &Text, number: u64) -> bool {
+        self.0.get_text(input.as_str()) == Some(reference) && self.0.shows(reference, input, number)
+    }
+
+    fn keeps(&self) -> bool {
+        false
+    }
+
+    fn free(&mut self, reference: InternedRef<Text>, input: &Text) -> Result<(), Fault> {
+        self.0.free(reference, input)
+    }
+
+    fn pass(
+        &mut self,
+        reference: InternedRef<Text>,
+        _offer: (),
+        input: &Text,
+    ) -> Result<(), Fault> {
+        let again = self.0.intern_text(input.as_str())?;
+        ensure(
+            again.as_ref() == reference,
+            "a stored text has another birth",
+        )?;
+        let freed = again.release(&mut self.0)?;
+        ensure(freed.is_none(), "a text was freed that has owners")
+    }
+}
