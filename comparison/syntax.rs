@@ -1,5 +1,5 @@
-//! Versions of a program as plain trees: each node has its own text and its own parts, and what
-//! changed is found by comparing two trees part by part.
+//! Versions of a program as plain trees: each node has its head's text, as it stands in the input, and
+//! its own parts, and what changed is found by comparing two trees part by part.
 //!
 //! It reads what `crates/syntax_run` reads, and tells the same of it, for versions without errors. At an
 //! error it writes a line to standard error, and ends with status 1. How many trees are distinct, new
@@ -26,21 +26,21 @@ type Error = Box<dyn std::error::Error + Send + Sync>;
 type Place = (usize, usize);
 
 /// A tree, and where it begins. That is no part of its value.
-struct Tree {
-    head: String,
-    parts: Vec<Tree>,
+struct Tree<'a> {
+    head: &'a str,
+    parts: Vec<Tree<'a>>,
     place: Place,
 }
 
-impl PartialEq for Tree {
-    fn eq(&self, other: &Tree) -> bool {
+impl PartialEq for Tree<'_> {
+    fn eq(&self, other: &Self) -> bool {
         self.head == other.head && self.parts == other.parts
     }
 }
 
-impl Eq for Tree {}
+impl Eq for Tree<'_> {}
 
-impl Hash for Tree {
+impl Hash for Tree<'_> {
     fn hash<H: Hasher>(&self, state: &mut H) {
         self.head.hash(state);
         self.parts.hash(state);
@@ -49,8 +49,8 @@ impl Hash for Tree {
 
 /// A program: its items, and how many trees it has.
 #[derive(Default)]
-struct Program {
-    items: Vec<Tree>,
+struct Program<'a> {
+    items: Vec<Tree<'a>>,
     trees: usize,
 }
 
@@ -125,19 +125,19 @@ impl<'a> Parser<'a> {
         Ok(())
     }
 
-    fn tree(&mut self, head: &str, parts: Vec<Tree>, place: Place) -> Tree {
+    fn tree(&mut self, head: &'a str, parts: Vec<Tree<'a>>, place: Place) -> Tree<'a> {
         self.trees += 1;
-        Tree { head: head.to_string(), parts, place }
+        Tree { head, parts, place }
     }
 
-    fn name(&mut self) -> Result<Tree, Error> {
+    fn name(&mut self) -> Result<Tree<'a>, Error> {
         match self.token {
             Token::Word(word) if is_name(word) => self.atom(),
             _ => self.wrong("a name"),
         }
     }
 
-    fn item(&mut self) -> Result<Tree, Error> {
+    fn item(&mut self) -> Result<Tree<'a>, Error> {
         let (keyword, place) = self.advance();
         let (head, defined) = match (keyword, self.token) {
             (Token::Word("let"), _) => ("let", self.name()?),
@@ -160,7 +160,7 @@ impl<'a> Parser<'a> {
     }
 
     /// Operands between operators that bind at least so tightly.
-    fn expression(&mut self, least: u8) -> Result<Tree, Error> {
+    fn expression(&mut self, least: u8) -> Result<Tree<'a>, Error> {
         let mut left = self.atom()?;
         loop {
             let is_here = |operator: &&(&str, &str, u8)| self.token == Token::Word(operator.0);
@@ -176,7 +176,7 @@ impl<'a> Parser<'a> {
         }
     }
 
-    fn atom(&mut self) -> Result<Tree, Error> {
+    fn atom(&mut self) -> Result<Tree<'a>, Error> {
         let (token, place) = self.advance();
         match token {
             Token::Call(name) => {
@@ -217,7 +217,7 @@ impl<'a> Parser<'a> {
     }
 }
 
-fn parse(tokens: Vec<(Token, Place)>) -> Result<Program, Error> {
+fn parse<'a>(tokens: Vec<(Token<'a>, Place)>) -> Result<Program<'a>, Error> {
     let mut parser = Parser { tokens: tokens.into_iter(), token: Token::End, place: (1, 1), trees: 0 };
     parser.advance();
     let mut items = Vec::new();
@@ -230,7 +230,7 @@ fn parse(tokens: Vec<(Token, Place)>) -> Result<Program, Error> {
 /// Writes an expression, with operators, `if` and `let` in parentheses.
 fn write_tree(out: &mut String, tree: &Tree) {
     let operator = OPERATORS.iter().find(|operator| operator.1 == tree.head);
-    let parts = match (&tree.head[..], &tree.parts[..], operator) {
+    let parts = match (tree.head, &tree.parts[..], operator) {
         (_, [left, right], Some((sign, ..))) => vec![("(", left), (sign, right)],
         ("then", [first, second, third], _) => vec![("(if ", first), ("then", second), ("else", third)],
         ("let", [first, second, third], _) => vec![("(let ", first), ("=", second), ("in", third)],
@@ -247,7 +247,7 @@ fn write_tree(out: &mut String, tree: &Tree) {
 
 /// Writes the head of a tree, and in parentheses its parts, if it has any.
 fn write_call(out: &mut String, tree: &Tree) {
-    out.push_str(&tree.head);
+    out.push_str(tree.head);
     for (place, part) in tree.parts.iter().enumerate() {
         out.push_str(if place == 0 { "(" } else { ", " });
         write_tree(out, part);
@@ -297,7 +297,7 @@ fn write_item_changes(out: &mut String, old: &Tree, new: &Tree) {
 
 /// The items of a program, each under the name that it defines and how many before it define the
 /// same name.
-fn by_definition(program: &Program) -> HashMap<(&str, usize), &Tree> {
+fn by_definition<'p>(program: &'p Program) -> HashMap<(&'p str, usize), &'p Tree<'p>> {
     let mut items = HashMap::default();
     for (definition, item) in definitions(program).into_iter().zip(&program.items) {
         items.insert(definition, item);
@@ -306,12 +306,12 @@ fn by_definition(program: &Program) -> HashMap<(&str, usize), &Tree> {
 }
 
 /// The name that each item defines, and how many items before it define the same name.
-fn definitions(program: &Program) -> Vec<(&str, usize)> {
+fn definitions<'p>(program: &'p Program) -> Vec<(&'p str, usize)> {
     let mut counts: HashMap<&str, usize> = HashMap::default();
     let mut definitions = Vec::new();
     for item in &program.items {
-        let count = counts.entry(&item.parts[0].head).or_default();
-        definitions.push((&item.parts[0].head[..], *count));
+        let count = counts.entry(item.parts[0].head).or_default();
+        definitions.push((item.parts[0].head, *count));
         *count += 1;
     }
     definitions
@@ -334,14 +334,14 @@ fn write_all_changes(out: &mut String, old: &Program, new: &Program) {
 }
 
 /// Adds all parts of trees to a set.
-fn add_parts<'t>(distinct: &mut HashSet<&'t Tree>, trees: &'t [Tree]) {
+fn add_parts<'t>(distinct: &mut HashSet<&'t Tree<'t>>, trees: &'t [Tree]) {
     for tree in trees {
         add_parts(distinct, &tree.parts);
         distinct.insert(tree);
     }
 }
 
-fn distinct(program: &Program) -> HashSet<&Tree> {
+fn distinct<'p>(program: &'p Program) -> HashSet<&'p Tree<'p>> {
     let mut distinct = HashSet::default();
     add_parts(&mut distinct, &program.items);
     distinct

@@ -47,6 +47,13 @@ enum Leaves {
     Instantiated,
 }
 
+/// What was copied: leaves under their numbers, and other parts under where they lie.
+#[derive(Default)]
+struct Copies {
+    leaves: HashMap<usize, Tree>,
+    parts: HashMap<*const Type, Tree>,
+}
+
 #[derive(Clone)]
 enum Scheme {
     /// This type, the same each time.
@@ -178,7 +185,7 @@ impl<'a> Inference<'a> {
             None => self.declared.get(name).ok_or_else(|| format!("unbound name {name}"))?,
         };
         let general = general.clone();
-        Ok(self.copy(&general, Leaves::Instantiated, &mut HashMap::default()))
+        Ok(self.copy(&general, Leaves::Instantiated, &mut Copies::default()))
     }
 
     fn begin_function(&mut self, name: &'a str) {
@@ -213,7 +220,7 @@ impl<'a> Inference<'a> {
             self.unify(own, tree.clone())?;
         }
         self.level -= 1;
-        Ok(self.copy(&tree, Leaves::Generalised(self.level), &mut HashMap::default()))
+        Ok(self.copy(&tree, Leaves::Generalised(self.level), &mut Copies::default()))
     }
 
     /// What a type is, as far as it is known.
@@ -271,18 +278,28 @@ impl<'a> Inference<'a> {
         Ok(())
     }
 
-    /// A copy of a type with other leaves, which are kept under their numbers.
-    fn copy(&mut self, tree: &Tree, leaves: Leaves, made: &mut HashMap<usize, Tree>) -> Tree {
+    /// A copy of a type with other leaves. Each part is copied once, and not where none of its leaves is another.
+    fn copy(&mut self, tree: &Tree, leaves: Leaves, made: &mut Copies) -> Tree {
         let tree = self.resolve(tree.clone());
+        if let Some(copy) = made.parts.get(&Rc::as_ptr(&tree)) {
+            return copy.clone();
+        }
+        let (Type::Function(first, second) | Type::Pair(first, second)) = &*tree else {
+            return self.copy_leaf(tree, leaves, &mut made.leaves);
+        };
+        let (one, other) = (self.copy(first, leaves, made), self.copy(second, leaves, made));
+        let copy = match &*tree {
+            _ if Rc::ptr_eq(&one, first) && Rc::ptr_eq(&other, second) => tree.clone(),
+            Type::Function(..) => Rc::new(Type::Function(one, other)),
+            _ => Rc::new(Type::Pair(one, other)),
+        };
+        made.parts.insert(Rc::as_ptr(&tree), copy.clone());
+        copy
+    }
+
+    /// A copy of a leaf, which is kept under its number.
+    fn copy_leaf(&mut self, tree: Tree, leaves: Leaves, made: &mut HashMap<usize, Tree>) -> Tree {
         match (&*tree, leaves) {
-            (Type::Function(from, to), _) => {
-                let from = self.copy(from, leaves, made);
-                Rc::new(Type::Function(from, self.copy(to, leaves, made)))
-            }
-            (Type::Pair(first, second), _) => {
-                let first = self.copy(first, leaves, made);
-                Rc::new(Type::Pair(first, self.copy(second, leaves, made)))
-            }
             (Type::Unknown(number), Leaves::Generalised(above)) => match self.unknowns[*number] {
                 Known::Nothing(level) if level > above => {
                     let next = made.len();

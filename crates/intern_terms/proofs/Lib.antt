@@ -4,3 +4,4 @@ mod Trees
 mod Collected
 mod Walks
 mod Opened
+pub mod CallerTerms

@@ -1,18 +1,20 @@
 -- Terms and their trees.
-use Rattle.std.proofs.Common.{◌≡◌, ◌↔◌, ℕ, zero, suc, ◌<◌, Bool, true, List, [], ◌∷◌, map, Some, IsSome, Result, Ok, Err, refl, sym, ap, subst, ◌∙◌, arith}
+use Rattle.std.proofs.Common.{◌≡◌, ◌↔◌, ℕ, zero, suc, ◌<◌, Bool, true, List, [], ◌∷◌, ◌++◌, map, length, Some, None, IsSome, Result, Ok, Err, refl, sym, ap, subst, ◌∙◌, arith}
+use Rattle.std.specs.Option.{option_map}
+use Rattle.std.proofs.lemmas.Option.{same_Some}
 use Rattle.ra_ap_intern.specs.Names.{has}
 use Rattle.ra_ap_intern.specs.Name.{Name}
 use Rattle.ra_ap_intern.specs.Outcome.{Becomes}
 use Rattle.ra_ap_intern.specs.Sliced.{Sliced}
 use Rattle.ra_ap_intern.specs.Slices.{slice_of}
 use Rattle.ra_ap_intern.specs.State.{State, reads, entry_at, with_count, interned, interned_name}
-use Rattle.ra_ap_intern.specs.Symbols.{symbol_name}
+use Rattle.ra_ap_intern.specs.Symbols.{Named, symbol_name}
 use Rattle.ra_ap_intern.specs.declared.symbol.Symbol.{Symbol}
 use Rattle.intern_terms.specs.Handle.{term_name}
 use Rattle.intern_terms.specs.Store.{arguments, same_node, IsBuilt, IsTerms}
-use Rattle.intern_terms.specs.Tree.{Tree, Trees, tree, no_more, one_more, UnfoldsTo, AllUnfold}
+use Rattle.intern_terms.specs.Tree.{Tree, Trees, tree, no_more, one_more, count, UnfoldsTo, AllUnfold}
 use Rattle.intern_terms.specs.declared.handle.TermRef.{TermRef}
-use Rattle.intern_terms.proofs.Names.{has_first, has_later, nodes_same, same_nodes, same_node_laws}
+use Rattle.intern_terms.proofs.Names.{has_first, has_later, same_node-Decides, same_node_laws}
 use Rattle.ra_ap_intern.proofs.CallerLemmas.{read_once, some_read, interned_reads, interned_reads_on, reads-recounted}
 
 module _ (s : State (Sliced Symbol TermRef)) where
@@ -37,16 +39,75 @@ module _ (s : State (Sliced Symbol TermRef)) where
         let rest = one_forest ts us names a.1 b.1 in
         λ k. one_more (first k) (rest k)
 
+-- what a name reads is what its tree is made of
+module _ (s : State (Sliced Symbol TermRef)) (name : Name) where
+  -- its head
+  pub tree_head : (head : Named) (ts : Trees) → UnfoldsTo s name (tree head ts) → (h : Symbol)
+      → Some h ≡ option_map (λ v. v.header) (reads s name) → symbol_name h ≡ head
+  tree_head head ts is h read =
+      ap symbol_name (same_Some _ _ (read ∙ ap (option_map (λ v. v.header)) is.1)) ∙ is.2
+
+  -- its arguments, which unfold into the trees below it
+  pub tree_arguments : (head : Named) (ts : Trees) → UnfoldsTo s name (tree head ts)
+      → (args : List TermRef) → Some args ≡ option_map (λ v. v.items) (reads s name)
+      → AllUnfold s (map term_name args) ts
+  tree_arguments head ts is args read =
+      subst (λ items. AllUnfold s (map term_name items) ts)
+      (sym (same_Some _ _ (read ∙ ap (option_map (λ v. v.items)) is.1))) is.3
+
+  -- where nothing is read there is no tree
+  pub unread : {X : Type 0} (part : Sliced Symbol TermRef → X) (t : Tree)
+      → None ≡ option_map part (reads s name) → UnfoldsTo s name t → ⊥
+  unread part (tree head ts) none is =
+      let found : None ≡ Some (part is.0) = none ∙ ap (option_map part) is.1 in absurd (cc)
+
+-- two lists of trees in one
+abbrev pub joined : Trees → Trees → Trees
+joined no_more us = us
+joined (one_more t ts) us = one_more t (joined ts us)
+
+module _ (s : State (Sliced Symbol TermRef)) where
+  -- the name that unfolds into the first of a list of trees, and those of the others
+  pub forest_first : (t : Tree) (ts : Trees) (names : List Name) → AllUnfold s names (one_more t ts)
+      → (first : Name) × (others : List Name) × (names ≡ first ∷ others) × UnfoldsTo s first t
+      × AllUnfold s others ts
+  forest_first t ts [] all = absurd all
+  forest_first t ts (first ∷ others) all = (first, others, refl, all.0, all.1)
+
+  -- where there is no tree there is no name
+  pub forest_none : (names : List Name) → AllUnfold s names no_more → names ≡ []
+  forest_none [] all = refl
+  forest_none (a ∷ names) all = absurd all
+
+  -- a list of references has as many trees
+  pub forest_length : (ts : Trees) (terms : List TermRef) → AllUnfold s (map term_name terms) ts
+      → count ts ≡ length terms
+  forest_length no_more [] all = refl
+  forest_length no_more (a ∷ terms) all = absurd all
+  forest_length (one_more t ts) [] all = absurd all
+  forest_length (one_more t ts) (a ∷ terms) all = ap suc (forest_length ts terms all.1)
+
+  -- and two lists in one have the trees of both
+  pub forest_append : (ts us : Trees) (terms others : List TermRef)
+      → AllUnfold s (map term_name terms) ts → AllUnfold s (map term_name others) us
+      → AllUnfold s (map term_name (terms ++ others)) (joined ts us)
+  forest_append no_more us [] others first second = second
+  forest_append no_more us (a ∷ terms) others first second = absurd first
+  forest_append (one_more t ts) us [] others first second = absurd first
+  forest_append (one_more t ts) us (a ∷ terms) others first second =
+      (first.0, forest_append ts us terms others first.1 second)
+
 -- a tree has one name
 module _ (s : State (Sliced Symbol TermRef)) (ok : IsTerms s) where
   mutual
     pub one_name : (t : Tree) (n m : Name) → UnfoldsTo s n t → UnfoldsTo s m t → n ≡ m
     one_name (tree h ts) n m a b =
         read_once same_node s ok.state n m a.0 b.0 a.1 b.1
-        (same_nodes a.0 b.0 (a.2 ∙ sym b.2)
-        (one_list ts (arguments a.0) (arguments b.0) a.3 b.3))
+        ((same_node-Decides a.0 b.0).1
+        (a.2 ∙ sym b.2, one_list ts (arguments a.0) (arguments b.0) a.3 b.3))
 
-    one_list : (ts : Trees) (ns ms : List Name) → AllUnfold s ns ts → AllUnfold s ms ts → ns ≡ ms
+    -- and a list of trees one list of names
+    pub one_list : (ts : Trees) (ns ms : List Name) → AllUnfold s ns ts → AllUnfold s ms ts → ns ≡ ms
     one_list no_more [] [] a b = refl
     one_list no_more [] (m ∷ ms) a b = absurd b
     one_list no_more (n ∷ ns) ms a b = absurd a
@@ -116,16 +177,20 @@ module _ (s t : State (Sliced Symbol TermRef)) (set : Name → Bool)
     )
 
 -- a tree stays where the reads do
-module _ (s t : State (Sliced Symbol TermRef))
-    (reads_on : (n : Name) (v : Sliced Symbol TermRef) → reads s n ≡ Some v → reads t n ≡ Some v)
-  where
-    pub tree_on : (x : Tree) (n : Name) → UnfoldsTo s n x → UnfoldsTo t n x
-    tree_on x n = tree_stays s t (λ _. true) (λ m v is. reads_on m v) (λ m a v is read has. refl) x n refl
+pub tree_on : (s t : State (Sliced Symbol TermRef))
+    → ((n : Name) (v : Sliced Symbol TermRef) → reads s n ≡ Some v → reads t n ≡ Some v)
+    → (x : Tree) (n : Name) → UnfoldsTo s n x → UnfoldsTo t n x
+tree_on s t reads_on x n =
+    tree_stays s t (λ _. true) (λ m v is. reads_on m v) (λ m a v is read has. refl) x n refl
 
-    pub forest_on : (ts : Trees) (ns : List Name) → AllUnfold s ns ts → AllUnfold t ns ts
-    forest_on ts ns =
-        forest_stays s t (λ _. true) (λ m v is. reads_on m v) (λ m a v is read has. refl) ts ns
-        (λ a is. refl)
+-- and so do lists of trees, where each tree does
+pub forest_on : (s t : State (Sliced Symbol TermRef))
+    → ((n : Name) (x : Tree) → UnfoldsTo s n x → UnfoldsTo t n x)
+    → (ts : Trees) (ns : List Name) → AllUnfold s ns ts → AllUnfold t ns ts
+forest_on s t on no_more [] all = tt
+forest_on s t on no_more (n ∷ ns) all = absurd all
+forest_on s t on (one_more x xs) [] all = absurd all
+forest_on s t on (one_more x xs) (n ∷ ns) all = (on n x all.0, forest_on s t on xs ns all.1)
 
 pub tree_interned : (s : State (Sliced Symbol TermRef)) → IsTerms s → (w : Sliced Symbol TermRef)
     (x : Tree) (n : Name) → UnfoldsTo s n x → UnfoldsTo (interned same_node s w).state n x
@@ -145,13 +210,13 @@ pub term_unfolds : (s : State (Sliced Symbol TermRef)) → IsTerms s → (head :
     → UnfoldsTo (interned same_node s (slice_of head args)).state
     (interned_name same_node s (slice_of head args)) (tree (symbol_name head) ts)
 term_unfolds s ok head args w read same ts unfolds =
-    let parts = nodes_same (slice_of head args) w same in
+    let parts = (same_node-Decides (slice_of head args) w).0 same in
     let next = (interned same_node s (slice_of head args)).state in (
       w,
       read,
       sym parts.0,
       subst (λ ns. AllUnfold next ns ts) parts.1
-          (forest_on s next (interned_reads_on same_node s ok.state (slice_of head args)) ts _ unfolds),
+          (forest_on s next (λ n x. tree_interned s ok (slice_of head args) x n) ts _ unfolds),
     )
 
 -- a call that changes nothing where it is refused

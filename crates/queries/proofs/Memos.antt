@@ -1,8 +1,6 @@
 -- What stays true of memos.
-use Rattle.std.proofs.Common.{◌≡◌, ◌↔◌, ℕ, ◌+◌, ◌≤◌, Bool, true, false, ◌&&◌, cond, List, [], ◌∷◌, Option, Some, None, is_some, refl, sym, ap, subst, ◌∙◌, arith}
-use Rattle.std.specs.Cmp.Lexicographic.{pointwise}
+use Rattle.std.proofs.Common.{◌≡◌, ◌↔◌, ℕ, ◌+◌, ◌≤◌, Bool, true, false, cond, List, [], Option, Some, None, is_some, refl, sym, ap, subst, ◌∙◌, arith}
 use Rattle.std.specs.HashMap.{HashMap}
-use Rattle.std.specs.List.{filter}
 use Rattle.std.specs.Map.{lookup}
 use Rattle.ra_ap_intern.specs.Families.{kept_named}
 use Rattle.std.proofs.lemmas.Bool.{and_parts, eqb-true}
@@ -11,7 +9,7 @@ use Rattle.ra_ap_intern.specs.Handle.{ref_name}
 use Rattle.ra_ap_intern.specs.Name.{Name}
 use Rattle.ra_ap_intern.specs.Named.{same_name}
 use Rattle.ra_ap_intern.specs.State.{State, IsState, reads, interned, name_of_value}
-use Rattle.ra_ap_intern.proofs.CallerLemmas.{names_same, interned_reads_on, found_itself, reads-kept_named}
+use Rattle.ra_ap_intern.proofs.CallerLemmas.{names_same, some_read, interned_reads_on, found_itself, kept_was_read}
 use Rattle.queries.specs.declared.cache.Memo.{Memo}
 use Rattle.queries.specs.declared.key.Key.{Key}
 use Rattle.queries.specs.declared.key.Key.TheVariants.{Cell, Total}
@@ -58,13 +56,6 @@ module _ {S : Type 0} (sheet : Formulas) where
   memos_none keys revision memos none h memo at =
       let found = sym (ap (lookup (λ r. same_name (ref_name h) (ref_name r))) none) ∙ at in absurd (cc)
 
-  -- memos of the same names
-  pub memos_same : (keys : State Key) (revision : ℕ) (old new : HashMap Handle Memo S)
-      → AreMemos sheet keys revision old
-      → ((h : Handle) → memo_in new (ref_name h) ≡ memo_in old (ref_name h))
-      → AreMemos sheet keys revision new
-  memos_same keys revision old new is same h memo at = is h memo (sym (same h) ∙ at)
-
   pub memo_put : (keys : State Key) (revision : ℕ) (old new : HashMap Handle Memo S)
       (handle : Handle) (memo : Memo) → AreMemos sheet keys revision old
       → IsMemo sheet keys revision (ref_name handle) memo
@@ -100,25 +91,6 @@ pub memo_right : (sheet : Formulas) (keys : State Key) (revision : ℕ) (name : 
     → memo.verified ≡ revision → IsRight sheet key memo.answer
 memo_right sheet keys revision name memo key is read now =
     subst (λ k. IsRight sheet k memo.answer) (same_Some _ _ (sym is.stored ∙ read)) (is.right now)
-
--- values that are equal one by one are the same
-pub same_values : (eq : Value → Value → Bool) → ((a b : Value) → (eq a b ≡ true) ↔ (a ≡ b))
-    → (xs ys : List Value) → pointwise eq xs ys ≡ true → xs ≡ ys
-same_values eq alike [] [] is = refl
-same_values eq alike [] (y ∷ ys) is = absurd (cc)
-same_values eq alike (x ∷ xs) [] is = absurd (cc)
-same_values eq alike (x ∷ xs) (y ∷ ys) is =
-    let both = and_parts _ _ is in
-    let first = (alike x y).0 both.0 in
-    let rest = same_values eq alike xs ys both.1 in λ i. first i ∷ rest i
-
-pub values_same : (eq : Value → Value → Bool) → ((a b : Value) → (eq a b ≡ true) ↔ (a ≡ b))
-    → (xs ys : List Value) → xs ≡ ys → pointwise eq xs ys ≡ true
-values_same eq alike xs ys is = subst (λ zs. pointwise eq xs zs ≡ true) is (itself xs)
-  where
-    itself : (zs : List Value) → pointwise eq zs zs ≡ true
-    itself [] = refl
-    itself (z ∷ zs) = ap (λ t. t && pointwise eq zs zs) ((alike z z).1 refl) ∙ itself zs
 
 -- an older memo's value is what the query gives from the values that it read
 pub memo_given : (sheet : Formulas) (keys : State Key) (revision : ℕ) (name : Name) (memo : Memo)
@@ -172,47 +144,6 @@ module _ (old new : Formulas) (place : Place)
 
 -- ---- a collection
 
--- among the entries that pass, a name that passes finds what it did, and another nothing
-module _ (name : Name) (passes : Name → Bool) where
-  abbrev named : Handle → Bool
-  named r = same_name name (ref_name r)
-
-  abbrev passing : List (Handle × Memo) → List (Handle × Memo)
-  passing entries = filter (λ e. passes (ref_name e.0)) entries
-
-  found_later : (e : Handle × Memo) (es : List (Handle × Memo))
-      → lookup named (passing es) ≡ cond (passes name) (lookup named es) None → (t u : Bool)
-      → passes (ref_name e.0) ≡ t → named e.0 ≡ u
-      → lookup named (cond t (e ∷ passing es) (passing es))
-      ≡ cond (passes name) (cond u (Some e.1) (lookup named es)) None
-  found_later e es rest true true pass same =
-      ap (λ v. cond v (Some e.1) (lookup named (passing es))) same
-      ∙ sym (ap (λ v. cond v (Some e.1) None) (ap passes (names_same _ _ same) ∙ pass))
-  found_later e es rest true false pass same =
-      ap (λ v. cond v (Some e.1) (lookup named (passing es))) same ∙ rest
-  found_later e es rest false true pass same =
-      let out = ap passes (names_same _ _ same) ∙ pass in
-      rest ∙ ap (λ v. cond v (lookup named es) None) out
-      ∙ sym (ap (λ v. cond v (Some e.1) None) out)
-  found_later e es rest false false pass same = rest
-
-  pub found_among : (entries : List (Handle × Memo)) → lookup named (passing entries)
-      ≡ cond (passes name) (lookup named entries) None
-  found_among [] = nothing (passes name)
-    where
-      nothing : (t : Bool) → lookup named (passing []) ≡ cond t (lookup named (passing [])) None
-      nothing true = refl
-      nothing false = refl
-  found_among (e ∷ es) =
-      found_later e es (found_among es) (passes (ref_name e.0)) (named e.0) refl refl
-
-pub memos_filtered : {S : Type 0} (passes : Name → Bool) (memos left : HashMap Handle Memo S)
-    → left.entries ≡ filter (λ e. passes (ref_name e.0)) memos.entries → (h : Handle)
-    → memo_in left (ref_name h) ≡ cond (passes (ref_name h)) (memo_in memos (ref_name h)) None
-memos_filtered passes memos left entries h =
-    ap (lookup (λ r. same_name (ref_name h) (ref_name r))) entries
-    ∙ found_among (ref_name h) passes memos.entries
-
 -- the memos of the queries that are left
 pub memos_kept : {S : Type 0} (sheet : Formulas) (keys later : State Key) (revision : ℕ)
     (memos left : HashMap Handle Memo S) (set : Name → Bool) → AreMemos sheet keys revision memos
@@ -223,20 +154,16 @@ pub memos_kept : {S : Type 0} (sheet : Formulas) (keys later : State Key) (revis
 memos_kept sheet keys later revision memos left set is kept filtered h memo at =
     go (is_some (reads later (ref_name h))) refl (sym (filtered h) ∙ at)
   where
-    there : (t : Bool) (key : Key) → reads keys (ref_name h) ≡ Some key
-        → is_some (cond t (reads keys (ref_name h)) None) ≡ true
-        → cond t (reads keys (ref_name h)) None ≡ Some key
-    there true key read is = read
-    there false key read is = absurd (cc)
-
     go : (t : Bool) → is_some (reads later (ref_name h)) ≡ t
         → cond t (memo_in memos (ref_name h)) None ≡ Some memo
         → IsMemo sheet later revision (ref_name h) memo
     go true stays found =
         let m = is h memo found in
-        let now = ap (λ s. reads s (ref_name h)) kept ∙ reads-kept_named keys set (ref_name h) in record {
+        let r = some_read (reads later (ref_name h)) stays in
+        let was = kept_was_read keys set (ref_name h) r.0
+        (ap (λ s. reads s (ref_name h)) (sym kept) ∙ r.1) in record {
           key = m.key;
-          stored = now ∙ there (set (ref_name h)) m.key m.stored (sym (ap is_some now) ∙ stays);
+          stored = r.1 ∙ sym was.1 ∙ m.stored;
           early = m.early;
           given = m.given;
           right = m.right;

@@ -80,6 +80,15 @@ module _ {V : Type 0} where
       → reads (kept_named s set) name ≡ cond (set name) (reads s name) None
   reads-kept_named s set name = of_kept (λ k. k.value) s set name
 
+  -- so what it reads was read, under a name of the set
+  pub kept_was_read : (s : State V) (set : Name → Bool) (name : Name) (v : V)
+      → reads (kept_named s set) name ≡ Some v → (set name ≡ true) × (reads s name ≡ Some v)
+  kept_was_read s set name v is = go (set name) (sym (reads-kept_named s set name) ∙ is)
+    where
+      go : (t : Bool) → cond t (reads s name) None ≡ Some v → (t ≡ true) × (reads s name ≡ Some v)
+      go true read = (refl, read)
+      go false read = absurd (cc)
+
   -- and its counts
   pub counts-kept_named : (s : State V) (set : Name → Bool) (name : Name)
       → counts (kept_named s set) name ≡ cond (set name) (counts s name) None

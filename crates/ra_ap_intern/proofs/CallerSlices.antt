@@ -1,9 +1,28 @@
 -- Equal slices: equal headers, and items that are equal one by one.
-use Rattle.std.proofs.Common.{◌≡◌, Bool, true, ◌&&◌, length}
+use Rattle.std.proofs.Common.{◌≡◌, ◌↔◌, Bool, true, ◌&&◌, List, [], ◌∷◌, length, map, refl}
 use Rattle.std.proofs.lemmas.Bool.{and_parts, and_from}
 use Rattle.std.specs.Cmp.{IsEquivalence}
 use Rattle.std.specs.Cmp.Lexicographic.{pointwise, as_long, lists_equiv}
 use Rattle.ra_ap_intern.specs.Sliced.{Sliced, sliced_eq}
+
+-- lists are equal one by one exactly if they are seen as the same, where their items are
+pub pointwise_views : {A X : Type 0} (eq : A → A → Bool) (view : A → X)
+    → ((v w : A) → (eq v w ≡ true) ↔ (view v ≡ view w)) → (xs ys : List A)
+    → (pointwise eq xs ys ≡ true) ↔ (map view xs ≡ map view ys)
+pointwise_views eq view alike [] [] = (λ is. refl, λ same. refl)
+pointwise_views eq view alike [] (y ∷ ys) = (λ is. absurd (cc), λ same. absurd (cc))
+pointwise_views eq view alike (x ∷ xs) [] = (λ is. absurd (cc), λ same. absurd (cc))
+pointwise_views eq view alike (x ∷ xs) (y ∷ ys) =
+    let rest = pointwise_views eq view alike xs ys in (
+      λ is.
+          let both = and_parts _ _ is in
+          let first = (alike x y).0 both.0 in
+          let others = rest.0 both.1 in λ i. first i ∷ others i,
+      λ same.
+          let first : view x ≡ view y = cc in
+          let others : map view xs ≡ map view ys = cc in
+          and_from _ _ ((alike x y).1 first) (rest.1 others),
+    )
 
 module _ {H I : Type 0} (h : H → H → Bool) (i : I → I → Bool) where
   -- it is an equivalence where the equalities of headers and of items are
@@ -28,3 +47,16 @@ module _ {H I : Type 0} (h : H → H → Bool) (i : I → I → Bool) where
   pub sliced_lengths : (v w : Sliced H I) → sliced_eq h i v w ≡ true
       → length v.items ≡ length w.items
   sliced_lengths v w e = as_long i v.items w.items (sliced_parts v w e).1
+
+  -- slices are equal exactly if their headers and their items are seen as the same
+  pub sliced_views : {X Y : Type 0} (header : H → X) (item : I → Y)
+      → ((a b : H) → (h a b ≡ true) ↔ (header a ≡ header b))
+      → ((a b : I) → (i a b ≡ true) ↔ (item a ≡ item b)) → (v w : Sliced H I)
+      → (sliced_eq h i v w ≡ true)
+      ↔ ((header v.header ≡ header w.header) × (map item v.items ≡ map item w.items))
+  sliced_views header item headers items v w =
+      let first = headers v.header w.header in
+      let rest = pointwise_views i item items v.items w.items in (
+        λ e. let both = sliced_parts v w e in (first.0 both.0, rest.0 both.1),
+        λ same. and_from _ _ (first.1 same.0) (rest.1 same.1),
+      )

@@ -1,5 +1,5 @@
 -- Symbols and the texts that they name: what a table names after an interning.
-use Rattle.std.proofs.Common.{◌≡◌, ◌↔◌, ℕ, ◌-◌, ◌^◌, Bool, true, false, cond, List, Option, Some, None, refl, sym, ap, subst, ◌∙◌}
+use Rattle.std.proofs.Common.{◌≡◌, ◌↔◌, ℕ, ◌-◌, ◌^◌, Bool, true, false, cond, List, Option, Some, None, inl, inr, refl, sym, ap, subst, ◌∙◌}
 use Rattle.std.specs.HashMap.{HashMap, get, get_by}
 use Rattle.std.specs.Option.{option_map}
 use Rattle.std.specs.Str.{bytes_eq}
@@ -9,14 +9,13 @@ use Rattle.std.proofs.lemmas.Option.{same_Some}
 use Rattle.std.proofs.lemmas.Slice.Eq.{bytes_eq-Decides}
 use Rattle.ra_ap_intern.specs.Presets.{place_of}
 use Rattle.ra_ap_intern.specs.Name.{Name}
-use Rattle.ra_ap_intern.specs.Named.{same_name}
-use Rattle.ra_ap_intern.specs.State.{State, IsState, reads, name_in, name_of_value, birth_of, or_added, interned, interned_counted}
+use Rattle.ra_ap_intern.specs.State.{State, IsState, reads, name_of_value, interned, interned_counted}
 use Rattle.ra_ap_intern.specs.Symbols.{Named, same_named, source_of, symbol_ref_name, text_of, named_in, named_at, symbol_in, symbol_at, due_symbol, due_symbol_at}
 use Rattle.ra_ap_intern.specs.Symbols.Named.{preset, entry}
 use Rattle.ra_ap_intern.specs.declared.symbol.SymbolRef.{SymbolRef}
 use Rattle.intern_store.proofs.Named.{names_same, same_names}
-use Rattle.ra_ap_intern.proofs.CallerInterning.{found_reads, read_found, interned_counted_reads}
-use Rattle.ra_ap_intern.proofs.CallerReads.{reads-added, counted_up_reads, interned_counted_reads_on}
+use Rattle.ra_ap_intern.proofs.CallerInterning.{found_reads, read_found, interned_counted_reads, interned_or_read}
+use Rattle.ra_ap_intern.proofs.CallerReads.{counted_up_reads, interned_counted_reads_on}
 use Rattle.ra_ap_intern.proofs.CallerStates.{state_interned_counted}
 use Rattle.ra_ap_intern.proofs.CallerViews.{equality_tested, map_named, map_changed}
 use Rattle.ra_ap_intern.proofs.Texts.{reads_back as symbol_reads}
@@ -47,7 +46,8 @@ pub references_tested : (eq : SymbolRef → SymbolRef → Bool)
 references_tested eq alike =
     equality_tested eq same_named symbol_ref_name alike named_same same_nameds
 
--- a map under symbols is read by what they name, also after a value was put under one or taken away
+-- a map under symbols is read by what they name, also after a value was put under one or taken away,
+-- or where it holds the same in another order
 module _ {M S : Type 0} (eq : SymbolRef → SymbolRef → Bool)
     (alike : (a b : SymbolRef) → (eq a b ≡ true) ↔ (symbol_ref_name a ≡ symbol_ref_name b)) where
   pub symbols_named : (m : HashMap SymbolRef M S) (a : SymbolRef)
@@ -63,6 +63,15 @@ module _ {M S : Type 0} (eq : SymbolRef → SymbolRef → Bool)
       subst (λ b. get_by (λ s. same_named b (symbol_ref_name s)) new
       ≡ cond (same_named (symbol_ref_name key) b) value (get_by (λ s. same_named b (symbol_ref_name s)) old)) r.1
       (map_changed eq same_named symbol_ref_name (references_tested eq alike) old new key value is r.0)
+
+  pub symbols_same : (old new : HashMap SymbolRef M S) → ((q : SymbolRef) → get eq new q ≡ get eq old q)
+      → (a : Named) → get_by (λ s. same_named a (symbol_ref_name s)) new
+      ≡ get_by (λ s. same_named a (symbol_ref_name s)) old
+  symbols_same old new same a =
+      let r = named_by a in
+      subst (λ b. get_by (λ s. same_named b (symbol_ref_name s)) new
+      ≡ get_by (λ s. same_named b (symbol_ref_name s)) old) r.1
+      (sym (symbols_named new r.0) ∙ same r.0 ∙ symbols_named old r.0)
 
 -- a table stays one where a text is interned that nothing refuses
 pub state_symbol : (s : State (List ℕ)) (text : List ℕ) → IsState bytes_eq s
@@ -83,16 +92,11 @@ same_members None None there back = refl
 reads_back : (s : State (List ℕ)) (v w : List ℕ) (n : Name) → bytes_eq v w ≡ false
     → reads (interned_counted bytes_eq s v) n ≡ Some w → reads s n ≡ Some w
 reads_back s v w n other is =
-    go (birth_of bytes_eq s v)
-    (sym (counted_up_reads (interned bytes_eq s v).state (interned bytes_eq s v).birth n) ∙ is)
-  where
-    old : (t : Bool) → cond t (Some v) (reads s n) ≡ Some w → reads s n ≡ Some w
-    old true h = let no = (bytes_eq-Decides v w).1 (same_Some _ _ h) in absurd (cc)
-    old false h = h
-
-    go : (o : Option ℕ) → reads (or_added o s v).state n ≡ Some w → reads s n ≡ Some w
-    go (Some b) h = h
-    go None h = old (same_name n (name_in s s.next)) (sym (reads-added s v n) ∙ h)
+    let i = interned bytes_eq s v in
+    elim (interned_or_read bytes_eq s v n w (sym (counted_up_reads i.state i.birth n) ∙ is)) [
+      | inl same ↦ let no = (bytes_eq-Decides v w).1 same in absurd (cc)
+      | inr read ↦ read
+    ]
 
 -- ---- after a text is interned
 

@@ -2,20 +2,16 @@
 use Rattle.std.proofs.Common.{◌≡◌, List, [], ◌∷◌, ◌++◌, length, map, reverse, Bool, true, false, rules, Some, refl, sym, ap, subst, ◌∙◌, append_assoc, inl, inr, arith}
 use Rattle.std.specs.Prelude.{◌↔◌, IsTrue}
 use Rattle.std.proofs.lemmas.List.{append-nil, reverse-append, map-append}
-use Rattle.std.proofs.lemmas.Option.{same_Some}
 use Rattle.std.specs.Option.{option_map}
 use Rattle.intern_terms.specs.Handle.{term_name}
 use Rattle.intern_terms.specs.Tree.{Tree, Trees, tree, no_more, one_more, UnfoldsTo}
 use Rattle.intern_terms.specs.declared.handle.TermRef.{TermRef}
 use Rattle.ra_ap_intern.specs.Name.{Name}
 use Rattle.ra_ap_intern.specs.State.{reads}
-use Rattle.ra_ap_intern.specs.Symbols.{Named}
 use Rattle.syntax.specs.Changes.{Swap, swap, Alike, HaveParts, Changed, AllChanged, olds_of, news_of}
-use Rattle.syntax.specs.Machine.{count}
 use Rattle.syntax.specs.Parsing.{Store, Stand}
 use Rattle.syntax.specs.declared.change.Change.{Change}
-use Rattle.syntax.proofs.Reading.{stand_count}
-use Rattle.syntax.proofs.Runs.{joined}
+use Rattle.intern_terms.proofs.CallerTerms.{joined, forest_length, forest_append, tree_arguments}
 
 -- what was told, and what is told of these pairs, leads from a tree to another
 pub record Leads (s : Store) (olds news : List TermRef) (told : List Swap) (t u : Tree) : Type 0
@@ -127,14 +123,6 @@ leads_told s c olds news told t u is not = record {
       ));
 }
 
-stand_joined : (s : Store) (xs ys : List TermRef) (ts us : Trees) → Stand s xs ts → Stand s ys us
-    → Stand s (xs ++ ys) (joined ts us)
-stand_joined s [] ys no_more us first second = second
-stand_joined s [] ys (one_more t ts) us first second = absurd first
-stand_joined s (x ∷ xs) ys no_more us first second = absurd first
-stand_joined s (x ∷ xs) ys (one_more t ts) us first second =
-    (first.0, stand_joined s xs ys ts us first.1 second)
-
 -- changes of parts, and of what follows them
 record Split (s : Store) (ts us vs ws : Trees) (changes : List Swap) : Type 0 where
   pub first : List Swap
@@ -180,8 +168,8 @@ leads_inside s a b olds news xs ys told t u is have same = go is.old is.new have
     go (tree head ts) (tree other us) have lead = record {
       old_trees = joined ts is.old_trees;
       new_trees = joined us is.new_trees;
-      olds_stand = stand_joined s xs olds ts is.old_trees have.1 is.olds_stand;
-      news_stand = stand_joined s ys news us is.new_trees have.2 is.news_stand;
+      olds_stand = forest_append s ts is.old_trees xs olds have.1 is.olds_stand;
+      news_stand = forest_append s us is.new_trees ys news have.2 is.news_stand;
       lead = λ rest all.
           let parts = split s xs ys ts us is.old_trees is.new_trees have.1 have.2 same rest all in
           lead rest (
@@ -193,22 +181,14 @@ leads_inside s a b olds news xs ys told t u is have same = go is.old is.new have
           );
     }
 
-parts_count : (s : Store) (name : Name) (head : Named) (ts : Trees) (items : List TermRef)
-    → UnfoldsTo s name (tree head ts) → Some items ≡ option_map (λ v. v.items) (reads s name)
-    → count ts ≡ length items
-parts_count s name head ts items is read =
-    let found : Some items ≡ Some is.0.items =
-    read ∙ ap (option_map (λ v. v.items)) is.1 in
-    stand_count s is.0.items ts is.3 ∙ ap length (sym (same_Some items is.0.items found))
-
 -- trees with other numbers of parts aren't alike
 pub not_alike : (s : Store) (n m : Name) (t u : Tree) (olds news : List TermRef)
     → UnfoldsTo s n t → UnfoldsTo s m u → Some olds ≡ option_map (λ v. v.items) (reads s n)
     → Some news ≡ option_map (λ v. v.items) (reads s m) → ¬ (length olds ≡ length news)
     → ¬ (Alike t u)
 not_alike s n m (tree head ts) (tree other us) olds news old new read_old read_new not alike =
-    not (sym (parts_count s n head ts olds old read_old) ∙ alike.1
-    ∙ parts_count s m other us news new read_new)
+    not (sym (forest_length s ts olds (tree_arguments s n head ts old olds read_old)) ∙ alike.1
+    ∙ forest_length s us news (tree_arguments s m other us new news read_new))
 
 -- more pairs on the stack
 pub olds_more : (pairs others : List Change) (olds : List TermRef)

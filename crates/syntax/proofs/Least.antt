@@ -1,9 +1,8 @@
 -- The changes that are told bring no more terms than any others.
 use Rattle.std.proofs.Common.{◌≡◌, ℕ, suc, ◌+◌, ◌≤◌, List, [], ◌∷◌, ◌++◌, inl, inr, refl, ap, subst, arith}
-use Rattle.intern_terms.specs.Tree.{Tree, Trees, tree, no_more, one_more, UnfoldsTo}
+use Rattle.intern_terms.specs.Tree.{Tree, Trees, tree, no_more, one_more, count, UnfoldsTo}
 use Rattle.ra_ap_intern.specs.Name.{Name}
 use Rattle.syntax.specs.Changes.{Swap, Changed, AllChanged, size, sizes, Bring, IsMadeWith, AreMadeWith}
-use Rattle.syntax.specs.Machine.{count}
 use Rattle.syntax.specs.Parsing.{Store}
 
 same_count : (ts us : Trees) (n : ℕ) → AreMadeWith ts us n → count ts ≡ count us

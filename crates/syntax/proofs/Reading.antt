@@ -1,46 +1,33 @@
 -- What was read, as trees, after each change.
 use Rattle.std.proofs.Common.{◌≡◌, Bool, true, false, cond, List, [], ◌∷◌, ◌++◌, map, reverse, length, Option, Some, None, refl, sym, ap, subst, ◌∙◌, Result, Ok, Err}
-use Rattle.std.specs.Prelude.{suc, IfOk, OnOk}
+use Rattle.std.specs.Prelude.{IfOk, OnOk}
 use Rattle.std.proofs.lemmas.List.{reverse-append, reverse-reverse}
 use Rattle.intern_terms.specs.Handle.{term_name}
-use Rattle.intern_terms.specs.Tree.{Tree, Trees, tree, no_more, one_more, UnfoldsTo, AllUnfold}
+use Rattle.intern_terms.specs.Tree.{Tree, Trees, tree, no_more, one_more, count, UnfoldsTo}
 use Rattle.intern_terms.specs.declared.handle.TermRef.{TermRef}
 use Rattle.ra_ap_intern.specs.Name.{Name}
 use Rattle.ra_ap_intern.specs.Symbols.{Named}
 use Rattle.syntax.specs.Frames.{shape_of, NoneYields}
-use Rattle.syntax.specs.Machine.{Unclosed, count, with_last, yields, head_of, headed, completed, reduced}
+use Rattle.syntax.specs.Machine.{Unclosed, with_last, yields, head_of, headed, completed, reduced}
 use Rattle.syntax.specs.Parsing.{Store, Keeps, Stand, IsUnclosed, AreUnclosed, Opens}
 use Rattle.syntax.specs.declared.machine.Frame.{Frame}
 use Rattle.syntax.specs.declared.token.Operator.{Operator}
-
-pub stand_count : (s : Store) (terms : List TermRef) (ts : Trees) → Stand s terms ts
-    → count ts ≡ length terms
-stand_count s [] no_more all = refl
-stand_count s [] (one_more t ts) all = absurd all
-stand_count s (n ∷ terms) no_more all = absurd all
-stand_count s (n ∷ terms) (one_more t ts) all = ap suc (stand_count s terms ts all.1)
+use Rattle.intern_terms.proofs.CallerTerms.{forest_on, forest_length, forest_append}
+use Rattle.syntax.proofs.Runs.{joined_last, joined_none}
 
 pub stand_last : (s : Store) (terms : List TermRef) (ts : Trees) (term : TermRef) (t : Tree)
     → Stand s terms ts → UnfoldsTo s (term_name term) t
     → Stand s (terms ++ term ∷ []) (with_last ts t)
-stand_last s [] no_more term t all one = (one, tt)
-stand_last s [] (one_more u us) term t all one = absurd all
-stand_last s (n ∷ terms) no_more term t all one = absurd all
-stand_last s (n ∷ terms) (one_more u us) term t all one =
-    (all.0, stand_last s terms us term t all.1 one)
+stand_last s terms ts term t all one =
+    subst (Stand s (terms ++ term ∷ []))
+    (sym (joined_last ts t no_more) ∙ joined_none (with_last ts t))
+    (forest_append s ts (one_more t no_more) terms (term ∷ []) all (one, tt))
 
 module _ (old new : Store) (keeps : Keeps old new) where
-  pub keeps_all : (names : List Name) (ts : Trees) → AllUnfold old names ts
-      → AllUnfold new names ts
-  keeps_all [] no_more all = tt
-  keeps_all [] (one_more t ts) all = absurd all
-  keeps_all (n ∷ names) no_more all = absurd all
-  keeps_all (n ∷ names) (one_more t ts) all = (keeps n t all.0, keeps_all names ts all.1)
-
   pub keeps_form : (f : Frame) (o : Unclosed) → IsUnclosed old f o → IsUnclosed new f o
   keeps_form f o is = record {
     shape = is.shape;
-    parts = keeps_all (map term_name f.parts.items) o.parts is.parts;
+    parts = forest_on old new keeps o.parts (map term_name f.parts.items) is.parts;
   }
 
   pub keeps_forms : (fs : List Frame) (os : List Unclosed) → AreUnclosed old fs os
@@ -109,7 +96,7 @@ yields_by : (s : Store) (f : Frame) (o : Unclosed) (next : Option Operator) (b :
     → yields o.shape (count o.parts) next ≡ b
 yields_by s f o next b is yield =
     ap (λ shape. yields shape (count o.parts) next) (sym is.shape)
-    ∙ ap (λ n. yields (shape_of f.form) n next) (stand_count s f.parts.items o.parts is.parts)
+    ∙ ap (λ n. yields (shape_of f.form) n next) (forest_length s o.parts f.parts.items is.parts)
     ∙ yield
 
 -- a form that yields is completed
@@ -197,5 +184,5 @@ pub item_stands : (old new : Store) → Keeps old new → (before after : List T
     → Stand old before ts → UnfoldsTo new (term_name item) t → Stand new after (with_last ts t)
 item_stands old new keeps before after item is ts t stand unfolds =
     subst (λ terms. Stand new terms (with_last ts t)) (sym is)
-    (stand_last new before ts item t (keeps_all old new keeps (map term_name before) ts stand)
+    (stand_last new before ts item t (forest_on old new keeps ts (map term_name before) stand)
     unfolds)

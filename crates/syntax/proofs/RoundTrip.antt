@@ -1,8 +1,9 @@
 -- What is printed is read again.
 use Rattle.std.proofs.Common.{◌≡◌, Bool, true, false, cond, List, [], ◌∷◌, ◌++◌, Option, Some, None, refl, sym, ap, subst, ◌∙◌, inl, inr}
-use Rattle.std.specs.Prelude.{◌⊎◌, ◌↔◌, option_and_then}
+use Rattle.std.specs.Prelude.{◌⊎◌, option_and_then}
 use Rattle.std.proofs.lemmas.Option.{same_Some}
-use Rattle.intern_terms.specs.Tree.{Tree, Trees, tree, no_more, one_more, UnfoldsTo, AllUnfold}
+use Rattle.intern_terms.specs.Store.{IsTerms}
+use Rattle.intern_terms.specs.Tree.{Tree, Trees, tree, no_more, one_more, AllUnfold}
 use Rattle.ra_ap_intern.specs.Name.{Name}
 use Rattle.ra_ap_intern.specs.Symbols.{Named, source_of, symbol_name, same_named}
 use Rattle.ra_ap_intern.specs.declared.symbol.symbols.TheConstants as constant
@@ -12,10 +13,10 @@ use Rattle.syntax.specs.Parsing.{Store, Keeps}
 use Rattle.syntax.specs.Printing.{IsItem, AreItems, item_tokens, program_tokens, defined_tokens, name_or_call, two_parts, three_parts, conditional, local, called_with, written, tokens_of, tokens_of_each}
 use Rattle.syntax.specs.declared.token.Operator.{Operator}
 use Rattle.syntax.specs.declared.token.Mark.TheVariants.{Equals, Semicolon}
+use Rattle.intern_terms.proofs.CallerTerms.{joined, one_list, forest_on}
 use Rattle.ra_ap_intern.proofs.CallerLemmas.{named_same}
 use Rattle.syntax.proofs.Heads.{head_of_operator}
-use Rattle.syntax.proofs.Reading.{keeps_all}
-use Rattle.syntax.proofs.Runs.{AreRead, EachRead, called_read, sides_read, conditional_read, local_read, then_rest, frame, joined, joined_last, joined_none}
+use Rattle.syntax.proofs.Runs.{AreRead, EachRead, called_read, sides_read, conditional_read, local_read, then_rest, frame, joined_last, joined_none}
 
 two_read : (head : Named) (found : Option Operator) → operator_of head ≡ found
     → (a b : List Lexeme) (t u : Tree) → AreRead a t → AreRead b u
@@ -141,32 +142,15 @@ pub program_read : (ts : Trees) → AreItems ts → program (program_tokens ts) 
 program_read ts are =
     ap (option_and_then (λ r. whole_items r.items r.opens r.value)) (items_read no_more ts are)
 
--- names that unfold into the same trees are the same
-pub same_names_in : (s : Store)
-    → ((n m : Name) (t u : Tree) → UnfoldsTo s n t → UnfoldsTo s m u → (n ≡ m) ↔ (t ≡ u))
-    → (ns ms : List Name) (ts : Trees) → AllUnfold s ns ts → AllUnfold s ms ts → ns ≡ ms
-same_names_in s tell [] [] ts first second = refl
-same_names_in s tell [] (m ∷ ms) no_more first second = absurd second
-same_names_in s tell [] (m ∷ ms) (one_more t ts) first second = absurd first
-same_names_in s tell (n ∷ ns) [] no_more first second = absurd first
-same_names_in s tell (n ∷ ns) [] (one_more t ts) first second = absurd second
-same_names_in s tell (n ∷ ns) (m ∷ ms) no_more first second = absurd first
-same_names_in s tell (n ∷ ns) (m ∷ ms) (one_more t ts) first second =
-    let one : n ≡ m = (tell n m t t first.0 second.0).1 refl in
-    let more = same_names_in s tell ns ms ts first.1 second.1 in
-    λ i. one i ∷ more i
-
 -- a program that was printed is read as the terms that it was printed from
-pub read_again : (old new : Store) → Keeps old new
-    → ((n m : Name) (t u : Tree) → UnfoldsTo new n t → UnfoldsTo new m u → (n ≡ m) ↔ (t ≡ u))
+pub read_again : (old new : Store) → Keeps old new → IsTerms new
     → (ls : List Lexeme) (read names : List Name) (items ts : Trees)
     → program ls ≡ Some items → AllUnfold new read items
     → AllUnfold old names ts → AreItems ts → ls ≡ program_tokens ts → read ≡ names
-read_again old new keeps tell ls read names items ts is stand stands are same =
+read_again old new keeps ok ls read names items ts is stand stands are same =
     let found : Some items ≡ Some ts = sym is ∙ ap program same ∙ program_read ts are in
-    same_names_in new tell read names ts
-    (subst (AllUnfold new read) (same_Some items ts found) stand)
-    (keeps_all old new keeps names ts stands)
+    one_list new ok ts read names (subst (AllUnfold new read) (same_Some items ts found) stand)
+    (forest_on old new keeps ts names stands)
 
 pub not_refused : (ls : List Lexeme) (ts : Trees) → program ls ≡ None → AreItems ts
     → ls ≡ program_tokens ts → ⊥

@@ -8,6 +8,7 @@ use Rattle.syntax.specs.Machine.{Shape, group, called, sides, choice, binding, U
 use Rattle.syntax.specs.Printing.{arguments, called_with, conditional, local}
 use Rattle.syntax.specs.declared.token.Operator.{Operator}
 use Rattle.syntax.specs.declared.token.Mark.TheVariants.{Open, Close, Then, Else, Equals, In}
+use Rattle.intern_terms.proofs.CallerTerms.{joined}
 
 -- within an item, before an expression and behind it
 abbrev pub before : Trees → Unclosed → List Unclosed → Reading
@@ -26,10 +27,6 @@ EachRead [] no_more = Unit {0}
 EachRead [] (one_more t ts) = ⊥
 EachRead (a ∷ more) no_more = ⊥
 EachRead (a ∷ more) (one_more t ts) = AreRead a t × EachRead more ts
-
-abbrev pub joined : Trees → Trees → Trees
-joined no_more us = us
-joined (one_more t ts) us = one_more t (joined ts us)
 
 pub joined_last : (ts : Trees) (t : Tree) (us : Trees)
     → joined (with_last ts t) us ≡ joined ts (one_more t us)

@@ -1,8 +1,7 @@
 -- What pieces spell.
-use Rattle.std.proofs.Common.{◌≡◌, Bool, true, false, cond, List, [], ◌∷◌, ◌++◌, map, reverse, length, ◌==◌, arith, Option, Some, None, refl, sym, ap, subst, ◌∙◌, append_assoc}
+use Rattle.std.proofs.Common.{◌≡◌, Bool, true, false, cond, List, [], ◌∷◌, ◌++◌, map, reverse, length, ◌==◌, arith, Option, Some, refl, sym, ap, subst, ◌∙◌, append_assoc}
 use Rattle.std.specs.Option.{option_map}
 use Rattle.std.proofs.lemmas.List.{append-nil, reverse-append, map-append}
-use Rattle.std.proofs.lemmas.Option.{same_Some}
 use Rattle.intern_terms.specs.Handle.{term_name}
 use Rattle.intern_terms.specs.Tree.{Tree, Trees, tree, no_more, one_more, UnfoldsTo}
 use Rattle.intern_terms.specs.declared.handle.TermRef.{TermRef}
@@ -23,6 +22,7 @@ use Rattle.syntax.specs.declared.token.Mark.TheVariants.{Open, Close, If, Then, 
 use Rattle.syntax.specs.declared.token.Operator.{Operator}
 use Rattle.syntax.specs.declared.token.Token.{Token}
 use Rattle.syntax.specs.declared.token.Token.TheVariants as token
+use Rattle.intern_terms.proofs.CallerTerms.{tree_head, tree_arguments}
 
 abbrev pub marked : Mark → Piece
 marked m = piece.Token (token.Mark m)
@@ -205,25 +205,6 @@ module _ (s : Store) where
   many_parts (n ∷ rest) no_more head a b c some stand = absurd stand
   many_parts (n ∷ rest) (one_more t ts) head a b c some stand = refl
 
-  pub unread : (name : Name) (t : Tree)
-      → None ≡ option_map (λ v. v.header) (reads s name) → UnfoldsTo s name t → ⊥
-  unread name (tree head ts) none is =
-      let found : None ≡ Some is.0.header = none ∙ ap (option_map (λ v. v.header)) is.1 in
-      absurd (cc)
-
-  -- what holds of the head and the parts that a name reads holds of those of its tree
-  read_tree : (name : Name) (head : Named) (ts : Trees) (header : Symbol) (parts : List TermRef)
-      → Some header ≡ option_map (λ v. v.header) (reads s name)
-      → Some parts ≡ option_map (λ v. v.items) (reads s name)
-      → UnfoldsTo s name (tree head ts) → (P : Named → Type 0)
-      → (Stand s parts ts → P (symbol_name header)) → P head
-  read_tree name head ts header parts headed parted is P made =
-      let same : header ≡ is.0.header =
-      same_Some _ _ (headed ∙ ap (option_map (λ v. v.header)) is.1) in
-      let all : parts ≡ is.0.items = same_Some _ _ (parted ∙ ap (option_map (λ v. v.items)) is.1) in
-      subst P (ap symbol_name same ∙ is.2)
-      (made (subst (λ terms. Stand s terms ts) (sym all) is.3))
-
   -- a tree that a name reads is written by its head and its parts
   pub written_tree : (name : Name) (t : Tree) (header : Symbol) (parts : List TermRef)
       → Some header ≡ option_map (λ v. v.header) (reads s name)
@@ -232,8 +213,8 @@ module _ (s : Store) where
       → ((ts : Trees) → Stand s parts ts → P (written (symbol_name header) (tokens_of_each ts)))
       → P (tokens_of t)
   written_tree name (tree head ts) header parts headed parted is P made =
-      read_tree name head ts header parts headed parted is
-      (λ h. P (written h (tokens_of_each ts))) (made ts)
+      subst (λ h. P (written h (tokens_of_each ts))) (tree_head s name head ts is header headed)
+      (made ts (tree_arguments s name head ts is parts parted))
 
   pub defined_tree : (name : Name) (t : Tree) (header : Symbol) (parts : List TermRef)
       → Some header ≡ option_map (λ v. v.header) (reads s name)
@@ -243,8 +224,9 @@ module _ (s : Store) where
       → P (name_or_call (symbol_name header) (tokens_of_each ts)))
       → P (defined_tokens t)
   defined_tree name (tree head ts) header parts headed parted is P made =
-      read_tree name head ts header parts headed parted is
-      (λ h. P (name_or_call h (tokens_of_each ts))) (made ts)
+      subst (λ h. P (name_or_call h (tokens_of_each ts)))
+      (tree_head s name head ts is header headed)
+      (made ts (tree_arguments s name head ts is parts parted))
 
   spell_append : (ps qs : List Piece) (ls ms : List Lexeme) → Spell s ps ls → Spell s qs ms
       → Spell s (ps ++ qs) (ls ++ ms)

@@ -3,13 +3,13 @@ use Rattle.std.proofs.Common.{◌≡◌, ℕ, Bool, true, false, cond, not, ◌&
 use Rattle.std.specs.Prelude.{IfErr}
 use Rattle.std.proofs.lemmas.List.{reverse-reverse}
 use Rattle.intern_terms.specs.Handle.{term_name}
-use Rattle.intern_terms.specs.Tree.{Tree, Trees, tree, no_more, one_more, UnfoldsTo}
+use Rattle.intern_terms.specs.Tree.{Tree, Trees, tree, no_more, one_more, count, UnfoldsTo}
 use Rattle.intern_terms.specs.declared.handle.TermRef.{TermRef}
 use Rattle.ra_ap_intern.specs.Symbols.{symbol_ref_name}
 use Rattle.ra_ap_intern.specs.declared.symbol.SymbolRef.{SymbolRef}
 use Rattle.syntax.specs.Frames.{shape_of, opened_by, Opened, no_frame}
 use Rattle.syntax.specs.Lexeme.{Lexeme, atom, lexeme, atom_of}
-use Rattle.syntax.specs.Machine.{Unclosed, Reading, count, with_last, is_nil, opened, opening, with_opened, separates, closes, closes_item, completed, sides, begun, marked, reduced, gone_on}
+use Rattle.syntax.specs.Machine.{Unclosed, Reading, with_last, is_nil, opened, opening, with_opened, separates, closes, closes_item, completed, sides, begun, marked, reduced, gone_on}
 use Rattle.syntax.specs.Parsing.{Store, Keeps, Stand, IsUnclosed, AreUnclosed, IsValue, Opens, ReadsBefore, Reaches, OnUnexpected}
 use Rattle.syntax.specs.declared.message.Expected.{Expected}
 use Rattle.syntax.specs.declared.message.Stop.{Stop}
@@ -23,7 +23,8 @@ use Rattle.syntax.specs.declared.machine.Machine.{Machine}
 use Rattle.syntax.specs.declared.token.Mark.{Mark}
 use Rattle.syntax.specs.declared.token.Token.{Token}
 use Rattle.syntax.specs.declared.token.Token.TheVariants as token
-use Rattle.syntax.proofs.Reading.{stand_count, stand_last, keeps_all, keeps_forms, opens_push, HasLast, opens_pop, opens_none}
+use Rattle.intern_terms.proofs.CallerTerms.{forest_on, forest_length}
+use Rattle.syntax.proofs.Reading.{stand_last, keeps_forms, opens_push, HasLast, opens_pop, opens_none}
 
 cond_true : {A : Type 0} (b : Bool) (x y : A) → b ≡ true → cond b x y ≡ x
 cond_true b x y is = ap (λ b. cond b x y) is
@@ -75,7 +76,7 @@ begun_named old new keeps m n name same_items same_frames value some items (o �
   refl,
   record {
     items = subst (λ v. Stand new v.items items) (sym same_items)
-        (keeps_all old new keeps (map term_name m.items.items) items before.items);
+        (forest_on old new keeps items (map term_name m.items.items) before.items);
     opens = subst (λ v. Opens new v.items (o ∷ os)) (sym same_frames)
         (keeps_forms old new keeps (reverse m.frames.items) (o ∷ os) before.opens);
     value = value;
@@ -162,7 +163,7 @@ separates_by : (s : Store) (f : Frame) (o : Unclosed) (mk : Mark) (k : ℕ) (b :
 separates_by s f o mk k b is same holds =
     ap (λ shape. separates shape (count o.parts) mk) (sym is.shape)
     ∙ ap (λ n. separates (shape_of f.form) n mk)
-    (stand_count s f.parts.items o.parts is.parts ∙ sym same)
+    (forest_length s o.parts f.parts.items is.parts ∙ sym same)
     ∙ holds
 
 closes_by : (s : Store) (f : Frame) (o : Unclosed) (mk : Mark) (b : Bool)
@@ -176,7 +177,7 @@ closes_item_by : (s : Store) (f : Frame) (o : Unclosed) (fs : List Frame) (os : 
 closes_item_by s f o fs os mk k b is are same holds =
     ap (λ shape. closes_item shape (count o.parts) mk && is_nil os) (sym is.shape)
     ∙ ap (λ n. closes_item (shape_of f.form) n mk && is_nil os)
-    (stand_count s f.parts.items o.parts is.parts ∙ sym same)
+    (forest_length s o.parts f.parts.items is.parts ∙ sym same)
     ∙ ap (λ e. closes_item (shape_of f.form) k mk && e) (sym (none_open s fs os are))
     ∙ holds
 
@@ -231,7 +232,7 @@ marked_closed old new keeps m n fs f term mk k all same lacks holds same_items s
           ∙ cond_true (closes p.last.shape mk) _ _ (closes_by old f p.last mk true p.is holds),
       record {
         items = subst (λ v. Stand new v.items items) (sym same_items)
-            (keeps_all old new keeps (map term_name m.items.items) items before.items);
+            (forest_on old new keeps items (map term_name m.items.items) before.items);
         opens = subst (λ fs. Opens new fs p.others) (sym same_frames)
             (keeps_forms old new keeps (reverse fs) p.others p.are);
         value = closed p.last t p.is unfolds;
@@ -322,7 +323,7 @@ gone_between old new keeps m mid n operator t is left first second none pushed i
       ap (λ t. gone_on items os v (lexeme t)) is,
       record {
         items = subst (λ w. Stand new w.items items) (sym (second ∙ first))
-            (keeps_all old new keeps (map term_name m.items.items) items before.items);
+            (forest_on old new keeps items (map term_name m.items.items) before.items);
         opens = subst (λ fs. Opens new fs (o ∷ r.0)) (sym pushed.1)
             (opens_push new mid.frames.items pushed.0 o r.0 so.0 (record {
               shape = ap shape_of pushed.2;
@@ -346,6 +347,6 @@ gone_marked old mid keeps m k mk t is whole first P goes items os v before so =
     subst (λ t. P (gone_on items os v (lexeme t))) (sym is)
     (goes items (reduced None os v).0 (reduced None os v).1 (record {
       items = subst (λ w. Stand mid w.items items) (sym first)
-          (keeps_all old mid keeps (map term_name m.items.items) items before.items);
+          (forest_on old mid keeps items (map term_name m.items.items) before.items);
       opens = so.0;
     }) so.1)

@@ -1,10 +1,9 @@
 -- What leads from a tree to another.
 use Rattle.std.specs.Prelude.{◌≡◌, ◌⊎◌, ℕ, suc, ◌+◌, ◌≤◌, List, [], ◌∷◌, ◌++◌, map as list_map}
 use Rattle.intern_terms.specs.Handle.{term_name}
-use Rattle.intern_terms.specs.Tree.{Tree, Trees, tree, no_more, one_more, UnfoldsTo}
+use Rattle.intern_terms.specs.Tree.{Tree, Trees, tree, no_more, one_more, count, UnfoldsTo}
 use Rattle.intern_terms.specs.declared.handle.TermRef.{TermRef}
 use Rattle.ra_ap_intern.specs.Name.{Name}
-use Rattle.syntax.specs.Machine.{count}
 use Rattle.syntax.specs.Parsing.{Store, Stand}
 use Rattle.syntax.specs.declared.change.Change.{Change}
 

@@ -1,6 +1,6 @@
 -- The parser as a machine over trees: what each token makes of what was read.
-use Rattle.std.specs.Prelude.{ℕ, suc, ◌==◌, Bool, true, false, nat_le, List, [], ◌∷◌, Option, Some, None, if◌then◌else◌, option_and_then, ◌&&◌}
-use Rattle.intern_terms.specs.Tree.{Tree, Trees, tree, no_more, one_more}
+use Rattle.std.specs.Prelude.{ℕ, ◌==◌, Bool, true, false, nat_le, List, [], ◌∷◌, Option, Some, None, if◌then◌else◌, option_and_then, ◌&&◌}
+use Rattle.intern_terms.specs.Tree.{Tree, Trees, tree, no_more, one_more, count}
 use Rattle.ra_ap_intern.specs.Symbols.{Named, symbol_name}
 use Rattle.ra_ap_intern.specs.declared.symbol.symbols.TheConstants as sym
 use Rattle.syntax.specs.Lexeme.{Lexeme, atom, call, between, mark, operator_head, precedence}
@@ -28,10 +28,6 @@ pub record Reading : Type 0 where
   pub items : Trees
   pub opens : List Unclosed
   pub value : Option Tree
-
-abbrev pub count : Trees → ℕ
-count no_more = 0
-count (one_more t ts) = suc (count ts)
 
 -- with a tree behind the others
 abbrev pub with_last : Trees → Tree → Trees

@@ -14,7 +14,7 @@ use crate::machine::{Machine, Spot};
 use crate::message::Stop;
 use crate::syntax::Syntax;
 use crate::token::PlacedToken;
-use intern_terms::{TermRef, laws};
+use intern_terms::TermRef;
 use text_run::Place;
 
 /// A program: its items, and the spots of their parts.
@@ -40,7 +40,6 @@ impl Syntax {
             program_of (lexemes tokens.now) ≡ None)) }
         ensures keeps { Keeps self.old.terms self.new.terms }
     {
-        laws::terms_are_equal_exactly_if_their_trees_are();
         let parsed = self.run(tokens, end);
         // What `number` says of the state is said here too.
         let _number = self.terms.number();

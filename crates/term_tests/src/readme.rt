@@ -2,7 +2,8 @@
 use intern_terms::{TermRef, TermStore};
 use ra_ap_intern::{Refusal, Symbol, SymbolTable};
 
-/// The term with the head of this text over these arguments.
+/// The term with the head of this text over these arguments, which counts it once. A head that comes
+/// back is released, so that it goes with its terms.
 fn term(
     names: &mut SymbolTable,
     terms: &mut TermStore,
@@ -10,8 +11,17 @@ fn term(
     args: &[TermRef],
 ) -> Result<TermRef, Refusal> {
     let head = Symbol::intern(names, head)?;
-    let (term, _) = terms.term(head, args).map_err(|refused| refused.why)?;
-    Ok(term)
+    match terms.term(head, args) {
+        Ok((term, None)) => Ok(term),
+        Ok((term, Some(head))) => {
+            head.release(names)?;
+            Ok(term)
+        }
+        Err(refused) => {
+            refused.back.release(names)?;
+            Err(refused.why)
+        }
+    }
 }
 
 #[test]
@@ -22,8 +32,7 @@ fn equal_terms_are_stored_once(rt: HostRuntime) {
     let y = term(&mut names, &mut terms, "y", &[]).expect(&rt, "y");
     let first = term(&mut names, &mut terms, "f", &[x, y]).expect(&rt, "f(x, y)");
     let second = term(&mut names, &mut terms, "f", &[x, y]).expect(&rt, "f(x, y) again");
-    assert!(rt; first == second);
-    assert_eq!(rt; terms.len(), 3);
+    assert!(rt; first == second && terms.len() == 3);
     let text = terms.written(first, &names, 100).expect(&rt, "memory");
     assert_eq!(rt; text.as_str(), "f(x, y)");
 
@@ -33,8 +42,9 @@ fn equal_terms_are_stored_once(rt: HostRuntime) {
     let walk = terms.walk(&[first]).expect(&rt, "memory");
     assert!(rt; walk.as_slice() == [x, y, first].as_slice());
 
-    // Once it is released, the next collection removes all three.
+    // Once it is released, the next collection removes all three, and gives up their heads.
     assert!(rt; kept.release(&mut terms).is_ok());
-    assert_eq!(rt; terms.collect().expect(&rt, "memory").removed, 3);
-    assert!(rt; terms.head(first).is_none());
+    let told = terms.collect_releasing(&[], &mut names);
+    assert!(rt; told.is_ok_and(|told| told.removed == 3));
+    assert!(rt; terms.head(first).is_none() && names.is_empty());
 }

@@ -97,7 +97,7 @@ impl Scene {
         assert!(rt; self.store.contains(term));
         assert!(rt; self.store.head(term) == Some(&head));
         assert!(rt; self.store.args(term) == Some(args));
-        assert!(rt; self.store.node(term) == Some((&head, args)));
+        assert!(rt; is_node(&self.store, term, &head, args));
         assert!(rt; self.store.named(term.name()) == Ok(term));
     }
 
@@ -180,6 +180,14 @@ impl Scene {
     pub fn collects_keeping(&mut self, rt: &impl Abort, roots: &[TermRef], answer: Told) {
         let did = self.store.collect_keeping(roots);
         is_equal(rt, told(did), Some(answer));
+    }
+}
+
+/// Whether the term reads this head with these arguments.
+fn is_node(store: &TermStore, term: TermRef, head: &Symbol, args: &[TermRef]) -> bool {
+    match store.node(term) {
+        Some((found, arguments)) => found == head && arguments == args,
+        None => false,
     }
 }
 

@@ -1,5 +1,5 @@
 -- What environments declare, before and after a change.
-use Rattle.std.proofs.Common.{◌≡◌, ◌↔◌, Bool, true, false, cond, List, [], ◌∷◌, map, Option, Some, None, Result, Ok, Err, IfOk, OnErr, refl, sym, ap, subst, ◌∙◌}
+use Rattle.std.proofs.Common.{◌≡◌, ◌↔◌, Bool, true, false, cond, List, [], ◌∷◌, map, Option, Some, Result, IfOk, OnErr, refl, sym, ap, subst, ◌∙◌}
 use Rattle.std.specs.HashMap.{HashMap, get, get_by}
 use Rattle.std.specs.Map.{lookup, values_of}
 use Rattle.std.specs.Option.{option_map}
@@ -11,16 +11,15 @@ use Rattle.ra_ap_intern.specs.Handle.{ref_name}
 use Rattle.ra_ap_intern.specs.Name.{Name}
 use Rattle.ra_ap_intern.specs.Names.{has}
 use Rattle.ra_ap_intern.specs.Reach.{IsReachedSet, starts_with}
-use Rattle.ra_ap_intern.specs.State.{State, reads}
+use Rattle.ra_ap_intern.specs.State.{State}
 use Rattle.ra_ap_intern.specs.Symbols.{Named, same_named, symbol_ref_name}
 use Rattle.ra_ap_intern.specs.declared.gc.Collected.{Collected}
 use Rattle.ra_ap_intern.specs.declared.kind.Values.{Values}
 use Rattle.ra_ap_intern.specs.declared.storage.Ref.{Ref}
 use Rattle.ra_ap_intern.specs.declared.symbol.SymbolRef.{SymbolRef}
-use Rattle.ra_ap_intern.proofs.CallerLemmas.{entry_read, reads-kept_named, root_kept, same_names, symbols_changed}
+use Rattle.ra_ap_intern.proofs.CallerLemmas.{collected, entry_read, kept_was_read, root_kept, same_names, symbols_changed}
 use Rattle.types.specs.Environment.{declared_as, declared_types, Declares}
 use Rattle.types.specs.Growing.{Grows}
-use Rattle.types.specs.Making.{ReadsOn}
 use Rattle.types.specs.Tree.{Tree, UnfoldsTo}
 use Rattle.types.specs.Types.{declared_by, types_of}
 use Rattle.types.specs.declared.environment.Environment.{Environment}
@@ -41,14 +40,6 @@ listed : {K : Type 0} (test : K → Bool) (es : List (K × Ref (Values TypeNode)
 listed test [] n is = absurd (cc)
 listed test (e ∷ es) n is = listed_first (test e.0) e.1 (lookup test es) _ n (listed test es n) is
 
--- what is read after a collection was read before
-kept_on : (s : State TypeNode) (names : List Name) → ReadsOn (kept_named s (has names)) s
-kept_on s names n v is = go (has names n) (sym (reads-kept_named s (has names) n) ∙ is)
-  where
-    go : (t : Bool) → cond t (reads s n) None ≡ Some v → reads s n ≡ Some v
-    go true h = h
-    go false h = absurd (cc)
-
 module _ (e : Environment) where
   -- the environment with these types
   abbrev over : State TypeNode → Environment
@@ -61,7 +52,12 @@ module _ (e : Environment) where
         → Declares e name tree ↔ Declares (over (kept_named e.types (has names))) name tree
     kept names is = (
       λ d. (d.0, d.1, go d.0 d.1 d.2),
-      λ d. (d.0, d.1, tree_stays (kept_named e.types (has names)) e.types (kept_on e.types names) tree d.0 d.2),
+      λ d. (
+        d.0,
+        d.1,
+        tree_stays (kept_named e.types (has names)) e.types
+            (λ n v read. (kept_was_read e.types (has names) n v read).1) tree d.0 d.2,
+      ),
     )
       where
         go : (n : Name) → declared_as e.declared name ≡ Some n → UnfoldsTo e.types n tree
@@ -72,22 +68,17 @@ module _ (e : Environment) where
             (listed _ e.declared.entries n at)
             (entry_read declared_by e.types n ∙ unfolds_read _ e.types names is tree n a)) a
 
-    pub collected : (new : State TypeNode) (r : Result Collected AllocError)
+    -- and after a collection
+    pub declares_collected : (new : State TypeNode) (r : Result Collected AllocError)
         → IfOk r (λ told. (names : List Name)
         × IsCollection (starts_with (declared_types e.declared) (types_of e.types)) (types_of e.types) names told
         × (new ≡ kept_named e.types (has names)))
         → OnErr r (new ≡ e.types)
         → Declares e name tree ↔ Declares (over new) name tree
-    collected new (Ok told) is err =
-        subst (λ s. Declares e name tree ↔ Declares (over s) name tree) (sym is.2)
-        (kept is.0 is.1.reached)
-    collected new (Err x) is err =
-        subst (λ s. Declares e name tree ↔ Declares (over s) name tree) (sym err)
-        (λ d. d, λ d. d)
-
-left : {A : Type 0} (t : Bool) (x y : A) → t ≡ false → cond t x y ≡ y
-left true x y is = absurd (cc)
-left false x y is = refl
+    declares_collected new r is err =
+        collected (λ s. s) kept_named (λ s set. refl)
+        (starts_with (declared_types e.declared) (types_of e.types)) (types_of e.types) e.types new
+        (λ s. Declares e name tree ↔ Declares (over s) name tree) (λ d. d, λ d. d) kept r (is, err)
 
 -- a type under the symbol of a name, and each other as it was
 pub declared_on : {S : Type 0} (eq : SymbolRef → SymbolRef → Bool)
@@ -105,15 +96,12 @@ declared_on eq alike m n key v put a =
     through true o = refl
     through false o = refl
 
-module _ {S : Type 0} (m n : HashMap SymbolRef (Ref (Values TypeNode)) S) where
-  pub others_stay : (key : SymbolRef) (v : Name) (a : Named)
-      → declared_as n a ≡ cond (same_named (symbol_ref_name key) a) (Some v) (declared_as m a)
-      → same_named (symbol_ref_name key) a ≡ false → declared_as n a ≡ declared_as m a
-  others_stay key v a is apart = is ∙ left _ (Some v) (declared_as m a) apart
-
-  pub declared_stays : n.entries ≡ m.entries → (a : Named) → declared_as n a ≡ declared_as m a
-  declared_stays same a =
-      ap (λ es. option_map ref_name (lookup (λ s. same_named a (symbol_ref_name s)) es)) same
+-- under another name stays what was
+pub others_stay : {S : Type 0} (m n : HashMap SymbolRef (Ref (Values TypeNode)) S)
+    (key : SymbolRef) (v : Name) (a : Named)
+    → declared_as n a ≡ cond (same_named (symbol_ref_name key) a) (Some v) (declared_as m a)
+    → same_named (symbol_ref_name key) a ≡ false → declared_as n a ≡ declared_as m a
+others_stay m n key v a is apart = is ∙ ap (λ t. cond t (Some v) (declared_as m a)) apart
 
 module _ (old new : Environment) (a : Named) (tree : Tree) where
   -- what is declared with the same type stands for the same tree

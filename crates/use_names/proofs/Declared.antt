@@ -1,5 +1,5 @@
 -- What is declared under each text, once a value was put under the symbol of one.
-use Rattle.std.proofs.Common.{◌≡◌, ◌↔◌, ℕ, Bool, true, false, cond, List, Option, Some, None, Result, Ok, Err, OnErr, refl, sym, ap, subst, ◌∙◌}
+use Rattle.std.proofs.Common.{◌≡◌, ◌↔◌, ℕ, Bool, true, false, cond, List, Option, Some, None, Result, Ok, Err, OnErr, refl, sym, ap, ◌∙◌}
 use Rattle.std.specs.Prelude.{option_and_then}
 use Rattle.std.specs.HashMap.{HashMap, get}
 use Rattle.std.specs.Str.{bytes_eq}
@@ -7,7 +7,7 @@ use Rattle.std.proofs.lemmas.Slice.Eq.{bytes_eq-Decides}
 use Rattle.ra_ap_intern.specs.State.{State, IsState}
 use Rattle.ra_ap_intern.specs.Symbols.{Named, same_named, symbol_ref_name, named_in, symbol_in, due_symbol}
 use Rattle.ra_ap_intern.specs.declared.symbol.SymbolRef.{SymbolRef}
-use Rattle.ra_ap_intern.proofs.CallerLemmas.{named_same, same_nameds, named_by, symbols_named, symbols_changed, named_here, named_there, named_once}
+use Rattle.ra_ap_intern.proofs.CallerLemmas.{named_same, same_nameds, symbols_changed, symbols_same, named_here, named_there, named_once}
 use Rattle.use_names.specs.Scope.{value_at, declared}
 
 pub on_err : {A E : Type 0} (r : Result A E) {P : Type 0} → P → OnErr r P
@@ -16,19 +16,12 @@ on_err (Err e) p = p
 
 module _ {V S : Type 0} (eq : SymbolRef → SymbolRef → Bool)
     (alike : (a b : SymbolRef) → (eq a b ≡ true) ↔ (symbol_ref_name a ≡ symbol_ref_name b)) where
-  values_same : (m n : HashMap SymbolRef V S) → ((q : SymbolRef) → get eq n q ≡ get eq m q)
-      → (a : Named) → value_at n a ≡ value_at m a
-  values_same m n same a =
-      let r = named_by a in
-      subst (λ b. value_at n b ≡ value_at m b) r.1
-      (sym (symbols_named eq alike n r.0) ∙ same r.0 ∙ symbols_named eq alike m r.0)
-
   -- values in another order
   pub declared_stays : (s : State (List ℕ)) (m n : HashMap SymbolRef V S)
       → ((q : SymbolRef) → get eq n q ≡ get eq m q) → (text : List ℕ)
       → declared s n text ≡ declared s m text
   declared_stays s m n same text =
-      λ i. option_and_then (λ a. values_same m n same a i) (named_in s text)
+      λ i. option_and_then (λ a. symbols_same eq alike m n same a i) (named_in s text)
 
   -- a value under the symbol of a text
   pub declared_on : (s : State (List ℕ)) (name : List ℕ) → IsState bytes_eq s
@@ -47,7 +40,7 @@ module _ {V S : Type 0} (eq : SymbolRef → SymbolRef → Bool)
           → value_at n a ≡ cond (same_named (symbol_in s name).symbol a) (Some v) (value_at m a)
       at a =
           symbols_changed eq alike l n key (Some v) put a
-          ∙ (λ i. cond (same_named (named i) a) (Some v) (values_same m l same a i))
+          ∙ (λ i. cond (same_named (named i) a) (Some v) (symbols_same eq alike m l same a i))
 
       apart : (a : Named) (t : Bool) → named_in (symbol_in s name).table text ≡ Some a
           → bytes_eq name text ≡ false → same_named (symbol_in s name).symbol a ≡ t → t ≡ false

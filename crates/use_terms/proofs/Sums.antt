@@ -1,5 +1,5 @@
 -- Sums, and what one is simplified to.
-use Rattle.std.proofs.Common.{◌≡◌, ◌↔◌, List, [], ◌∷◌, Option, Some, None, IfSome, IfNone, refl, sym, ap, subst, ◌∙◌}
+use Rattle.std.proofs.Common.{◌≡◌, ◌↔◌, [], ◌∷◌, Option, Some, None, IfSome, IfNone, refl, sym, ap, subst, ◌∙◌}
 use Rattle.std.specs.Option.{unwrap_or}
 use Rattle.ra_ap_intern.specs.Name.{Name}
 use Rattle.ra_ap_intern.specs.Sliced.{Sliced}
@@ -8,8 +8,9 @@ use Rattle.ra_ap_intern.specs.Symbols.{Named}
 use Rattle.ra_ap_intern.specs.declared.symbol.Symbol.{Symbol}
 use Rattle.intern_terms.specs.Handle.{term_name}
 use Rattle.intern_terms.specs.Store.{arguments}
-use Rattle.intern_terms.specs.Tree.{Tree, tree, no_more, one_more, UnfoldsTo, AllUnfold}
+use Rattle.intern_terms.specs.Tree.{Tree, tree, no_more, one_more, UnfoldsTo}
 use Rattle.intern_terms.specs.declared.handle.TermRef.{TermRef}
+use Rattle.intern_terms.proofs.CallerTerms.{forest_first, forest_none}
 use Rattle.use_terms.specs.Sums.{IsSum}
 
 module _ (s : State (Sliced Symbol TermRef)) (plus : Named) (name : Name) where
@@ -27,22 +28,17 @@ module _ (s : State (Sliced Symbol TermRef)) (plus : Named) (name : Name) where
       → UnfoldsTo s name (tree plus (one_more t (one_more u no_more)))
       → (first : Name) × (second : Name) × IsSum s plus name first second
       × UnfoldsTo s first t × UnfoldsTo s second u
-  sum_of_trees t u is = go (arguments is.0) refl is.3
-    where
-      go : (names : List Name) → arguments is.0 ≡ names
-          → AllUnfold s names (one_more t (one_more u no_more))
-          → (first : Name) × (second : Name) × IsSum s plus name first second
-          × UnfoldsTo s first t × UnfoldsTo s second u
-      go [] args all = absurd all
-      go (first ∷ []) args all = absurd all.1
-      go (first ∷ second ∷ []) args all = (
-        first,
-        second,
+  sum_of_trees t u is =
+      let first = forest_first s t (one_more u no_more) (arguments is.0) is.3 in
+      let second = forest_first s u no_more first.1 first.4 in
+      let last = second.2 ∙ ap (λ names. second.0 ∷ names) (forest_none s second.1 second.4) in
+      let args = first.2 ∙ ap (λ names. first.0 ∷ names) last in (
+        first.0,
+        second.0,
         record { term = is.0; read = is.1; head = is.2; args = args },
-        all.0,
-        all.1.0,
+        first.3,
+        second.3,
       )
-      go (first ∷ second ∷ third ∷ names) args all = absurd all.1.1
 
 module _ (s : State (Sliced Symbol TermRef)) (plus : Named) (zero : Name) (term : TermRef)
     (o : Option TermRef)

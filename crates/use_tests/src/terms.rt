@@ -12,7 +12,10 @@ fn term(
     args: &[TermRef],
 ) -> TermRef {
     let head = Symbol::intern(names, head).expect(rt, "a name");
-    let (term, _) = terms.term(head, args).ok().expect(rt, "a term");
+    let (term, back) = terms.term(head, args).ok().expect(rt, "a term");
+    if let Some(head) = back {
+        assert!(rt; head.release(names).is_ok());
+    }
     term
 }
 

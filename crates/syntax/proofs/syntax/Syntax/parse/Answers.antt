@@ -10,10 +10,8 @@ pub returns-clause-again : goal.returns-clause-again
 returns-clause-again c =
     if_ok_more c.run-parsed.result _ _ (λ p is names items stands are same.
     read_again c.args.self.now.terms c.run-parsed.new.self.terms c.run-parsed.ensures.keeps
-    (c.terms_are_equal_exactly_if_their_trees_are.ensures.names _
-    c.number-number.ensures.state)
-    (lexemes c.args.tokens.now) (map term_name p.items.items) names is.0 items
-    is.1 is.2 stands are same)
+    c.number-number.ensures.state (lexemes c.args.tokens.now) (map term_name p.items.items) names
+    is.0 items is.1 is.2 stands are same)
     c.run-parsed.ensures.program
 
 pub returns-clause-refused : goal.returns-clause-refused

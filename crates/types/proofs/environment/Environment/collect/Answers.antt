@@ -1,6 +1,6 @@
 use Rattle.std.proofs.Common.{◌≡◌, rules}
 use Rattle.std.specs.HashMap.{values}
-use Rattle.types.proofs.Environments.{collected}
+use Rattle.types.proofs.Environments.{declares_collected}
 use Rattle.types.proofs.environment.Environment.collect.Goals as goal
 
 pub returns-clause-ok : goal.returns-clause-ok
@@ -10,5 +10,5 @@ returns-clause-ok c =
 
 pub returns-clause-trees : goal.returns-clause-trees
 returns-clause-trees c name tree =
-    collected c.args.self.now name tree c.collect-2.new.self c.collect-2.result
+    declares_collected c.args.self.now name tree c.collect-2.new.self c.collect-2.result
     (returns-clause-ok c) c.collect-2.ensures.err
