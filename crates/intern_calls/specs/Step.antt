@@ -6,6 +6,7 @@ use Rattle.ra_ap_intern.specs.Presets.{generated_text}
 use Rattle.ra_ap_intern.specs.Reach.{IsReachedSet, starts, starts_with}
 use Rattle.ra_ap_intern.specs.Refusal.{Refusal}
 use Rattle.ra_ap_intern.specs.Refusal.TheVariants.{OutOfMemory}
+use Rattle.ra_ap_intern.specs.Sliced.{Sliced}
 use Rattle.ra_ap_intern.specs.Slices.{due_slice, is_new_slice}
 use Rattle.ra_ap_intern.specs.State.{is_new, due_interning, full, any_count}
 use Rattle.ra_ap_intern.specs.Symbols.{due_symbol, is_new_text}
@@ -43,6 +44,20 @@ module _ {C G H I : Type 0} where
       pub reply_is : reply ≡ Refused OutOfMemory given
       pub after_is : after ≡ w
 
+  -- what comes back of each that interns, by what it interns
+  abbrev pub counted_wanted : (C → C → Bool) → WorldState C G H I → C → Option (Back C G H)
+  counted_wanted eq w v = where_new (due_interning eq w.counted v (full w.counted.top))
+      (is_new eq w.counted v) (back.Counted v)
+
+  abbrev pub value_wanted : (G → G → Bool) → WorldState C G H I → G → Option (Back C G H)
+  value_wanted eq w v =
+      where_new (due_interning eq w.values v any_count) (is_new eq w.values v) (back.Value v)
+
+  abbrev pub slice_wanted : (Sliced H I → Sliced H I → Bool) → WorldState C G H I → H → List I
+      → Option (Back C G H)
+  slice_wanted eq w header items = where_new (due_slice eq w.slices header items)
+      (is_new_slice eq w.slices header items) (back.Header header)
+
   abbrev pub text_wanted : WorldState C G H I → List ℕ → Option (Back C G H)
   text_wanted w t = where_new (due_symbol w.table t) (is_new_text w.table t) back.Nothing
 
@@ -50,15 +65,9 @@ module _ {C G S H I : Type 0} where
   -- the calls that want memory, and what comes back of each where there is none
   abbrev pub wants_memory : Kinds C G H I → WorldState C G H I → Call C G S H I
       → Option (Back C G H)
-  wants_memory kinds w (call.New v) =
-      where_new (due_interning kinds.counted_eq w.counted v (full w.counted.top))
-      (is_new kinds.counted_eq w.counted v) (back.Counted v)
-  wants_memory kinds w (call.NewGc v) =
-      where_new (due_interning kinds.value_eq w.values v any_count)
-      (is_new kinds.value_eq w.values v) (back.Value v)
-  wants_memory kinds w (call.FromHeaderAndSlice h v) =
-      where_new (due_slice kinds.slice_eq w.slices h v.items)
-      (is_new_slice kinds.slice_eq w.slices h v.items) (back.Header h)
+  wants_memory kinds w (call.New v) = counted_wanted kinds.counted_eq w v
+  wants_memory kinds w (call.NewGc v) = value_wanted kinds.value_eq w v
+  wants_memory kinds w (call.FromHeaderAndSlice h v) = slice_wanted kinds.slice_eq w h v.items
   wants_memory kinds w (call.Intern t) = text_wanted w (string_bytes t)
   wants_memory kinds w (call.IntegerGet n) = text_wanted w (decimal n)
   wants_memory kinds w (call.GeneratedGet n) = text_wanted w (generated_text n)
@@ -93,7 +102,7 @@ root_in (owned slices n) = Some n
 root_in (reference slices n) = Some n
 root_in _ = None
 
--- the name of a handle that is collected, in the slot of a number
+-- the name of a handle of a collected entry, in the slot of a number
 abbrev pub root_at : List Held → ℕ → Option Name
 root_at slots n = root_in (held_at slots n)
 

@@ -33,8 +33,8 @@ pub enum Reply<C, G, H> {
     Uint(Option<usize>),
     /// What a collection did.
     Collected(Collected),
-    /// The call was refused, and nothing has changed. The value or the header that it was offered
-    /// is back.
+    /// The call was refused, and nothing has changed. A value that it was offered is back, and of a
+    /// slice the header. Items and texts are dropped.
     Refused(Refusal, Back<C, G, H>),
     /// There is no slot of this number, or it holds nothing that the call takes.
     WrongSlot,

@@ -1,11 +1,13 @@
 //! The list of slots.
-ghost use Rattle.std.specs.Prelude.{◌≡◌, ◌+◌, ◌<◌, ◌≤◌, [], ◌∷◌, ◌++◌, length, OnOk, if◌then◌else◌, slice_get, slice_set};
+ghost use Rattle.std.specs.Prelude.{◌≡◌, ◌+◌, ◌<◌, ◌≤◌, [], ◌∷◌, ◌++◌, length, OnOk, OnErr, MatchResult, if◌then◌else◌, slice_get, slice_set};
 ghost use Rattle.std.specs.Option.{option_map, unwrap_or};
 ghost use Rattle.intern_calls.specs.Held.{seen, held_at, owner, is_owner};
-ghost use Rattle.intern_calls.specs.Held.Held.{nothing};
+ghost use Rattle.intern_calls.specs.Held.Held.{nothing, symbol};
+ghost use Rattle.ra_ap_intern.specs.Symbols.{symbol_name};
 
 use crate::reply::{Back, Reply};
 use crate::slot::Slot;
+use ra_ap_intern::{Refusal, Symbol};
 use std::alloc::{AllocError, Global};
 use std::marker::Model;
 use std::mem;
@@ -38,11 +40,13 @@ impl<C, G, S> Slots<C, G, S> {
         }
     }
 
-    /// Asks for the room of so many slots more. Where there is no memory for it, `AllocError`. What
-    /// the slots hold stays.
+    /// Asks for the room of so many slots more. It takes memory only where that room isn't there, and
+    /// answers `AllocError` where there is none. What the slots hold stays.
     pub fn reserve(&mut self, more: usize) -> Result<(), AllocError>
         ensures held { self.new.held ≡ self.old.held }
         ensures room { OnOk result (more ≤ self.new.room) }
+        ensures full { OnErr result (self.old.room < more) }
+        ensures stays { OnErr result (self.new ≡ self.old) }
     {
         self.slots.reserve(more)
     }
@@ -66,6 +70,21 @@ impl<C, G, S> Slots<C, G, S> {
         let n = self.slots.len();
         self.slots.push_reserved(slot);
         Reply::Made(n, back)
+    }
+
+    /// Puts a symbol that was interned into a new slot. Where it was refused, it tells why.
+    pub fn place_symbol<H>(&mut self, interned: Result<Symbol, Refusal>) -> Reply<C, G, H>
+        requires { 0 < self.old.room }
+        ensures symbol { MatchResult interned
+            (λ s. (result ≡ Reply.Made (length self.old.held) Back.Nothing)
+            × (self.new.held ≡ self.old.held ++ symbol (symbol_name s) ∷ []))
+            (λ why. (result ≡ Reply.Refused why Back.Nothing) × (self.new.held ≡ self.old.held)) }
+        ensures room { self.old.room ≤ self.new.room + 1 }
+    {
+        match interned {
+            Ok(symbol) => self.place(Slot::Symbol(symbol), Back::Nothing),
+            Err(why) => Reply::Refused(why, Back::Nothing),
+        }
     }
 
     /// Takes what a release gives up out of its slot. Where there is no such thing, an empty slot.

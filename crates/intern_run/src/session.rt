@@ -8,7 +8,7 @@ ghost use Rattle.intern_run.specs.Told.{Replies, Answers};
 use crate::answer::{Answer, CommandError, tell};
 use crate::slots::Slots;
 use intern_presets::number;
-use ra_ap_intern::{InternStorage, Interned, Symbol, SymbolTable, Text};
+use ra_ap_intern::{InternStorage, Symbol, SymbolTable, Text};
 use std::alloc::{AllocError, Global};
 use std::marker::Model;
 
@@ -21,7 +21,6 @@ const SYMBOLS: u64 = 2;
 /// One storage of texts, one table of symbols, and the handles that were given out, each in a slot.
 #[derive(Drop)]
 pub struct Session {
-    alloc: Global,
     texts: InternStorage<Text>,
     symbols: SymbolTable,
     slots: Slots,
@@ -43,7 +42,6 @@ impl Session {
         ensures { result ≡ new_session }
     {
         Session {
-            alloc,
             texts: InternStorage::new(alloc, TEXTS),
             symbols: SymbolTable::new(alloc, SYMBOLS),
             slots: Slots::new(alloc),
@@ -85,11 +83,10 @@ impl Session {
     fn add(&mut self, text: &str) -> Result<Answer<'static>, CommandError>
         ensures { Replies self.new result (new_reply self.old text.now) }
     {
-        let text = Text::new(self.alloc, text)?;
-        let (handle, back) = Interned::new(&mut self.texts, text)?;
+        let is_new = self.texts.get_text(text).is_none();
+        let handle = self.texts.intern_text(text)?;
         let birth = handle.as_ref().as_raw();
         let slot = self.slots.push(handle)?;
-        let is_new = back.is_none();
         Ok(Answer::Made {
             slot,
             birth,

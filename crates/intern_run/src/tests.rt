@@ -62,8 +62,8 @@ impl Write for Sink {
     }
 }
 
-/// Each command once, with an empty text, a plus, leading zeros, an empty line, and no last line
-/// feed.
+/// Commands with an empty text, a plus, leading zeros and a word that is no number, an empty line,
+/// and no last line feed.
 const TEXT: &[u8] = b"new \nread +00\nrelease 0\nread 0\nclone x\n\nlen";
 
 const ANSWERS: &[u8] =

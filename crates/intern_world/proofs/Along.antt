@@ -16,7 +16,7 @@ use Rattle.intern_calls.specs.Answer.{Answer, unless, up, down, given_up, at_tex
 use Rattle.intern_calls.specs.Held.{Home, Held, held_at}
 use Rattle.intern_calls.specs.Held.Home.{counted, values, slices}
 use Rattle.intern_calls.specs.Held.Held.{nothing, owned, reference, symbol}
-use Rattle.intern_calls.specs.Step.{Step}
+use Rattle.intern_calls.specs.Step.{Step, Keeps}
 use Rattle.intern_calls.specs.World.{Kinds, WorldState, numbers_of, swept}
 use Rattle.intern_calls.specs.declared.call.Call.{Call}
 use Rattle.intern_calls.specs.declared.call.Call.TheVariants as call
@@ -235,6 +235,14 @@ module _ {C G H I : Type 0} where
     slices = kept_later w.slices (λ b. has names (name_in w.slices b));
     table = later_itself w.table;
   }
+
+  -- a collection that begins also at handles
+  pub keeping_later : (kinds : Kinds C G H I) (w : WorldState C G H I)
+      (roots : Option (List Name)) (r : Reply C G H) (x : WorldState C G H I)
+      → Keeps kinds w roots r x → Laters w x
+  keeping_later kinds w None r x says = rw says.after_is (stays w)
+  keeping_later kinds w (Some roots) r x (inl g) = rw g.says.after_is (sweeps w g.names)
+  keeping_later kinds w (Some roots) r x (inr l) = rw l.after_is (stays w)
 
 module _ {C G S H I : Type 0} where
   pub answer_later : (kinds : Kinds C G H I) (names : List Name) (w : WorldState C G H I)

@@ -338,7 +338,7 @@ module _ {C G H I : Type 0} (S : Type 0) (part : Which) (n : Name) where
   answer_balanced kinds names w (call.Len which) ok set = refl
   answer_balanced kinds names w (call.AsUint k) ok set = of_uint part n w (held_at w.slots k)
   answer_balanced kinds names w call.Collect ok set =
-      ap (λ x. x + 0) (swept_counts kinds w names ok set part n)
+      ap (λ x. x + 0) (swept_counts kinds w _ names ok (λ m is. is) set part n)
 
   step_balanced : (kinds : Kinds C G H I) (w : WorldState C G H I) (c : Call C G S H I)
       (r : Reply C G H) (x : WorldState C G H I) → IsWorld kinds w → Step kinds w c r x

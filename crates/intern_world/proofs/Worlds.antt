@@ -39,7 +39,7 @@ module _ {V : Type 0} where
   }
 
 module _ {C G H I : Type 0} (kinds : Kinds C G H I) where
-  keeps_names : (w x : WorldState C G H I) → IsWorld kinds w → Laters w x → KeepsNames w x
+  pub keeps_names : (w x : WorldState C G H I) → IsWorld kinds w → Laters w x → KeepsNames w x
   keeps_names w x ok l = record {
     counted = later_keeps kinds.counted_eq w.counted x.counted ok.counted l.counted;
     values = later_keeps kinds.value_eq w.values x.values ok.values l.values;

@@ -32,7 +32,8 @@ module _ {C G H I : Type 0} where
     slots = [];
   }
 
-  -- each storage holds values that differ, and no two numbers are the same
+  -- each storage, and the table, is in a state that calls can leave it in, and no two numbers are
+  -- the same
   pub record IsWorld (kinds : Kinds C G H I) (w : WorldState C G H I) : Type 0 where
     pub counted : IsState kinds.counted_eq w.counted
     pub values : IsState kinds.value_eq w.values

@@ -1,10 +1,14 @@
 //! Laws of runs, each the contract of a function that does nothing.
-ghost use Rattle.std.specs.Prelude.{◌≡◌, List, ◌++◌};
+ghost use Rattle.std.specs.Prelude.{◌≡◌, List, ◌++◌, Option};
 ghost use Rattle.std.specs.List.{All, AllPairs};
+ghost use Rattle.ra_ap_intern.specs.Name.{Name};
+ghost use Rattle.intern_calls.specs.Step.{Keeps};
 ghost use Rattle.intern_calls.specs.World.{WorldState, kinds_of};
+ghost use Rattle.intern_calls.specs.declared.call.Which.{Which};
+ghost use Rattle.intern_calls.specs.declared.reply.Reply.{Reply};
 ghost use Rattle.intern_world.specs.Along.{TellsApart, KeepsNames, Collects};
-ghost use Rattle.intern_world.specs.Ledger.{Balances};
-ghost use Rattle.intern_world.specs.Run.{Turn, IsRun, worlds};
+ghost use Rattle.intern_world.specs.Ledger.{Balances, count_in_part};
+ghost use Rattle.intern_world.specs.Run.{Turn, IsRun, IsWorld, worlds};
 
 use ra_ap_intern::{GcInternedSliceVisit, GcInternedVisit, Internable, laws};
 
@@ -78,4 +82,24 @@ pub fn collections_leave_what_is_reached<
         (w end : WorldState C G S.Header S.SliceType)
         (turns : List (Turn C G S S.Header S.SliceType)) →
         IsRun kinds w turns end → All (Collects kinds) turns }
+{}
+
+/// After a collection that begins also at handles in slots, a name reads what it read, or nothing,
+/// and what is gone stays gone; and each entry counts what it did: what was removed counted nothing.
+pub fn a_collection_keeps_names_and_counts<
+    C: Internable,
+    G: Internable + GcInternedVisit,
+    S: GcInternedSliceVisit,
+>()
+    ensures names { let kinds = kinds_of C.eq G.eq S.Header.eq S.SliceType.eq G.children
+        S.header_children S.slice_children in
+        (w after : WorldState C G S.Header S.SliceType) (roots : Option (List Name))
+        (reply : Reply C G S.Header) →
+        IsWorld kinds w → Keeps kinds w roots reply after → KeepsNames w after }
+    ensures counts { let kinds = kinds_of C.eq G.eq S.Header.eq S.SliceType.eq G.children
+        S.header_children S.slice_children in
+        (w after : WorldState C G S.Header S.SliceType) (roots : Option (List Name))
+        (reply : Reply C G S.Header) →
+        IsWorld kinds w → Keeps kinds w roots reply after → (part : Which) (n : Name) →
+        count_in_part after part n ≡ count_in_part w part n }
 {}

@@ -113,11 +113,11 @@ where
     requires none { replies.old.items ≡ [] }
     requires room { vec_len calls ≤ parts.old.slots.room }
     requires reply_room { vec_len replies.old + vec_len calls ≤ vec_capacity replies.old }
-    ensures distinct { are_distinct (numbers_of (world_of parts.new)) ≡ true }
     ensures run { let kinds = kinds_of C.eq G.eq S.Header.eq S.SliceType.eq G.children
         S.header_children S.slice_children in
         RunsAlong kinds (world_of parts.old) calls.items replies.new.items
         (world_of parts.new) }
+    ensures distinct { are_distinct (numbers_of (world_of parts.new)) ≡ true }
 {
     handles_tell_values_along_runs::<C, G, S>();
     names_keep_what_they_read::<C, G, S>();

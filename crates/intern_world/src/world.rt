@@ -1,6 +1,7 @@
 //! Worlds, and runs over lists of calls.
 ghost use Rattle.std.specs.Prelude.{◌≡◌, ◌<◌, ◌≤◌, true, false, [], IfOk, IfErr, OnErr, slice_get};
 ghost use Rattle.std.specs.Option.{option_map};
+ghost use Rattle.std.specs.Vec.{vec_len};
 ghost use Rattle.ra_ap_intern.specs.Families.{are_distinct};
 ghost use Rattle.intern_calls.specs.Held.{seen};
 ghost use Rattle.intern_calls.specs.Step.{Keeps, roots_in};
@@ -64,18 +65,7 @@ impl<C: Internable, G: Internable, S: SliceInternable> World<C, G, S> {
         requires slices { S.SliceInternable.USE_GC ≡ true }
         ensures { result ≡ new_world numbers u64.MAX u64.MAX }
     {
-        World {
-            parts: Parts {
-                alloc,
-                counted: InternStorage::new(alloc, numbers.counted),
-                family: Pair {
-                    first: InternStorage::new(alloc, numbers.values),
-                    second: InternSliceStorage::new(alloc, numbers.slices),
-                },
-                table: SymbolTable::new(alloc, numbers.table),
-                slots: Slots::new(alloc),
-            },
-        }
+        World::with_limits(alloc, numbers, Limits::MAX)
     }
 
     /// The same, with limits for each storage and for the table.
@@ -142,7 +132,7 @@ where
     S::Header: Drop,
 {
     /// Collects, and begins also at the entries that the handles in these slots name. A handle whose
-    /// entry is gone, or of another storage, adds nothing.
+    /// name is that of no entry adds nothing.
     ///
     /// It replies as a collection does: `Collected`, or `Refused` where there is no memory, also
     /// for the names. `WrongSlot` where a slot holds no handle of a collected value or of a slice.
@@ -166,7 +156,7 @@ where
 ///
 /// A call that is refused, or whose slot holds nothing that it takes, changes nothing, and the run
 /// goes on. All room for replies and slots is asked for before the first call: where there is
-/// none, the calls come back and the world is as before.
+/// none, the calls come back and the world is as before. An empty list wants no room.
 pub fn run<C: Internable + Drop, G: Internable + GcInternedVisit + Drop, S: GcInternedSliceVisit>(
     world: &mut World<C, G, S>,
     calls: Vec<Call<C, G, S>>,
@@ -178,6 +168,7 @@ where
         IfOk result (λ replies.
         RunsAlong kinds world.old calls.items replies.items world.new) }
     ensures refused { IfErr result (λ back. back ≡ calls) }
+    ensures wants { OnErr result (0 < vec_len calls) }
     ensures stays { OnErr result (world.new ≡ world.old) }
 {
     let n = calls.len();

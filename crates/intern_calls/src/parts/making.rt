@@ -5,13 +5,11 @@ ghost use Rattle.ra_ap_intern.specs.Presets.{generated_text};
 ghost use Rattle.intern_calls.specs.Held.{seen};
 ghost use Rattle.intern_calls.specs.Held.Held.{symbol};
 ghost use Rattle.ra_ap_intern.specs.Sliced.{sliced_eq};
-ghost use Rattle.ra_ap_intern.specs.State.{is_new, due_interning, full, any_count};
-ghost use Rattle.ra_ap_intern.specs.Slices.{due_slice, is_new_slice};
-ghost use Rattle.ra_ap_intern.specs.Symbols.{due_symbol, is_new_text, symbol_name};
+ghost use Rattle.ra_ap_intern.specs.Symbols.{symbol_name};
 ghost use Rattle.ra_ap_intern.specs.declared.symbol.symbols.TheConstants as sym;
 ghost use Rattle.intern_calls.specs.Answer.{makes, stores, stores_gc, stores_slice, stores_text, takes_over, raw_held, due_raw, counted_back, value_back, header_back};
 ghost use Rattle.intern_calls.specs.Parts.{world_of};
-ghost use Rattle.intern_calls.specs.Step.{Says, Lacks, where_new, text_wanted};
+ghost use Rattle.intern_calls.specs.Step.{Says, Lacks, counted_wanted, value_wanted, slice_wanted, text_wanted};
 
 use super::Parts;
 use crate::call::Kind;
@@ -58,9 +56,7 @@ impl<C: Internable, G: Internable, S: SliceInternable> Parts<C, G, S> {
         requires mode { C.Internable.USE_GC ≡ false }
         requires room { 0 < self.old.slots.room }
         ensures step { Says (stores C.eq (world_of self.old) value) result (world_of self.new)
-            ⊎ Lacks (where_new
-            (due_interning C.eq self.old.counted value (full self.old.counted.top))
-            (is_new C.eq self.old.counted value) (Back.Counted value))
+            ⊎ Lacks (counted_wanted C.eq (world_of self.old) value)
             (world_of self.old) result (world_of self.new) }
         ensures room { self.old.slots.room ≤ self.new.slots.room + 1 }
     {
@@ -77,8 +73,7 @@ impl<C: Internable, G: Internable, S: SliceInternable> Parts<C, G, S> {
         requires mode { G.Internable.USE_GC ≡ true }
         requires room { 0 < self.old.slots.room }
         ensures step { Says (stores_gc G.eq (world_of self.old) value) result (world_of self.new)
-            ⊎ Lacks (where_new (due_interning G.eq self.old.family.first value any_count)
-            (is_new G.eq self.old.family.first value) (Back.Value value))
+            ⊎ Lacks (value_wanted G.eq (world_of self.old) value)
             (world_of self.old) result (world_of self.new) }
         ensures room { self.old.slots.room ≤ self.new.slots.room + 1 }
     {
@@ -96,8 +91,7 @@ impl<C: Internable, G: Internable, S: SliceInternable> Parts<C, G, S> {
         requires room { 0 < self.old.slots.room }
         ensures step { let eq = sliced_eq S.Header.eq S.SliceType.eq in
             Says (stores_slice eq (world_of self.old) header items.now) result (world_of self.new)
-            ⊎ Lacks (where_new (due_slice eq self.old.family.second header items.now)
-            (is_new_slice eq self.old.family.second header items.now) (Back.Header header))
+            ⊎ Lacks (slice_wanted eq (world_of self.old) header items.now)
             (world_of self.old) result (world_of self.new) }
         ensures room { self.old.slots.room ≤ self.new.slots.room + 1 }
     {
@@ -117,10 +111,8 @@ impl<C: Internable, G: Internable, S: SliceInternable> Parts<C, G, S> {
             (world_of self.old) result (world_of self.new) }
         ensures room { self.old.slots.room ≤ self.new.slots.room + 1 }
     {
-        match Symbol::intern(&mut self.table, text) {
-            Err(why) => Reply::Refused(why, Back::Nothing),
-            Ok(symbol) => self.slots.place(Slot::Symbol(symbol), Back::Nothing),
-        }
+        let interned = Symbol::intern(&mut self.table, text);
+        self.slots.place_symbol(interned)
     }
 
     /// The symbol of a number's digits.
@@ -132,10 +124,8 @@ impl<C: Internable, G: Internable, S: SliceInternable> Parts<C, G, S> {
             (world_of self.old) result (world_of self.new) }
         ensures room { self.old.slots.room ≤ self.new.slots.room + 1 }
     {
-        match Integer::get(&mut self.table, n) {
-            Err(why) => Reply::Refused(why, Back::Nothing),
-            Ok(symbol) => self.slots.place(Slot::Symbol(symbol), Back::Nothing),
-        }
+        let interned = Integer::get(&mut self.table, n);
+        self.slots.place_symbol(interned)
     }
 
     /// The symbol of a generated name.
@@ -147,10 +137,8 @@ impl<C: Internable, G: Internable, S: SliceInternable> Parts<C, G, S> {
             (world_of self.old) result (world_of self.new) }
         ensures room { self.old.slots.room ≤ self.new.slots.room + 1 }
     {
-        match RaGeneratedName::get(&mut self.table, n) {
-            Err(why) => Reply::Refused(why, Back::Nothing),
-            Ok(symbol) => self.slots.place(Slot::Symbol(symbol), Back::Nothing),
-        }
+        let interned = RaGeneratedName::get(&mut self.table, n);
+        self.slots.place_symbol(interned)
     }
 
     /// The symbol of the empty text, which is a preset.

@@ -15,9 +15,7 @@ use crate::call::Which;
 use crate::reply::Reply;
 use crate::slot::Slot;
 use ra_ap_intern::sym::Integer;
-use ra_ap_intern::{
-    Internable, Interned, InternedRef, InternedSlice, InternedSliceRef, SliceInternable, Symbol,
-};
+use ra_ap_intern::{Internable, Owned, Ref, SliceInternable, Symbol};
 
 impl<C: Internable, G: Internable, S: SliceInternable> Parts<C, G, S> {
     /// The birth that a reference to a value names.
@@ -142,8 +140,8 @@ impl<C: Internable, G: Internable, S: SliceInternable> Parts<C, G, S> {
             (Some(Slot::CountedRef(a)), Some(Slot::CountedRef(b))) => are_refs_equal(a, b),
             (Some(Slot::Value(a)), Some(Slot::Value(b))) => are_owned_equal(a, b),
             (Some(Slot::ValueRef(a)), Some(Slot::ValueRef(b))) => are_refs_equal(a, b),
-            (Some(Slot::Slice(a)), Some(Slot::Slice(b))) => are_slices_equal(a, b),
-            (Some(Slot::SliceRef(a)), Some(Slot::SliceRef(b))) => are_slice_refs_equal(a, b),
+            (Some(Slot::Slice(a)), Some(Slot::Slice(b))) => are_owned_equal(a, b),
+            (Some(Slot::SliceRef(a)), Some(Slot::SliceRef(b))) => are_refs_equal(a, b),
             (Some(Slot::Symbol(a)), Some(Slot::Symbol(b))) => are_symbols_equal(a, b),
             _ => return Reply::WrongSlot,
         };
@@ -151,25 +149,13 @@ impl<C: Internable, G: Internable, S: SliceInternable> Parts<C, G, S> {
     }
 }
 
-fn are_owned_equal<T>(a: &Interned<T>, b: &Interned<T>) -> bool
+fn are_owned_equal<K>(a: &Owned<K>, b: &Owned<K>) -> bool
     ensures { result ≡ same_name (name_of a.now) (name_of b.now) }
 {
     a == b
 }
 
-fn are_refs_equal<T>(a: &InternedRef<T>, b: &InternedRef<T>) -> bool
-    ensures { result ≡ same_name (ref_name a.now) (ref_name b.now) }
-{
-    a == b
-}
-
-fn are_slices_equal<T>(a: &InternedSlice<T>, b: &InternedSlice<T>) -> bool
-    ensures { result ≡ same_name (name_of a.now) (name_of b.now) }
-{
-    a == b
-}
-
-fn are_slice_refs_equal<T>(a: &InternedSliceRef<T>, b: &InternedSliceRef<T>) -> bool
+fn are_refs_equal<K>(a: &Ref<K>, b: &Ref<K>) -> bool
     ensures { result ≡ same_name (ref_name a.now) (ref_name b.now) }
 {
     a == b
