@@ -1,4 +1,4 @@
-//! Texts that are interned by what they are borrowed from.
+//! Texts that are interned as they are borrowed.
 use crate::fault::{Fault, ensure, refused};
 use crate::storage::Storage;
 use crate::values::text_of;

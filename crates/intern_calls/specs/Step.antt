@@ -44,7 +44,7 @@ module _ {C G H I : Type 0} where
       pub reply_is : reply ≡ Refused OutOfMemory given
       pub after_is : after ≡ w
 
-  -- what comes back of each that interns, by what it interns
+  -- what comes back where there is no memory, of each call that interns; none where it wants none
   abbrev pub counted_wanted : (C → C → Bool) → WorldState C G H I → C → Option (Back C G H)
   counted_wanted eq w v = where_new (due_interning eq w.counted v (full w.counted.top))
       (is_new eq w.counted v) (back.Counted v)

@@ -35,13 +35,13 @@ pub enum Which {
 /// One that gives a handle puts it into a new slot at the end of the list, and replies `Made`.
 #[derive(Drop)]
 pub enum Call<C, G, S: SliceInternable> {
-    /// Interns a counted value: an owned handle, and the value back where it is stored.
+    /// Interns a counted value: an owned handle, and the value back where an equal one was stored.
     /// Refused, with the value back: `CountFull`, `NumbersUsedUp`, `OutOfMemory`.
     New(C),
-    /// Interns a collected value: a reference, and the value back where it is stored.
+    /// Interns a collected value: a reference, and the value back where an equal one was stored.
     /// Refused, with the value back: `NumbersUsedUp`, `OutOfMemory`.
     NewGc(G),
-    /// Interns a slice: a reference, and the header back where the slice is stored.
+    /// Interns a slice: a reference, and the header back where an equal slice was stored.
     /// Refused, with the header back: `NumbersUsedUp`, `OutOfMemory`.
     FromHeaderAndSlice(S::Header, Vec<S::SliceType>),
     /// Interns a text: a symbol. A preset is never refused.

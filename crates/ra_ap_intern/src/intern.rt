@@ -64,7 +64,8 @@ impl<T: Internable, B: BuildHasher> InternStorage<T, B> {
 
 impl<T: Internable + Drop, B: BuildHasher> InternStorage<T, B> {
     /// Counted mode: the owned handle that [`Interned::new`] gives, and nothing beside it. The value
-    /// is dropped where an equal one is stored, and where it is refused: for the same reasons.
+    /// is dropped where an equal one is stored, and where the call is refused, as `new` is:
+    /// `CountFull`, `NumbersUsedUp`, `OutOfMemory`.
     pub fn get_or_intern(&mut self, obj: T) -> Result<Interned<T>, Refusal>
         requires { T.Internable.USE_GC ≡ false }
         ensures name { IfOk result (λ h. name_of h ≡ interned_name T.eq self.old obj) }
@@ -77,7 +78,8 @@ impl<T: Internable + Drop, B: BuildHasher> InternStorage<T, B> {
     }
 
     /// Collected mode: the reference that [`Interned::new_gc`] gives, and nothing beside it. The
-    /// value is dropped where an equal one is stored, and where it is refused: for the same reasons.
+    /// value is dropped where an equal one is stored, and where the call is refused, as `new_gc` is:
+    /// `NumbersUsedUp`, `OutOfMemory`.
     pub fn get_or_intern_gc(&mut self, obj: T) -> Result<InternedRef<T>, Refusal>
         requires { T.Internable.USE_GC ≡ true }
         ensures name { IfOk result (λ h. ref_name h ≡ interned_name T.eq self.old obj) }

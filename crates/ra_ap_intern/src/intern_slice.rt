@@ -87,8 +87,8 @@ where
     T::Header: Drop,
 {
     /// The reference that [`InternedSlice::from_header_and_slice`] gives, and nothing beside it. The
-    /// header is dropped where an equal pair is stored, and where it is refused: for the same
-    /// reasons.
+    /// header is dropped where an equal pair is stored, and where the call is refused, as that is:
+    /// `NumbersUsedUp`, `OutOfMemory`.
     pub fn get_or_intern(
         &mut self,
         header: T::Header,

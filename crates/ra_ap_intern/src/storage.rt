@@ -25,7 +25,8 @@ use std::marker::{Model, PhantomData};
 /// that hash, rarely with another. Only a value that isn't stored takes memory, where no room was
 /// reserved for it. Where storing it builds the tables anew, each stored value is hashed again, in
 /// time in proportion to the most entries that there were at once, which is constant time a call on
-/// average. Reads, counts and removals go straight to the entry; `from_raw` looks its birth up.
+/// average. Reads, counts and removals go straight to the entry; `from_raw` and `reference` look its
+/// birth up.
 #[derive(Drop)]
 pub struct Storage<K: Kind<B>, B = FixedState> {
     pub(crate) inner: Reserved<K, B>,
@@ -43,8 +44,8 @@ impl<K: Kind<B>, B> Model for Storage<K, B> {
 
 /// The entries of a storage, and the room that is left for more: what [`Storage::reserve`] lends.
 ///
-/// While there is room, for slices also for their items, interning takes no memory, and so is refused
-/// for no want of it.
+/// While there is room, for slices also for those of their items that lie in no entry, interning takes
+/// no memory, and so is refused for no want of it.
 #[derive(Drop)]
 pub struct Reserved<K: Kind<B>, B = FixedState> {
     pub(crate) store: Store<K::Table>,
@@ -126,8 +127,8 @@ impl<K: Kind<B>, B> Storage<K, B> {
     }
 
     /// Lends the storage with room for this many more entries: until the loan ends, the next so many
-    /// values that aren't stored yet are refused for no want of memory. Slices want room for their
-    /// items too (`reserve_items` of [`Reserved`]). Refused: `OutOfMemory`.
+    /// values that aren't stored yet are refused for no want of memory. Slices want room too for those
+    /// of their items that lie in no entry (`reserve_items` of [`Reserved`]). Refused: `OutOfMemory`.
     ///
     /// The room stays when the loan ends. It takes what so many entries may need at most, whichever
     /// slots they use: more than interning them one by one does. Where the hash tables are built

@@ -9,6 +9,8 @@ mod keyed;
 #[cfg(test)]
 mod mixed;
 #[cfg(test)]
+mod owners;
+#[cfg(test)]
 mod readme;
 #[cfg(test)]
 mod refused;

@@ -41,7 +41,7 @@ fn each_text_is_kept_once(rt: HostRuntime) {
     drop_values(texts);
 }
 
-/// Interns the text twice, and copies it at most once: both handles are of one entry, which reads it.
+/// Interns the text twice: both handles are of one entry, which reads it.
 fn intern_borrowed(rt: &impl Abort, texts: &mut InternStorage<Text>, text: &str) {
     let first = texts.intern_text(text).expect(rt, "interned");
     let second = texts.intern_text(text).expect(rt, "interned");
