@@ -93,7 +93,17 @@ fn shows(store: &TermStore, terms: &[TermRef], term: TermRef, number: usize) -> 
         && store.contains(term)
         && store.head(term) == Some(&head)
         && store.args(term) == Some(args)
+        && is_node(store, term, &head, args)
+        && store.named(term.name()) == Ok(term)
         && store.get(&head, args) == Some(term)
+}
+
+// Whether the term reads this head with these arguments, in one call.
+fn is_node(store: &TermStore, term: TermRef, head: &Symbol, args: &[TermRef]) -> bool {
+    match store.node(term) {
+        Some((found, arguments)) => found == head && arguments == args,
+        None => false,
+    }
 }
 
 /// The name of the term of a number.
@@ -110,4 +120,6 @@ pub(crate) fn reads_nothing(store: &TermStore, term: TermRef) -> bool {
         && store.count(term).is_none()
         && store.head(term).is_none()
         && store.args(term).is_none()
+        && store.node(term).is_none()
+        && store.named(term.name()).is_err()
 }
