@@ -1,5 +1,5 @@
 //! Why a check failed.
-use ra_ap_intern::{Owed, Owned, Refusal, Refused};
+use ra_ap_intern::{Owed, OwedSymbol, Owned, Refusal, Refused, Symbol};
 use std::alloc::{AllocError, AllocFailed};
 use std::io;
 
@@ -100,4 +100,14 @@ pub(crate) fn of_owed<A, K>(answer: Result<A, Refused<Owed<K>>>) -> Result<A, Re
             back: back.into_owned(),
         }),
     }
+}
+
+/// The same of a symbol.
+pub(crate) fn of_owed_symbol(
+    answer: Result<(), Refused<OwedSymbol>>,
+) -> Result<(), Refused<Symbol>> {
+    answer.map_err(|refused| Refused {
+        why: refused.why,
+        back: refused.back.into_symbol(),
+    })
 }

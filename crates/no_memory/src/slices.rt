@@ -201,7 +201,10 @@ fn check_reads(rt: &impl Eprint, storage: &Storage, handles: &Handles) -> Result
     let (gone, foreign) = (handles.gone.as_ref(), handles.foreign.as_ref());
     ensure(gone.name().birth == 3 && foreign.name().storage == 2)?;
     takes_none(rt, "comparisons of handles of slices");
-    ensure(handles.live != handles.foreign && gone < foreign)
+    ensure(handles.live != handles.foreign && gone < foreign)?;
+    takes_none(rt, "Storage::reference, of slices");
+    ensure(storage.reference(handles.zero.name())? == handles.zero.as_ref())?;
+    is_refused(storage.reference(gone.name()), Refusal::Gone)
 }
 
 // A slice that is stored, and one that isn't, while all births are given.

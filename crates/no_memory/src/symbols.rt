@@ -1,8 +1,8 @@
 //! Tables of texts, symbols, and the numbered lists.
-use crate::fault::{Fault, ensure, gives_back, is_refused};
+use crate::fault::{Fault, ensure, gives_back, is_refused, of_owed_symbol};
 use crate::marks::{prepares, takes_none};
 use ra_ap_intern::sym::{Integer, RaGeneratedName};
-use ra_ap_intern::{Limits, Refusal, Symbol, SymbolTable, sym};
+use ra_ap_intern::{Limits, OwedSymbol, Refusal, Symbol, SymbolTable, sym};
 use std::alloc::Global;
 
 /// A text that is stored, and counted once. Like the next two it is longer than lies in an entry.
@@ -63,7 +63,8 @@ fn check_calls(
     check_integers(rt, table, symbols)?;
     check_generated(rt, table, symbols)?;
     check_owning(rt, table, symbols)?;
-    check_lowering(rt, table, symbols)
+    check_lowering(rt, table, symbols)?;
+    check_owed(rt, table, symbols)
 }
 
 // Stores the texts, in a table that is made anew where that is refused.
@@ -133,7 +134,13 @@ fn check_table(rt: &impl Eprint, table: &SymbolTable, symbols: &Symbols) -> Resu
 }
 
 fn check_walk(rt: &impl Eprint, table: &SymbolTable) -> Result<(), Fault> {
-    takes_none(rt, "SymbolTable::iter");
+    takes_none(
+        rt,
+        "SymbolTable::iter, a loop over a table, SymbolRef::count",
+    );
+    for (symbol, _) in table {
+        ensure(symbol.count(table).is_some())?;
+    }
     ensure(table.iter().count() == 4)
 }
 
@@ -150,6 +157,8 @@ fn check_reads(rt: &impl Eprint, table: &SymbolTable, symbols: &Symbols) -> Resu
             && symbols.gone.as_ref().as_str(table) == None
             && symbols.foreign.as_ref().as_str(table) == None,
     )?;
+    takes_none(rt, "Symbol::display");
+    let _ = symbols.live.display(table);
     takes_none(rt, "Symbol::name, SymbolRef::name");
     ensure(symbols.foreign.name() == symbols.foreign.as_ref().name() && sym::Clone.name() == None)?;
     takes_none(rt, "comparisons of symbols");
@@ -245,6 +254,18 @@ fn check_lowering(
     ensure(symbols.integer.as_ref().to_owned(table)? == symbols.integer)
 }
 
+// A symbol that must be released.
+fn check_owed(rt: &impl Eprint, table: &mut SymbolTable, symbols: &Symbols) -> Result<(), Fault> {
+    takes_none(rt, "OwedSymbol::from, OwedSymbol::as_str");
+    let owed = OwedSymbol::from(symbols.live.clone(table)?);
+    let is_read = owed.as_str(table) == Some(LIVE);
+    takes_none(rt, "OwedSymbol::clone, OwedSymbol::release");
+    let second = owed.clone(table).map(OwedSymbol::into_symbol);
+    of_owed_symbol(owed.release(table))?;
+    is_refused(second, Refusal::CountFull)?;
+    ensure(is_read)
+}
+
 fn check_release(rt: &impl Eprint, table: &mut SymbolTable, symbols: Symbols) -> Result<(), Fault> {
     let Symbols {
         live,
@@ -259,6 +280,11 @@ fn check_release(rt: &impl Eprint, table: &mut SymbolTable, symbols: Symbols) ->
     live.release(table)?;
     ensure(table.get(LIVE) == None)?;
     gives_back(foreign.release(table), Refusal::Foreign)?;
-    gives_back(gone.release(table), Refusal::Gone)?;
+    let gone = gives_back(gone.release(table), Refusal::Gone)?;
+    takes_none(rt, "OwedSymbol::release");
+    gives_back(
+        of_owed_symbol(OwedSymbol::from(gone).release(table)),
+        Refusal::Gone,
+    )?;
     Ok(())
 }

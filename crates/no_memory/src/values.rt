@@ -192,7 +192,10 @@ fn check_births(rt: &impl Eprint, storage: &Storage, handles: &Handles) -> Resul
     is_refused(Interned::from_raw(storage, 3), Refusal::Gone)?;
     takes_none(rt, "InternedRef::from_raw");
     ensure(InternedRef::from_raw(storage, 2)? == handles.zero.as_ref())?;
-    is_refused(InternedRef::from_raw(storage, 3), Refusal::Gone)
+    is_refused(InternedRef::from_raw(storage, 3), Refusal::Gone)?;
+    takes_none(rt, "Storage::reference");
+    ensure(storage.reference(handles.zero.name())? == handles.zero.as_ref())?;
+    is_refused(storage.reference(handles.gone.name()), Refusal::Gone)
 }
 
 // Texts that are stored, and one that isn't, while all births are given.

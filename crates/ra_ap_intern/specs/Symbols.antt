@@ -16,6 +16,7 @@ use Rattle.ra_ap_intern.specs.Handle.{name_cmp}
 use Rattle.ra_ap_intern.specs.declared.symbol.Symbol.{Symbol}
 use Rattle.ra_ap_intern.specs.declared.symbol.SymbolRef.{SymbolRef}
 use Rattle.ra_ap_intern.specs.declared.symbol.display.SymbolDisplay.{SymbolDisplay}
+use Rattle.ra_ap_intern.specs.declared.symbol.owed.OwedSymbol.{OwedSymbol}
 use Rattle.ra_ap_intern.specs.declared.symbol.packed.Packed.{Packed}
 use Rattle.ra_ap_intern.specs.declared.symbol.packed.Source.{Source}
 use Rattle.ra_ap_intern.specs.declared.symbol.packed.Source.TheVariants.{Preset, Runtime}
@@ -59,6 +60,10 @@ symbol_name s = source_name (source_of s.0)
 
 abbrev pub symbol_ref_name : SymbolRef → Named
 symbol_ref_name s = source_name (source_of s.0)
+
+-- the symbol in one that must be released
+abbrev pub symbol_of : OwedSymbol → Symbol
+symbol_of s = s.symbol
 
 -- a symbol that is to be written, and the table that reads it
 abbrev pub displayed : {B H : Type 0} → SymbolDisplay B H → Named × State (List ℕ)

@@ -12,7 +12,7 @@ ghost use Rattle.intern_table.specs.Sliced.{Sliced, sliced_eq};
 ghost use Rattle.ra_ap_intern.specs.Constants.{constants};
 ghost use Rattle.ra_ap_intern.specs.Families.{IsCollection, kept_named};
 ghost use Rattle.ra_ap_intern.specs.Handle.{handle_of, name_cmp, name_of, ref_name};
-ghost use Rattle.ra_ap_intern.specs.Symbols.{IsTable, Named, Counted, named_cmp, symbol_name, symbol_ref_name, has_its_text, text_of, symbol_in, due_symbol, at_entry, is_new_text};
+ghost use Rattle.ra_ap_intern.specs.Symbols.{IsTable, Named, Counted, named_cmp, symbol_name, symbol_of, symbol_ref_name, has_its_text, text_of, symbol_in, due_symbol, at_entry, is_new_text};
 ghost use Rattle.ra_ap_intern.specs.Symbols.Named.{preset, entry};
 ghost use Rattle.ra_ap_intern.specs.declared.gc.Collected.{Collected as Told};
 ghost use Rattle.intern_table.specs.declared.layout.Far.{Far};
@@ -23,6 +23,7 @@ ghost use Rattle.ra_ap_intern.specs.declared.storage.Owned.{Owned as Handle};
 ghost use Rattle.ra_ap_intern.specs.declared.storage.Ref.{Ref as Reference};
 ghost use Rattle.ra_ap_intern.specs.declared.symbol.Symbol.{Symbol as Sym};
 ghost use Rattle.ra_ap_intern.specs.declared.symbol.SymbolRef.{SymbolRef as SymRef};
+ghost use Rattle.ra_ap_intern.specs.declared.symbol.owed.OwedSymbol.{OwedSymbol as OwedSym};
 
 use crate::gc::Family;
 use crate::intern::{Interned, InternedRef};
@@ -30,7 +31,7 @@ use crate::intern_slice::{InternedSlice, InternedSliceRef, SliceInternable};
 use crate::kind::{Slices, Values};
 use crate::owed::Owed;
 use crate::storage::{Owned, Ref};
-use crate::symbol::{Symbol, SymbolRef};
+use crate::symbol::{OwedSymbol, Symbol, SymbolRef};
 pub use intern_marks::laws::{
     roots_without_entries_begin_nothing, what_is_reached_is_the_least_closed_set,
 };
@@ -260,6 +261,15 @@ pub fn symbol_references_are_what_they_name()
         (⟦<SymbolRef as PartialEq>⟧.eq a b ≡ true) ↔ (symbol_ref_name a ≡ symbol_ref_name b) }
     ensures hashed { (a b : SymRef) → symbol_ref_name a ≡ symbol_ref_name b →
         ⟦<SymbolRef as Hash>⟧.hash_input a ≡ ⟦<SymbolRef as Hash>⟧.hash_input b }
+{}
+
+/// Symbols that must be released are equal exactly if they name the same preset or the same entry,
+/// and equal ones hash alike.
+pub fn owed_symbols_are_what_they_name()
+    ensures equal { (a b : OwedSym) → (⟦<OwedSymbol as PartialEq>⟧.eq a b ≡ true)
+        ↔ (symbol_name (symbol_of a) ≡ symbol_name (symbol_of b)) }
+    ensures hashed { (a b : OwedSym) → symbol_name (symbol_of a) ≡ symbol_name (symbol_of b) →
+        ⟦<OwedSymbol as Hash>⟧.hash_input a ≡ ⟦<OwedSymbol as Hash>⟧.hash_input b }
 {}
 
 /// Symbols, and references to them, are ordered as what they name: presets by their places, and

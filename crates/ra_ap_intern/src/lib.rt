@@ -28,5 +28,6 @@ pub use optional::{OptionalInternedRef, OptionalInternedSliceRef, OptionalRef};
 pub use owed::{Owed, OwedSlice, OwedValue};
 pub use storage::{Owned, Ref, Reserved, Storage};
 pub use symbol::{
-    ReservedTexts, Symbol, SymbolDisplay, SymbolIter, SymbolRef, SymbolTable, symbols as sym,
+    OwedSymbol, ReservedTexts, Symbol, SymbolDisplay, SymbolIter, SymbolRef, SymbolTable,
+    symbols as sym,
 };

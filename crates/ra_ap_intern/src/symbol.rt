@@ -18,6 +18,7 @@ ghost use Rattle.ra_ap_intern.specs.declared.symbol.symbols.TheConstants as sym;
 mod display;
 mod iter;
 mod numbered;
+mod owed;
 mod packed;
 pub mod symbols;
 
@@ -25,6 +26,7 @@ pub use display::SymbolDisplay;
 use intern_store::{Limits, Name, Refusal, Refused, Store};
 use intern_table::{FixedState, Table, Text};
 pub use iter::SymbolIter;
+pub use owed::OwedSymbol;
 use packed::{Packed, Source, text_of_preset};
 use std::alloc::Global;
 use std::hash::BuildHasher;

@@ -72,6 +72,7 @@ fn laws_are_callable() {
     laws::symbols_tell_texts();
     laws::symbols_are_what_they_name();
     laws::symbol_references_are_what_they_name();
+    laws::owed_symbols_are_what_they_name();
     laws::symbols_are_ordered_as_what_they_name();
     laws::a_symbol_reads_its_text();
     laws::a_presets_text_gives_the_preset();

@@ -16,6 +16,8 @@ mod large;
 #[cfg(test)]
 mod numbers;
 #[cfg(test)]
+mod owed;
+#[cfg(test)]
 mod ported;
 #[cfg(test)]
 mod presets;

@@ -3,9 +3,9 @@ ghost use Rattle.std.specs.Prelude.{◌≡◌, IfOk, option_and_then, decimal};
 ghost use Rattle.intern_presets.specs.Numbers.{number_value};
 ghost use Rattle.intern_presets.specs.Presets.{generated_text};
 ghost use Rattle.intern_store.specs.Outcome.{MayWant, Becomes};
-ghost use Rattle.ra_ap_intern.specs.Symbols.{symbol_name, text_of, symbol_in, due_symbol, is_new_text};
+ghost use Rattle.ra_ap_intern.specs.Symbols.{symbol_name, symbol_ref_name, text_of, symbol_in, due_symbol, is_new_text};
 
-use super::{Symbol, SymbolTable};
+use super::{Symbol, SymbolRef, SymbolTable};
 use intern_presets::{digits, generated, number};
 use intern_store::Refusal;
 use std::hash::BuildHasher;
@@ -37,7 +37,16 @@ impl Integer {
         ensures { result
             ≡ option_and_then number_value (text_of table.now (symbol_name symbol.now)) }
     {
-        number(symbol.as_str(table)?)
+        symbol.as_ref().as_uint(table)
+    }
+}
+
+impl SymbolRef {
+    /// The number that the symbol's text writes, as [`Integer::as_uint`] reads it. It takes no memory.
+    pub fn as_uint<B: BuildHasher>(self, table: &SymbolTable<B>) -> Option<usize>
+        ensures { result ≡ option_and_then number_value (text_of table.now (symbol_ref_name self)) }
+    {
+        number(self.as_str(table)?)
     }
 }
 
