@@ -1,8 +1,6 @@
-//! Takes a text apart into tokens.
-use crate::fault::Fault;
-use crate::token::{Lexeme, Operator, Token};
+//! Tokens from text.
+use crate::token::{Operator, Token};
 use ra_ap_intern::{Refusal, SymbolTable};
-use std::alloc::Global;
 use text_run::{Language, Place, Words};
 
 // What the words of the language are.
@@ -20,22 +18,13 @@ impl Language for Functional {
     }
 }
 
-/// The tokens of a text, with `End` after the last. `OutOfMemory` or `Refused` when there is no
-/// memory for them.
+/// The next token, and where it begins. Behind the last one it is `End` for ever. `Refused` when
+/// there is no memory for a name.
 ///
 /// Each name becomes a symbol of the table, and keeps one count in it.
-pub fn tokens(alloc: Global, names: &mut SymbolTable, text: &str) -> Result<Vec<Lexeme>, Fault> {
-    let mut lexemes = Vec::new(alloc);
-    let mut words = Words::new(text, Place::START);
-    for _ in 0..u64::MAX {
-        let (word, place) = words.next::<Functional>();
-        let token = token_of(names, word)?;
-        lexemes.push(Lexeme { token, place })?;
-        if word.is_empty() {
-            break;
-        }
-    }
-    Ok(lexemes)
+pub fn next_token(names: &mut SymbolTable, words: &mut Words) -> Result<(Token, Place), Refusal> {
+    let (word, place) = words.next::<Functional>();
+    Ok((token_of(names, word)?, place))
 }
 
 // The token that a word is.

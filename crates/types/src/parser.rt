@@ -1,12 +1,13 @@
-//! Parses a declaration into steps.
+//! Parses declarations into steps.
 ghost use Rattle.std.specs.Prelude.{◌≡◌};
 
+use crate::fault::Fault;
+use crate::lexer::next_token;
 use crate::step::{Action, Binding, Step};
-use crate::token::{Lexeme, Operator, Token};
-use ra_ap_intern::SymbolRef;
+use crate::token::{Operator, Token};
+use ra_ap_intern::{SymbolRef, SymbolTable};
 use std::alloc::{AllocError, Global};
-use text_run::Place;
-use thiserror::Error;
+use text_run::{Place, Words};
 
 /// A declaration: a name, and the steps of what is bound to it.
 #[derive(Drop)]
@@ -15,18 +16,17 @@ pub struct Declaration {
     pub steps: Vec<Step>,
 }
 
-/// Why a declaration wasn't parsed.
-#[derive(Debug, Drop, Error)]
-pub enum ParseError {
-    /// When a token can't stand where it does: its place, and what can.
-    #[error("{place}: expected {expected}")]
-    Unexpected {
+/// What stands up to a semicolon, or up to the end.
+#[derive(Drop)]
+pub enum Parsed {
+    Declaration(Declaration),
+    /// No declaration, since a token can't stand where it does: its place, and what can.
+    Wrong {
         place: Place,
         expected: &'static str,
     },
-    /// When there was no memory.
-    #[error("out of memory")]
-    OutOfMemory(#[from(alloc)] AllocError),
+    /// Nothing more.
+    End,
 }
 
 // What comes next.
@@ -47,13 +47,18 @@ enum State {
     Operator,
     // Nothing: the name is declared.
     End(SymbolRef),
+    // Anything, up to the semicolon: something else than this was expected at the place.
+    Wrong {
+        place: Place,
+        expected: &'static str,
+    },
 }
 
 impl State {
     // In words.
     fn text(self) -> &'static str {
         match self {
-            State::Declaration | State::End(_) => "a declaration",
+            State::Declaration | State::End(_) | State::Wrong { .. } => "a declaration",
             State::Name | State::RecursiveName | State::FirstParameter => "a name",
             State::Parameters => "a parameter or =",
             State::OtherParameters => "a parameter or ->",
@@ -130,27 +135,33 @@ struct Parser {
     steps: Vec<Step>,
 }
 
-/// The declaration of the tokens up to a semicolon. None where there is but the semicolon, or the
-/// end.
-pub fn parse(alloc: Global, lexemes: &[Lexeme]) -> Result<Option<Declaration>, ParseError> {
+/// The next declaration of a text, whose names are added to the table.
+pub fn parse(alloc: Global, names: &mut SymbolTable, words: &mut Words) -> Result<Parsed, Fault> {
     let mut state = State::Declaration;
     let mut parser = Parser {
         begun: Vec::new(alloc),
         steps: Vec::new(alloc),
     };
-    for Lexeme { token, place } in lexemes.iter().copied() {
+    for _ in 0..u64::MAX {
+        let (token, place) = next_token(names, words)?;
         state = parser.take(state, token, place)?;
+        match (state, token) {
+            (State::Declaration, Token::Semicolon) => {}
+            (_, Token::Semicolon | Token::End) => break,
+            _ => {}
+        }
     }
     let Parser { steps, .. } = parser;
-    match state {
-        State::End(name) => Ok(Some(Declaration { name, steps })),
-        _ => Ok(None),
-    }
+    Ok(match state {
+        State::End(name) => Parsed::Declaration(Declaration { name, steps }),
+        State::Wrong { place, expected } => Parsed::Wrong { place, expected },
+        _ => Parsed::End,
+    })
 }
 
 impl Parser {
     // Takes the next token, and answers what comes after it.
-    fn take(&mut self, state: State, token: Token, place: Place) -> Result<State, ParseError> {
+    fn take(&mut self, state: State, token: Token, place: Place) -> Result<State, AllocError> {
         match (state, token) {
             (State::Declaration, Token::End | Token::Semicolon) => Ok(State::Declaration),
             (State::Declaration | State::Operand, Token::Let) => Ok(State::Name),
@@ -172,18 +183,19 @@ impl Parser {
             }
             (State::Operand, _) => self.operand(token, place),
             (State::Operator, _) => self.operator(token, place),
+            (State::Wrong { .. }, _) => Ok(state),
             _ => unexpected(place, state.text()),
         }
     }
 
-    fn emit(&mut self, action: Action, place: Place) -> Result<(), ParseError>
+    fn emit(&mut self, action: Action, place: Place) -> Result<(), AllocError>
         ensures { self.new.begun ≡ self.old.begun }
     {
         Ok(self.steps.push(Step { action, place })?)
     }
 
     // Begins what an operand comes next in.
-    fn begin(&mut self, frame: Frame, place: Place) -> Result<State, ParseError> {
+    fn begin(&mut self, frame: Frame, place: Place) -> Result<State, AllocError> {
         self.begun.push(Begun { frame, place })?;
         Ok(State::Operand)
     }
@@ -194,7 +206,7 @@ impl Parser {
         name: SymbolRef,
         place: Place,
         is_recursive: bool,
-    ) -> Result<State, ParseError> {
+    ) -> Result<State, AllocError> {
         let binding = Binding { name, is_recursive };
         let frame = if self.begun.is_empty() {
             Frame::Declaration(binding)
@@ -211,13 +223,13 @@ impl Parser {
         name: SymbolRef,
         place: Place,
         next: State,
-    ) -> Result<State, ParseError> {
+    ) -> Result<State, AllocError> {
         self.begin(Frame::Function, place)?;
         self.emit(Action::BeginFunction(name), place)?;
         Ok(next)
     }
 
-    fn operand(&mut self, token: Token, place: Place) -> Result<State, ParseError> {
+    fn operand(&mut self, token: Token, place: Place) -> Result<State, AllocError> {
         match token {
             Token::Name(name) => self.atom(Action::Variable(name), place),
             Token::Integer => self.atom(Action::Integer, place),
@@ -229,13 +241,13 @@ impl Parser {
         }
     }
 
-    fn atom(&mut self, action: Action, place: Place) -> Result<State, ParseError> {
+    fn atom(&mut self, action: Action, place: Place) -> Result<State, AllocError> {
         self.emit(action, place)?;
         self.end_atom()
     }
 
     // An operand has ended that nothing takes apart: a function before it is applied to it.
-    fn end_atom(&mut self) -> Result<State, ParseError> {
+    fn end_atom(&mut self) -> Result<State, AllocError> {
         if let Some(
             Begun {
                 frame: Frame::Application,
@@ -249,7 +261,7 @@ impl Parser {
         Ok(State::Operator)
     }
 
-    fn operator(&mut self, token: Token, place: Place) -> Result<State, ParseError> {
+    fn operator(&mut self, token: Token, place: Place) -> Result<State, AllocError> {
         match token {
             Token::Operator(operator) => {
                 self.end_open(operator.strength())?;
@@ -267,7 +279,7 @@ impl Parser {
     }
 
     // Ends what has no end of its own.
-    fn end_open(&mut self, strength: u8) -> Result<(), ParseError> {
+    fn end_open(&mut self, strength: u8) -> Result<(), AllocError> {
         while let Some(Begun { frame, place }) = self.begun.pop() {
             let Some(action) = frame.action_at_end(strength) else {
                 self.begin(frame, place)?;
@@ -279,7 +291,7 @@ impl Parser {
     }
 
     // Ends, or goes on with, what was begun last.
-    fn end(&mut self, token: Token, place: Place) -> Result<State, ParseError> {
+    fn end(&mut self, token: Token, place: Place) -> Result<State, AllocError> {
         let Some(begun) = self.begun.pop() else {
             return unexpected(place, State::Declaration.text());
         };
@@ -306,6 +318,6 @@ impl Parser {
     }
 }
 
-fn unexpected(place: Place, expected: &'static str) -> Result<State, ParseError> {
-    Err(ParseError::Unexpected { place, expected })
+fn unexpected(place: Place, expected: &'static str) -> Result<State, AllocError> {
+    Ok(State::Wrong { place, expected })
 }

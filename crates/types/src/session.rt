@@ -8,12 +8,11 @@ ghost use Rattle.types.specs.Tree.{Tree};
 use crate::error::{Failure, TypeError};
 use crate::fault::Fault;
 use crate::infer::Inference;
-use crate::lexer::tokens;
-use crate::parser::{Declaration, ParseError, parse};
-use crate::token::{Lexeme, Token};
+use crate::parser::{Declaration, Parsed, parse};
 use crate::value::{TypeNode, TypeRef};
 use ra_ap_intern::{SymbolRef, SymbolTable};
 use std::alloc::Global;
+use text_run::{Place, Words};
 
 /// The number of the table of names.
 const NAMES: u64 = 1;
@@ -27,9 +26,11 @@ const FEW_TYPES: usize = 1000;
 /// The answers to all declarations of a text, a line each.
 pub fn answer_all(alloc: Global, text: &str) -> Result<String, Fault> {
     let mut session = Session::new(alloc)?;
-    let lexemes = tokens(alloc, &mut session.names, text)?;
-    for part in lexemes.split_inclusive(|lexeme| matches!(lexeme.token, Token::Semicolon)) {
-        session.answer(part)?;
+    let mut words = Words::new(text, Place::START);
+    for _ in 0..u64::MAX {
+        if !session.answer(&mut words)? {
+            break;
+        }
     }
     session.finish()
 }
@@ -73,14 +74,16 @@ impl Session {
         Ok(())
     }
 
-    // Answers the tokens up to a semicolon.
-    fn answer(&mut self, lexemes: &[Lexeme]) -> Result<(), Fault> {
-        match parse(self.alloc, lexemes) {
-            Ok(Some(declaration)) => self.declare(&declaration),
-            Ok(None) => Ok(()),
-            Err(ParseError::OutOfMemory(error)) => Err(Fault::OutOfMemory(error)),
-            Err(error) => Ok(write!(self.out, "{error}\n")?),
+    // Answers the next declaration. Whether there was one.
+    fn answer(&mut self, words: &mut Words) -> Result<bool, Fault> {
+        match parse(self.alloc, &mut self.names, words)? {
+            Parsed::Declaration(declaration) => self.declare(&declaration)?,
+            Parsed::Wrong { place, expected } => {
+                write!(self.out, "{place}: expected {expected}\n")?;
+            }
+            Parsed::End => return Ok(false),
         }
+        Ok(true)
     }
 
     /// Infers the type of a declaration, declares its name with it, and tells it, or tells why it

@@ -1,6 +1,5 @@
-//! Tokens, and where they stand.
+//! Tokens.
 use ra_ap_intern::SymbolRef;
-use text_run::Place;
 
 /// An operator between two operands.
 #[derive(Clone, Copy)]
@@ -51,11 +50,4 @@ pub enum Token {
     /// A word that is neither a name nor a number, or a character that begins no token.
     Bad,
     End,
-}
-
-/// A token at its place.
-#[derive(Clone, Copy)]
-pub struct Lexeme {
-    pub token: Token,
-    pub place: Place,
 }
