@@ -1,5 +1,5 @@
 //! Unification: what makes two types equal.
-ghost use Rattle.std.specs.Prelude.{◌≡◌, ◌≢◌, ℕ, Bool, Some, IfErr, IfNone, IfOk, IfSome, OnOk};
+ghost use Rattle.std.specs.Prelude.{◌≡◌, ◌≢◌, ℕ, Bool, Some, IfErr, IfNone, IfOk, IfSome, IsNone, IsTrue, OnOk};
 ghost use Rattle.std.specs.Bool.{OnFalse, OnTrue};
 ghost use Rattle.ra_ap_intern.specs.Handle.{ref_name};
 ghost use Rattle.ra_ap_intern.specs.Name.{Name as TypeName};
@@ -138,15 +138,36 @@ fn bind_one(
     ensures refused { IfErr result (λ e. IsConflict e →
         HaveNoUnifier types.now unknowns.old (ref_name first) (ref_name second)) }
 {
-    if let Some(number) = number_of(types, first) {
+    let number = number_of(types, first);
+    if let Some(other) = number_of(types, second) {
+        if gives_way(other, number) {
+            bind(alloc, types, unknowns, (other, second), first)?;
+            return Ok(true);
+        }
+    }
+    if let Some(number) = number {
         bind(alloc, types, unknowns, (number, first), second)?;
         return Ok(true);
     }
-    if let Some(number) = number_of(types, second) {
-        bind(alloc, types, unknowns, (number, second), first)?;
-        return Ok(true);
-    }
     Ok(false)
+}
+
+// Whether an unknown type is to become another type: it is where that isn't unknown. Else their
+// numbers decide as if by lot, so that few known types are in a row, in whatever order types are
+// made equal.
+fn gives_way(number: u64, other: Option<u64>) -> bool
+    ensures { IsNone other → IsTrue result }
+{
+    match other {
+        Some(other) => lot(number) < lot(other),
+        None => true,
+    }
+}
+
+// Another number for each, in no order that a text has.
+fn lot(number: u64) -> u64 {
+    let lot = number.wrapping_add(1).wrapping_mul(0x9e37_79b9_7f4a_7c15);
+    (lot ^ (lot >> 32)).wrapping_mul(0xbf58_476d_1ce4_e5b9)
 }
 
 // An unknown type, which has a number, becomes another type that it is no part of, whose unknown

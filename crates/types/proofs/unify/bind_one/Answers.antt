@@ -2,24 +2,24 @@ use Rattle.ra_ap_intern.specs.Handle.{ref_name}
 use Rattle.types.proofs.Unifying.{binds_first, binds_second, never_first, never_second, same_error}
 use Rattle.types.proofs.unify.bind_one.Goals as goal
 
-pub returns-in-Some-clause-bound : goal.returns-in-Some-clause-bound
-returns-in-Some-clause-bound c =
-    binds_first c.args.types.now c.args.unknowns.now c.bind.new.unknowns c.in-Some.number (ref_name c.args.first)
-    (ref_name c.args.second) c.in-Some.ensures.number c.in_ok-bind.ensures.binds
+pub returns-then-gives_way-clause-bound : goal.returns-then-gives_way-clause-bound
+returns-then-gives_way-clause-bound c =
+    binds_second c.args.types.now c.args.unknowns.now c.bind.new.unknowns c.in-Some.other (ref_name c.args.second)
+    (ref_name c.args.first) c.in-Some.ensures.number c.in_ok-bind.ensures.binds
 
 pub returns-in_err-bind-clause-refused : goal.returns-in_err-bind-clause-refused
 returns-in_err-bind-clause-refused c =
-    same_error _ _ _ c.from_residual.ensures.1 (λ conflict. never_first c.args.types.now c.args.unknowns.now
-    c.in-Some.number (ref_name c.args.first) (ref_name c.args.second) c.in-Some.ensures.number
+    same_error _ _ _ c.from_residual.ensures.1 (λ conflict. never_second c.args.types.now c.args.unknowns.now
+    c.in-Some.other (ref_name c.args.second) (ref_name c.args.first) c.in-Some.ensures.number
     (c.in_err-bind.ensures.refused conflict))
 
-pub returns-in-Some-number_of-clause-bound : goal.returns-in-Some-number_of-clause-bound
-returns-in-Some-number_of-clause-bound c =
-    binds_second c.args.types.now c.args.unknowns.now c.bind-in-Some-number_of.new.unknowns c.in-Some-number_of.number
-    (ref_name c.args.second) (ref_name c.args.first) c.in-Some-number_of.ensures.number c.in_ok-bind-2.ensures.binds
+pub returns-in-Some-number-clause-bound : goal.returns-in-Some-number-clause-bound
+returns-in-Some-number-clause-bound c =
+    binds_first c.args.types.now c.args.unknowns.now c.bind-in-Some-number.new.unknowns c.in-Some-number.number
+    (ref_name c.args.first) (ref_name c.args.second) c.in-Some-number.ensures.number c.in_ok-bind-2.ensures.binds
 
 pub returns-in_err-bind-2-clause-refused : goal.returns-in_err-bind-2-clause-refused
 returns-in_err-bind-2-clause-refused c =
-    same_error _ _ _ c.from_residual-in_err-bind-2.ensures.1 (λ conflict. never_second c.args.types.now
-    c.args.unknowns.now c.in-Some-number_of.number (ref_name c.args.second) (ref_name c.args.first)
-    c.in-Some-number_of.ensures.number (c.in_err-bind-2.ensures.refused conflict))
+    same_error _ _ _ c.from_residual-in_err-bind-2.ensures.1 (λ conflict. never_first c.args.types.now
+    c.args.unknowns.now c.in-Some-number.number (ref_name c.args.first) (ref_name c.args.second)
+    c.in-Some-number.ensures.number (c.in_err-bind-2.ensures.refused conflict))
