@@ -50,17 +50,10 @@ fn token_of(names: &mut SymbolTable, word: &str) -> Result<Token, Refusal> {
         "-" => Token::Operator(Operator::Subtract),
         "*" => Token::Operator(Operator::Multiply),
         "<" => Token::Operator(Operator::Less),
-        _ => other_token(names, word)?,
-    })
-}
-
-// The token of a word that is no keyword and no sign.
-fn other_token(names: &mut SymbolTable, word: &str) -> Result<Token, Refusal> {
-    Ok(if word.starts_with(|c: char| c.is_alphabetic() || c == '_') {
-        Token::Name(names.get_or_intern(word)?)
-    } else if word.bytes().all(|byte| byte.is_ascii_digit()) {
-        Token::Integer
-    } else {
-        Token::Bad
+        _ if word.starts_with(|c: char| c.is_alphabetic() || c == '_') => {
+            Token::Name(names.get_or_intern(word)?)
+        }
+        _ if word.bytes().all(|byte| byte.is_ascii_digit()) => Token::Integer,
+        _ => Token::Bad,
     })
 }

@@ -21,10 +21,7 @@ pub struct Declaration {
 pub enum Parsed {
     Declaration(Declaration),
     /// No declaration, since a token can't stand where it does: its place, and what can.
-    Wrong {
-        place: Place,
-        expected: &'static str,
-    },
+    Wrong(Place, &'static str),
     /// Nothing more.
     End,
 }
@@ -47,18 +44,15 @@ enum State {
     Operator,
     // Nothing: the name is declared.
     End(SymbolRef),
-    // Anything, up to the semicolon: something else than this was expected at the place.
-    Wrong {
-        place: Place,
-        expected: &'static str,
-    },
+    // Anything, up to the semicolon, since at this place something else stood than this.
+    Wrong(Place, &'static str),
 }
 
 impl State {
     // In words.
     fn text(self) -> &'static str {
         match self {
-            State::Declaration | State::End(_) | State::Wrong { .. } => "a declaration",
+            State::Declaration | State::End(_) | State::Wrong(..) => "a declaration",
             State::Name | State::RecursiveName | State::FirstParameter => "a name",
             State::Parameters => "a parameter or =",
             State::OtherParameters => "a parameter or ->",
@@ -154,7 +148,7 @@ pub fn parse(alloc: Global, names: &mut SymbolTable, words: &mut Words) -> Resul
     let Parser { steps, .. } = parser;
     Ok(match state {
         State::End(name) => Parsed::Declaration(Declaration { name, steps }),
-        State::Wrong { place, expected } => Parsed::Wrong { place, expected },
+        State::Wrong(place, expected) => Parsed::Wrong(place, expected),
         _ => Parsed::End,
     })
 }
@@ -183,8 +177,8 @@ impl Parser {
             }
             (State::Operand, _) => self.operand(token, place),
             (State::Operator, _) => self.operator(token, place),
-            (State::Wrong { .. }, _) => Ok(state),
-            _ => unexpected(place, state.text()),
+            (State::Wrong(..), _) => Ok(state),
+            _ => Ok(State::Wrong(place, state.text())),
         }
     }
 
@@ -237,7 +231,7 @@ impl Parser {
             Token::Open => self.begin(Frame::Parenthesis, place),
             Token::If => self.begin(Frame::Condition, place),
             Token::Function => Ok(State::FirstParameter),
-            _ => unexpected(place, State::Operand.text()),
+            _ => Ok(State::Wrong(place, State::Operand.text())),
         }
     }
 
@@ -293,7 +287,7 @@ impl Parser {
     // Ends, or goes on with, what was begun last.
     fn end(&mut self, token: Token, place: Place) -> Result<State, AllocError> {
         let Some(begun) = self.begun.pop() else {
-            return unexpected(place, State::Declaration.text());
+            return Ok(State::Wrong(place, State::Declaration.text()));
         };
         match (begun.frame, token) {
             (Frame::Declaration(binding), Token::Semicolon) => {
@@ -313,11 +307,7 @@ impl Parser {
                 self.begin(Frame::Branch, begun.place)
             }
             (Frame::Branch, Token::Else) => self.begin(Frame::Alternative, place),
-            (frame, _) => unexpected(place, frame.expected()),
+            (frame, _) => Ok(State::Wrong(place, frame.expected())),
         }
     }
-}
-
-fn unexpected(place: Place, expected: &'static str) -> Result<State, AllocError> {
-    Ok(State::Wrong { place, expected })
 }

@@ -78,9 +78,7 @@ impl Session {
     fn answer(&mut self, words: &mut Words) -> Result<bool, Fault> {
         match parse(self.alloc, &mut self.names, words)? {
             Parsed::Declaration(declaration) => self.declare(&declaration)?,
-            Parsed::Wrong { place, expected } => {
-                write!(self.out, "{place}: expected {expected}\n")?;
-            }
+            Parsed::Wrong(place, expected) => write!(self.out, "{place}: expected {expected}\n")?,
             Parsed::End => return Ok(false),
         }
         Ok(true)
@@ -129,17 +127,14 @@ impl Session {
             TypeError::OutOfMemory(error) => return Err(Fault::OutOfMemory(error)),
             TypeError::Refused(why) => return Err(Fault::Refused(why)),
             TypeError::Unbound(name) => {
-                let name = name.display(&self.names);
-                write!(self.out, "{place}: {error} {name}\n")?;
+                write!(self.out, "{place}: {error} {}\n", name.display(&self.names))?;
             }
             TypeError::Clash(first, second) => {
-                let first = types.written(first);
-                let second = types.written(second);
+                let (first, second) = (types.written(first), types.written(second));
                 write!(self.out, "{place}: {error} {first} with {second}\n")?;
             }
             TypeError::Infinite(first, second) => {
-                let first = types.written(first);
-                let second = types.written(second);
+                let (first, second) = (types.written(first), types.written(second));
                 write!(self.out, "{place}: {error}: {first} = {second}\n")?;
             }
             _ => write!(self.out, "{place}: {error}\n")?,
