@@ -11,9 +11,10 @@ use crate::laws::types_are_their_shapes;
 use crate::store::Types;
 use crate::unknowns::Unknowns;
 use crate::value::{TypeNode, TypeRef};
-use ra_ap_intern::laws;
+use ra_ap_intern::{FixedState, laws};
 use std::alloc::Global;
 use std::collections::HashSet;
+use std::hash::BuildHasher;
 
 /// How many steps one type may take.
 pub const MOST_STEPS: u64 = 10_000_000;
@@ -166,8 +167,7 @@ fn gives_way(number: u64, other: Option<u64>) -> bool
 
 // Another number for each, in no order that a text has.
 fn lot(number: u64) -> u64 {
-    let lot = number.wrapping_add(1).wrapping_mul(0x9e37_79b9_7f4a_7c15);
-    (lot ^ (lot >> 32)).wrapping_mul(0xbf58_476d_1ce4_e5b9)
+    FixedState::new().hash_one(number)
 }
 
 // An unknown type, which has a number, becomes another type that it is no part of, whose unknown
