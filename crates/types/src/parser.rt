@@ -19,6 +19,7 @@ pub struct Declaration {
 /// What stands up to a semicolon, or up to the end.
 #[derive(Drop)]
 pub enum Parsed {
+    /// A declaration.
     Declaration(Declaration),
     /// No declaration, since a token can't stand where it does: its place, and what can.
     Wrong(Place, &'static str),
