@@ -1,6 +1,7 @@
 -- The path of an evaluation.
-use Rattle.std.specs.Prelude.{◌≡◌, List, [], ◌∷◌, length, slice_get, Some, All}
+use Rattle.std.specs.Prelude.{◌≡◌, ◌⊎◌, List, [], ◌∷◌, length, slice_get, Some, All, Any}
 use Rattle.ra_ap_intern.specs.Handle.{ref_name}
+use Rattle.ra_ap_intern.specs.Name.{Name}
 use Rattle.ra_ap_intern.specs.State.{State, reads}
 use Rattle.queries.specs.declared.cache.Progress.{Progress}
 use Rattle.queries.specs.declared.cache.Progress.TheVariants.{At, Done}
@@ -13,6 +14,11 @@ use Rattle.queries.specs.Sheet.{Formulas, reads_of}
 -- a query reads this one next
 abbrev pub WaitsFor : Frame → Key → Type 0
 WaitsFor frame key = slice_get frame.wants.items (length frame.values.items) ≡ Some key
+
+-- a query of this name waits: the one that reads, or one on the path
+abbrev pub IsWaiting : Name → Frame → List Frame → Type 0
+IsWaiting name top frames =
+    (ref_name top.handle ≡ name) ⊎ Any (λ frame. ref_name frame.handle ≡ name) frames
 
 module _ (sheet : Formulas) where
   -- the values of the first of these queries

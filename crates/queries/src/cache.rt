@@ -1,11 +1,11 @@
 //! The cache: what each query came to, and when that was last known to be right.
-ghost use Rattle.std.specs.Prelude.{◌≡◌, ◌↔◌, ◌∷◌, Bool, true, false, [], map as list_map, Some, None, All, IsErrOf, IfOk, IsOkUnless, OnOk, OnErr, IfSome, IsSome, length, slice_get, option_copied};
+ghost use Rattle.std.specs.Prelude.{◌≡◌, ◌↔◌, ◌⊎◌, ◌∷◌, Bool, true, false, [], map as list_map, Some, None, All, IsErrOf, IfOk, IsOkUnless, OnOk, OnErr, IfSome, IsSome, length, slice_get, option_copied};
 ghost use Rattle.ra_ap_intern.specs.Handle.{ref_name};
 ghost use Rattle.ra_ap_intern.specs.Name.{Name as KeyName};
 ghost use Rattle.ra_ap_intern.specs.State.{reads};
 ghost use Rattle.queries.specs.Cache.{Handle, memo_at, IsMemo, IsCache, IsCollected, ReadsOn, HasGiven, current_answer, one_computed, one_verified};
 ghost use Rattle.queries.specs.Evaluation.{Evaluates, IsRight, LeadsToCycle};
-ghost use Rattle.queries.specs.Path.{WaitsFor, IsFrame, IsPath, IsStuck, GoesOn};
+ghost use Rattle.queries.specs.Path.{WaitsFor, IsWaiting, IsFrame, IsPath, IsStuck, GoesOn};
 ghost use Rattle.queries.specs.Sheet.{Formulas, formula_at, same_place, gives};
 ghost use Rattle.queries.specs.declared.cache.Memo.{Memo as MemoType};
 ghost use Rattle.queries.specs.declared.key.Key.{Key as KeyType};
@@ -279,7 +279,10 @@ impl Cache {
     fn known(&self, path: &Path, top: &Frame, key: Key, handle: KeyRef) -> Option<Answer>
         requires stored { reads self.now.keys (ref_name handle) ≡ Some key }
         requires waits { WaitsFor top.now key }
-        ensures { (sheet : Formulas) (root : KeyType) → IsCache sheet self.now →
+        ensures known { IsSome result ↔ (IsSome
+            (current_answer (memo_at self.now (ref_name handle)) self.now.revision)
+            ⊎ IsWaiting (ref_name handle) top.now path.now.frames.items) }
+        ensures right { (sheet : Formulas) (root : KeyType) → IsCache sheet self.now →
             IsFrame sheet self.now.keys top.now →
             IsPath sheet self.now.keys root path.now.frames.items top.now.key →
             IfSome result (IsRight sheet key) }

@@ -1,6 +1,8 @@
 //! The queries that are being computed, each since the one before wants its value.
-ghost use Rattle.std.specs.Prelude.{◌≡◌, ◌∷◌, ◌++◌, [], length, slice_get, Any, OnOk, MatchOption, IsTrue};
+ghost use Rattle.std.specs.HashSet.{contains_by};
+ghost use Rattle.std.specs.Prelude.{◌≡◌, ◌↔◌, ◌∷◌, ◌++◌, [], length, slice_get, All, Any, OnOk, MatchOption, IsTrue, true};
 ghost use Rattle.ra_ap_intern.specs.Handle.{ref_name};
+ghost use Rattle.ra_ap_intern.specs.Named.{same_name};
 
 use crate::key::{Key, KeyRef};
 use crate::laws;
@@ -26,8 +28,10 @@ pub struct Frame {
 pub struct Path {
     /// The queries.
     pub frames: Vec<Frame>,
-    // Their handles.
-    waiting: HashSet<KeyRef>,
+    // The handles of all that waited so far, and of these above all.
+    waited: HashSet<KeyRef>,
+    ghost noted: { All (λ frame. contains_by
+        (λ r. same_name (ref_name frame.handle) (ref_name r)) waited ≡ true) frames.items },
 }
 
 impl Frame {
@@ -71,7 +75,7 @@ impl Path {
     {
         Path {
             frames: Vec::new(alloc),
-            waiting: HashSet::new(alloc),
+            waited: HashSet::new(alloc),
         }
     }
 
@@ -79,7 +83,8 @@ impl Path {
     pub fn push(&mut self, frame: Frame) -> Result<(), AllocError>
         ensures { OnOk result (self.new.frames.items ≡ self.old.frames.items ++ frame ∷ []) }
     {
-        self.waiting.insert(frame.handle)?;
+        laws::handles_are_their_names();
+        self.waited.insert(frame.handle)?;
         Ok(self.frames.push(frame)?)
     }
 
@@ -88,23 +93,22 @@ impl Path {
         ensures { MatchOption result (self.old.frames.items ≡ [])
             (λ frame. self.old.frames.items ≡ self.new.frames.items ++ frame ∷ []) }
     {
-        let frame = self.frames.pop()?;
-        self.waiting.remove(&frame.handle);
-        Some(frame)
+        self.frames.pop()
     }
 
     /// Whether a query waits.
     pub fn has(&self, handle: KeyRef) -> bool
-        ensures { IsTrue result → Any (λ frame. ref_name frame.handle ≡ ref_name handle)
+        ensures { IsTrue result ↔ Any (λ frame. ref_name frame.handle ≡ ref_name handle)
             self.now.frames.items }
     {
-        self.waiting.contains(&handle) && is_among(&self.frames, handle)
+        laws::handles_are_their_names();
+        self.waited.contains(&handle) && is_among(&self.frames, handle)
     }
 }
 
 // Whether a query is one of these.
 fn is_among(frames: &[Frame], handle: KeyRef) -> bool
-    ensures { IsTrue result → Any (λ frame. ref_name frame.handle ≡ ref_name handle) frames.now }
+    ensures { IsTrue result ↔ Any (λ frame. ref_name frame.handle ≡ ref_name handle) frames.now }
 {
     laws::handles_are_their_names();
     for frame in frames {

@@ -1,14 +1,17 @@
-use Rattle.std.proofs.Common.{sym, ◌∙◌, arith}
+use Rattle.std.proofs.Common.{sym, refl, ◌∙◌, arith}
 use Rattle.ra_ap_intern.proofs.CallerLemmas.{names_same}
 use Rattle.queries.proofs.path.is_among.Goals as goal
 
 pub returns-then-eq : goal.returns-then-eq
-returns-then-eq c holds = (
-  c.loop-frame.frame-index,
-  c.frame-item.result,
-  omega arith,
-  sym c.frame-item.is,
-  names_same _ _
-      (sym (c.handles_are_their_names.ensures c.frame-item.result.handle c.args.handle)
-      ∙ sym c.if-eq.ensures),
+returns-then-eq c = (
+  λ holds. (
+    c.loop-frame.frame-index,
+    c.frame-item.result,
+    omega arith,
+    sym c.frame-item.is,
+    names_same _ _
+        (sym (c.handles_are_their_names.ensures c.frame-item.result.handle c.args.handle)
+        ∙ sym c.if-eq.ensures),
+  ),
+  λ any. refl,
 )

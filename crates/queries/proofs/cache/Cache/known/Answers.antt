@@ -4,18 +4,18 @@ use Rattle.ra_ap_intern.proofs.CallerLemmas.{names_same}
 use Rattle.queries.proofs.Paths.{cycle_top, cycle_path}
 use Rattle.queries.proofs.cache.Cache.known.Goals as goal
 
-pub returns-in-Some : goal.returns-in-Some
-returns-in-Some c sheet root is at path =
+pub returns-in-Some-clause-right : goal.returns-in-Some-clause-right
+returns-in-Some-clause-right c sheet root is at path =
     c.in-Some.ensures.right sheet c.args.key is c.requires.stored
 
-pub returns-then-eq : goal.returns-then-eq
-returns-then-eq c sheet root is at path =
+pub returns-then-eq-clause-right : goal.returns-then-eq-clause-right
+returns-then-eq-clause-right c sheet root is at path =
     cycle_top sheet _ c.args.top.now c.args.key at c.requires.waits (ref_name c.args.handle)
     (names_same _ _ (sym (c.handles_are_their_names.ensures c.args.top.now.handle c.args.handle) ∙ sym c.if-eq.ensures))
     c.requires.stored
 
-pub returns-then-has : goal.returns-then-has
-returns-then-has c sheet root is at path =
+pub returns-then-has-clause-right : goal.returns-then-has-clause-right
+returns-then-has-clause-right c sheet root is at path =
     cycle_path sheet _ c.args.top.now c.args.key at c.requires.waits root
-    c.args.path.now.frames.items path (ref_name c.args.handle) (c.if-has.ensures refl)
+    c.args.path.now.frames.items path (ref_name c.args.handle) (c.if-has.ensures.0 refl)
     c.requires.stored

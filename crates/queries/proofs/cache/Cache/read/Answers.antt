@@ -26,7 +26,7 @@ returns-in-Some-clause-cache c =
     let path = path_on sheet _ _ on first c.args.top.key c.args.path.now.frames.items c.requires.path.1 in
     let frame = frame_on sheet _ _ on c.args.top c.requires.frame in
     c.resume.ensures.cache sheet first c.args.key is frame path c.requires.waits
-    (c.in-Some.ensures sheet first is frame path)
+    (c.in-Some.ensures.right sheet first is frame path)
 
 pub returns-in-Some-clause-goes_on : goal.returns-in-Some-clause-goes_on
 returns-in-Some-clause-goes_on c root at =
@@ -36,4 +36,4 @@ returns-in-Some-clause-goes_on c root at =
     let path = path_on sheet _ _ on root c.args.top.key c.args.path.now.frames.items at in
     let frame = frame_on sheet _ _ on c.args.top c.requires.frame in
     c.resume.ensures.goes_on sheet root c.args.key frame path c.requires.waits
-    (c.in-Some.ensures sheet root is frame path)
+    (c.in-Some.ensures.right sheet root is frame path)
