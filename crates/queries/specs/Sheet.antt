@@ -2,6 +2,8 @@
 use Rattle.std.specs.Prelude.{ℕ, ◌-◌, ◌==◌, Bool, ◌&&◌, List, [], map, Option, None, Some}
 use Rattle.std.specs.List.{flat_map, range_with_len}
 use Rattle.std.specs.Map.{lookup}
+use Rattle.std.specs.Ordering.{nat_cmp, ordering_then}
+use Rattle.std.specs.declared.cmp.Ordering.{Ordering}
 use Rattle.queries.specs.declared.key.Key.{Key}
 use Rattle.queries.specs.declared.key.Key.TheVariants.{Cell, Total}
 use Rattle.queries.specs.declared.place.Block.{Block}
@@ -17,6 +19,10 @@ Formulas = List (Place × Postfix)
 
 abbrev pub same_place : Place → Place → Bool
 same_place p q = (p.column == q.column) && (p.row == q.row)
+
+-- the order of places: by their columns, and in one column by their rows
+abbrev pub place_order : Place → Place → Ordering
+place_order p q = ordering_then (nat_cmp p.column q.column) (nat_cmp p.row q.row)
 
 -- the formula of a cell
 abbrev pub formula_at : Formulas → Place → Option Postfix

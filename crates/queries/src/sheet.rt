@@ -1,6 +1,7 @@
 //! Sheets: which cells have which formulas.
 ghost use Rattle.std.specs.Prelude.{◌≡◌, ◌↔◌, ◌-◌, ◌++◌, [], Some, None, Contains, IsSome, IfOk, OnOk, OnErr, if◌then◌else◌};
-ghost use Rattle.queries.specs.Sheet.{formula_at, same_place, reads_of, gives, block_cells, column_cells};
+ghost use Rattle.std.specs.List.Sorted.{IsStrictlySortedBy};
+ghost use Rattle.queries.specs.Sheet.{formula_at, same_place, place_order, reads_of, gives, block_cells, column_cells};
 ghost use Rattle.queries.specs.declared.place.Place.{Place as PlaceType};
 
 use crate::formula::{Formula, formula_value};
@@ -59,9 +60,10 @@ impl Sheet {
         let _ = self.formulas.remove(&place);
     }
 
-    /// The cells that have formulas, in order.
+    /// The cells that have formulas, in order and each once.
     pub fn places(&self) -> Result<Vec<Place>, AllocError>
-        ensures { IfOk result (λ places. (p : PlaceType) →
+        ensures order { IfOk result (λ places. IsStrictlySortedBy place_order places.items) }
+        ensures cells { IfOk result (λ places. (p : PlaceType) →
             Contains places.items p ↔ IsSome (formula_at self.now p)) }
     {
         laws::places_are_their_columns_and_rows();

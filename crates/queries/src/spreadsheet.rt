@@ -1,7 +1,8 @@
 //! A spreadsheet: a sheet, and a cache of its queries.
 ghost use Rattle.std.specs.Prelude.{◌≡◌, ◌↔◌, [], Some, None, Contains, IsSome, IfOk, OnOk, OnErr, if◌then◌else◌};
+ghost use Rattle.std.specs.List.Sorted.{IsStrictlySortedBy};
 ghost use Rattle.queries.specs.Evaluation.{Answers};
-ghost use Rattle.queries.specs.Sheet.{formula_at, same_place};
+ghost use Rattle.queries.specs.Sheet.{formula_at, same_place, place_order};
 ghost use Rattle.queries.specs.declared.key.Key.TheVariants.{Cell as cell_key};
 ghost use Rattle.queries.specs.declared.place.Place.{Place as PlaceType};
 
@@ -79,9 +80,10 @@ impl Spreadsheet {
         self.cache.answer(&self.sheet, Key::Cell(place))
     }
 
-    /// The cells that have formulas, in order.
+    /// The cells that have formulas, in order and each once.
     pub fn places(&self) -> Result<Vec<Place>, AllocError>
-        ensures { IfOk result (λ places. (p : PlaceType) →
+        ensures order { IfOk result (λ places. IsStrictlySortedBy place_order places.items) }
+        ensures cells { IfOk result (λ places. (p : PlaceType) →
             Contains places.items p ↔ IsSome (formula_at self.now p)) }
     {
         self.sheet.places()

@@ -1,9 +1,11 @@
 use Rattle.std.proofs.Common.{◌≡◌, IsPermutation, Ok, Global, subst, sym, refl}
 use Rattle.std.specs.declared.alloc.AllocError.{AllocError}
+use Rattle.std.specs.List.{IsDistinct}
 use Rattle.std.specs.Map.Iter.{TakesFirst, deref}
 use Rattle.std.proofs.lemmas.Iterator.{YieldsList, items_from_collect}
 use Rattle.std.proofs.lemmas.Iterator.Consumers.{YieldsList-from_copied, YieldsList-from_rest}
-use Rattle.queries.proofs.Sheets.{keys_are_cells}
+use Rattle.std.proofs.lemmas.Map.Keys.{IsDistinct-IsPermutation}
+use Rattle.queries.proofs.Sheets.{keys_are_cells, places_rise, same_places_flip}
 use Rattle.queries.proofs.sheet.Sheet.places.Goals as goal
 
 pub returns : goal.returns
@@ -14,6 +16,12 @@ returns c =
     (subst (λ s. YieldsList (TakesFirst deref) (λ y. y.now) s c.keys.result) (sym c.copied.ensures.source) run) in
     let items : c.in_ok-places.places.items ≡ c.keys.result =
     items_from_collect {Z = Global} {E = AllocError} (Ok c.in_ok-places.places) c.in_ok-places.ensures.ran copied in
-    keys_are_cells _ c.places_are_their_columns_and_rows.ensures c.self.inside.formulas.entries c.args.self.now
-    c.self.view_is c.keys.result c.sort.new.self.items c.keys.ensures.has
-    (subst (λ l. IsPermutation l c.sort.new.self.items) items c.in_ok-sort.ensures.permutation)
+    let same = c.places_are_their_columns_and_rows.ensures in
+    let moved = subst (λ l. IsPermutation l c.sort.new.self.items) items c.in_ok-sort.ensures.permutation in
+    record {
+      order = places_rise _ same c.sort.new.self.items c.in_ok-sort.ensures.sorted
+          (IsDistinct-IsPermutation _ (same_places_flip _ same) c.keys.result c.sort.new.self.items
+          moved (subst (IsDistinct _) (sym c.keys.ensures.rest) c.keys.ensures.unique));
+      cells = keys_are_cells _ same c.self.inside.formulas.entries c.args.self.now c.self.view_is
+          c.keys.result c.sort.new.self.items c.keys.ensures.has moved;
+    }
