@@ -201,8 +201,12 @@ impl Cache {
         ensures key { IfOk result (λ frame. frame.key ≡ key) }
         ensures frame { IfOk result (IsFrame sheet.now self.now.keys) }
     {
-        let wants = sheet.reads(key)?;
-        Ok(Frame::new(self.alloc, key, handle, wants))
+        Ok(Frame {
+            key,
+            handle,
+            wants: sheet.reads(key)?,
+            values: Vec::new(self.alloc),
+        })
     }
 
     // One step of an evaluation: the query at the end of the path reads a value, or is settled.

@@ -35,21 +35,6 @@ pub struct Path {
 }
 
 impl Frame {
-    /// A query that has read nothing yet.
-    pub fn new(alloc: Global, key: Key, handle: KeyRef, wants: Vec<Key>) -> Frame
-        ensures key { result.key ≡ key }
-        ensures handle { result.handle ≡ handle }
-        ensures wants { result.wants.items ≡ wants.items }
-        ensures values { result.values.items ≡ [] }
-    {
-        Frame {
-            key,
-            handle,
-            wants,
-            values: Vec::new(alloc),
-        }
-    }
-
     /// The query whose value it reads next.
     pub fn next(&self) -> Option<Key>
         ensures { result ≡ slice_get self.now.wants.items (length self.now.values.items) }
