@@ -4,4 +4,5 @@ mod Trees
 mod Collected
 mod Walks
 mod Opened
+mod Heads
 pub mod CallerTerms

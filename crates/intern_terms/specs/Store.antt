@@ -10,9 +10,9 @@ use Rattle.ra_ap_intern.specs.Reach.{Entry}
 use Rattle.ra_ap_intern.specs.Refusal.{Refusal}
 use Rattle.ra_ap_intern.specs.Named.{same_name}
 use Rattle.ra_ap_intern.specs.Sliced.{Sliced}
-use Rattle.ra_ap_intern.specs.Slices.{due_slice}
-use Rattle.ra_ap_intern.specs.State.{State, IsState, name_in, reads, due, any_count}
-use Rattle.ra_ap_intern.specs.Symbols.{given_up, same_named, symbol_name}
+use Rattle.ra_ap_intern.specs.Slices.{due_slice, is_new_slice}
+use Rattle.ra_ap_intern.specs.State.{State, IsState, name_in, reads, counted_up, due, full, any_count}
+use Rattle.ra_ap_intern.specs.Symbols.{at_entry, due_of, given_up, same_named, symbol_name}
 use Rattle.ra_ap_intern.specs.declared.symbol.Symbol.{Symbol}
 use Rattle.intern_terms.specs.Handle.{term_name}
 use Rattle.intern_terms.specs.declared.handle.TermRef.{TermRef}
@@ -60,6 +60,16 @@ due_arguments s (name ∷ names) = option_or (due s name any_count) (due_argumen
 abbrev pub due_term : State (Sliced Symbol TermRef) → Symbol → List TermRef → Option Refusal
 due_term s head args = option_or (due_arguments s (list_map term_name args))
     (due_slice same_node s head args)
+
+-- the same of a call that first counts the head in a table
+abbrev pub due_term_of : State Node → State (List ℕ) → Symbol → List TermRef → Option Refusal
+due_term_of s heads head args =
+    option_or (due_of heads (symbol_name head) (full heads.top)) (due_term s head args)
+
+-- a table, in which the head of a term is counted once more where the term isn't stored yet
+abbrev pub with_head : State Node → State (List ℕ) → Symbol → List TermRef → State (List ℕ)
+with_head s heads head args =
+    if is_new_slice same_node s head args then at_entry counted_up heads (symbol_name head) else heads
 
 -- what a term declares: its arguments
 abbrev pub declared_by : Sliced Symbol TermRef → List Name

@@ -1,25 +1,26 @@
 //! The store of terms.
-ghost use Rattle.std.specs.Prelude.{◌≡◌, ◌<◌, ◌≤◌, ◌==◌, ℕ, List, map as list_map, Some, None, IsSome, is_some, IsPermutation, IfOk, OnErr};
+ghost use Rattle.std.specs.Prelude.{◌≡◌, ◌<◌, ◌≤◌, ◌==◌, ℕ, List, map as list_map, Some, None, IsSome, is_some, IsPermutation, IfOk, OnErr, if◌then◌else◌};
 ghost use Rattle.std.specs.FinMap as map;
 ghost use Rattle.std.specs.Option.{option_map};
 ghost use Rattle.ra_ap_intern.specs.Names.{has};
 ghost use Rattle.ra_ap_intern.specs.Families.{IsCollection, kept_named};
 ghost use Rattle.ra_ap_intern.specs.Memory.{least_memory};
 ghost use Rattle.ra_ap_intern.specs.Name.{Name as TermName};
-ghost use Rattle.ra_ap_intern.specs.Outcome.{Owes, OwesBack, MayWantBack, Becomes};
+ghost use Rattle.ra_ap_intern.specs.Outcome.{Owes, OwesBack, MayWant, MayWantBack, Becomes};
 ghost use Rattle.ra_ap_intern.specs.Reach.{starts, starts_with};
 ghost use Rattle.ra_ap_intern.specs.Slices.{slice_of, slice_name_in, slice_in, slice_back, is_new_slice, named_slices};
 ghost use Rattle.ra_ap_intern.specs.State.{new_state, name_of_value, reads, counts, counted_up, counted_down, due, full, zero_count, any_count};
-ghost use Rattle.ra_ap_intern.specs.Symbols.{symbol_name};
+ghost use Rattle.ra_ap_intern.specs.Symbols.{given_up, symbol_name, symbol_ref_name};
+ghost use Rattle.ra_ap_intern.specs.declared.symbol.Symbol.{Symbol as Head};
 ghost use Rattle.intern_terms.specs.Handle.{term_name, owned_name};
-ghost use Rattle.intern_terms.specs.Store.{IsTerms, Node, names_in, same_node, due_arguments, due_term, terms_of, without_heads};
+ghost use Rattle.intern_terms.specs.Store.{IsTerms, Node, names_in, same_node, due_arguments, due_term, due_term_of, terms_of, with_head, without_heads};
 ghost use Rattle.intern_terms.specs.Tree.{Tree as TermTree, Trees as TermTrees, tree as tree_of, UnfoldsTo, AllUnfold};
 
 use crate::handle::{Term, TermRef, Terms};
 use crate::iter::TermIter;
 use ra_ap_intern::{
     Collected, FixedState, GarbageCollector, InternSliceStorage, InternedSlice, Limits, Name,
-    Refusal, Refused, Symbol, SymbolTable, Trace,
+    Refusal, Refused, Symbol, SymbolRef, SymbolTable, Trace,
 };
 use std::alloc::{AllocError, Global};
 use std::hash::BuildHasher;
@@ -153,6 +154,72 @@ impl<B: BuildHasher> TermStore<B> {
         }
         let (reference, back) = InternedSlice::from_header_and_slice(&mut self.terms, head, args)?;
         Ok((TermRef { reference }, back))
+    }
+
+    /// The term with a referenced head over these arguments. The head is counted once more in its
+    /// table exactly where the term wasn't stored yet.
+    ///
+    /// Refused: `Foreign`, `Gone` and `CountFull`, as [`SymbolRef::to_owned`] refuses the head, also
+    /// where the term is stored; then as [`TermStore::term`] is. After a refusal nothing has changed.
+    pub fn term_of<N: BuildHasher>(
+        &mut self,
+        head: SymbolRef,
+        args: &[TermRef],
+        heads: &mut SymbolTable<N>,
+    ) -> Result<TermRef, Refusal>
+        ensures owned { (owner : Head) × (symbol_name owner ≡ symbol_ref_name head)
+            × IfOk result (λ t. term_name t ≡ slice_name_in same_node self.old owner args.now)
+            × MayWant result (due_term_of self.old heads.old owner args.now)
+            (is_new_slice same_node self.old owner args.now)
+            × Becomes result self.old self.new
+            (slice_in same_node self.old owner args.now).state
+            × Becomes result heads.old heads.new
+            (with_head self.old heads.old owner args.now) }
+        ensures tree { IfOk result (λ t. (trees : TermTrees) →
+            AllUnfold self.old (list_map term_name args.now) trees →
+            UnfoldsTo self.new (term_name t) (tree_of (symbol_ref_name head) trees)) }
+        ensures trees { (name : TermName) (t : TermTree) →
+            UnfoldsTo self.old name t → UnfoldsTo self.new name t }
+    {
+        // What `number` says of the table is said here too.
+        let _number = heads.number();
+        let owner = head.to_owned(heads)?;
+        self.term_or_give_up(owner, args, heads)
+    }
+
+    // The term with this head over these arguments. A head that isn't stored is given up in its table.
+    fn term_or_give_up<N: BuildHasher>(
+        &mut self,
+        head: Symbol,
+        args: &[TermRef],
+        heads: &mut SymbolTable<N>,
+    ) -> Result<TermRef, Refusal>
+        ensures name { IfOk result (λ t.
+            term_name t ≡ slice_name_in same_node self.old head args.now) }
+        ensures refused { MayWant result (due_term self.old head args.now)
+            (is_new_slice same_node self.old head args.now) }
+        ensures state { Becomes result self.old self.new
+            (slice_in same_node self.old head args.now).state }
+        ensures heads { let without = given_up heads.old (symbol_name head) in
+            Becomes result without heads.new
+            (if is_new_slice same_node self.old head args.now then heads.old else without) }
+        ensures tree { IfOk result (λ t. (trees : TermTrees) →
+            AllUnfold self.old (list_map term_name args.now) trees →
+            UnfoldsTo self.new (term_name t) (tree_of (symbol_name head) trees)) }
+        ensures trees { (name : TermName) (t : TermTree) →
+            UnfoldsTo self.old name t → UnfoldsTo self.new name t }
+    {
+        match self.term(head, args) {
+            Ok((term, None)) => Ok(term),
+            Ok((term, Some(back))) => {
+                give_up(back.as_ref(), heads);
+                Ok(term)
+            }
+            Err(refused) => {
+                give_up(refused.back.as_ref(), heads);
+                Err(refused.why)
+            }
+        }
     }
 
     /// The term with this head over these arguments, where it is stored. It takes no memory.
@@ -302,8 +369,7 @@ impl<B: BuildHasher> TermStore<B> {
     {
         for (term, node) in self.terms.iter() {
             if !trace.keeps(term) {
-                let head = node.header.header.as_ref();
-                let _ = head.decrease_refcount(heads);
+                give_up(node.header.header.as_ref(), heads);
             }
         }
     }
@@ -340,6 +406,13 @@ impl<B: BuildHasher> TermStore<B> {
             None => Some(Refusal::Gone),
         }
     }
+}
+
+// Gives up a count of a symbol, where the table has it.
+fn give_up<N: BuildHasher>(head: SymbolRef, heads: &mut SymbolTable<N>)
+    ensures { heads.new ≡ given_up heads.old (symbol_ref_name head) }
+{
+    let _ = head.decrease_refcount(heads);
 }
 
 impl<'a, B: BuildHasher> IntoIterator for &'a TermStore<B> {

@@ -13,6 +13,8 @@ mod owners;
 #[cfg(test)]
 mod readme;
 #[cfg(test)]
+mod referenced;
+#[cfg(test)]
 mod refused;
 #[cfg(test)]
 mod releasing;
