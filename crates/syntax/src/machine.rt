@@ -1,7 +1,9 @@
 //! The parser's stack: the forms that are open, and what goes on in them.
 ghost use Rattle.std.specs.Prelude.{◌≡◌, ◌++◌, ◌∷◌, [], length, ◌&&◌, is_none, IfSome, IfNone, OnOk, true};
+ghost use Rattle.std.specs.Option.{option_map};
+ghost use Rattle.ra_ap_intern.specs.Symbols.{symbol_ref_name};
 ghost use Rattle.syntax.specs.Lexeme.{lexeme};
-ghost use Rattle.syntax.specs.Machine.{opened as shape_opened, yields as shape_yields, separates as shape_separates, closes as shape_closes, closes_item as shape_closes_item};
+ghost use Rattle.syntax.specs.Machine.{opened as shape_opened, yields as shape_yields, separates as shape_separates, closes as shape_closes, closes_item as shape_closes_item, head_of};
 ghost use Rattle.syntax.specs.Frames.{shape_of, opened_by, Opened, NoneYields, no_frame};
 ghost use Rattle.syntax.specs.declared.machine.Form.TheVariants.{Infix as infix_form};
 
@@ -9,7 +11,7 @@ use crate::fault::Fault;
 use crate::message::Expected;
 use crate::token::{Mark, Operator, Token};
 use intern_terms::TermRef;
-use ra_ap_intern::SymbolRef;
+use ra_ap_intern::{SymbolRef, sym};
 use std::alloc::Global;
 use text_run::Place;
 
@@ -70,6 +72,20 @@ impl Form {
             Token::Mark(Mark::Open) if in_item => Some(Form::Group),
             Token::Mark(Mark::If) if in_item => Some(Form::Choice),
             _ => None,
+        }
+    }
+
+    /// The head of its terms. A group has none.
+    pub fn head(self) -> Option<SymbolRef>
+        ensures { option_map symbol_ref_name result ≡ head_of (shape_of self) }
+    {
+        match self {
+            Form::Group => None,
+            Form::Call(name) => Some(name),
+            Form::Infix(operator) => Some(operator.head().as_ref()),
+            Form::Choice => Some(sym::then.as_ref()),
+            Form::Binding => Some(sym::let_.as_ref()),
+            Form::Definition => Some(sym::fn_.as_ref()),
         }
     }
 

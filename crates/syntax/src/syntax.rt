@@ -1,13 +1,12 @@
 //! Syntax trees in a store of terms, and what makes them token by token.
 ghost use Rattle.std.specs.Prelude.{◌≡◌, ◌↔◌, IsTrue, List, IfOk, IfErr, OnOk};
-ghost use Rattle.std.specs.Option.{option_map};
 ghost use Rattle.intern_terms.specs.Handle.{term_name};
 ghost use Rattle.intern_terms.specs.Tree.{Tree, Trees, tree as tree_of, no_more, UnfoldsTo};
 ghost use Rattle.ra_ap_intern.specs.State.{new_state};
-ghost use Rattle.ra_ap_intern.specs.Symbols.{symbol_name, symbol_ref_name};
+ghost use Rattle.ra_ap_intern.specs.Symbols.{symbol_ref_name};
 ghost use Rattle.syntax.specs.Frames.{shape_of};
 ghost use Rattle.syntax.specs.Lexeme.{lexeme, atom_of};
-ghost use Rattle.syntax.specs.Machine.{Unclosed, Reading, step as stepped_to, begun, gone_on, marked, completed, reduced, head_of, with_last};
+ghost use Rattle.syntax.specs.Machine.{Unclosed, Reading, step as stepped_to, begun, gone_on, marked, completed, reduced, with_last};
 ghost use Rattle.syntax.specs.Parsing.{Keeps, Stand, IsUnclosed, Opens, Reads, ReadsBefore, Reaches, IsValue, OnUnexpected, Store};
 ghost use Rattle.syntax.specs.declared.message.Stop.TheVariants.{Unexpected as unexpected_stop};
 
@@ -16,7 +15,7 @@ use crate::machine::{Form, Frame, Machine};
 use crate::message::{Expected, Stop};
 use crate::token::{Mark, Operator, PlacedToken, Token};
 use intern_terms::{TermRef, TermStore, laws};
-use ra_ap_intern::{Symbol, SymbolRef, SymbolTable, sym};
+use ra_ap_intern::{SymbolRef, SymbolTable};
 use std::alloc::Global;
 
 /// Syntax trees, each kept once, and the names in them.
@@ -250,28 +249,13 @@ impl Syntax {
         ensures frames { machine.new.frames ≡ machine.old.frames }
         ensures keeps { Keeps self.old.terms self.new.terms }
     {
-        let Some(head) = self.head(frame.form)? else {
+        let Some(head) = frame.form.head() else {
             return Ok(value);
         };
         machine.note(frame.place, frame.first)?;
         let mut parts = frame.parts;
         parts.push(value)?;
-        self.term(head, parts.as_slice())
-    }
-
-    // The head of the terms of a form. A group has none.
-    fn head(&mut self, form: Form) -> Result<Option<Symbol>, Fault>
-        ensures head { IfOk result (λ h. option_map symbol_name h ≡ head_of (shape_of form)) }
-        ensures terms { self.new.terms ≡ self.old.terms }
-    {
-        match form {
-            Form::Group => Ok(None),
-            Form::Call(name) => Ok(Some(name.to_owned(&mut self.names)?)),
-            Form::Infix(operator) => Ok(Some(operator.head())),
-            Form::Choice => Ok(Some(sym::then)),
-            Form::Binding => Ok(Some(sym::let_)),
-            Form::Definition => Ok(Some(sym::fn_)),
-        }
+        Ok(self.terms.term_of(head, parts.as_slice(), &mut self.names)?)
     }
 
     // The term of a name or a number.
@@ -280,21 +264,7 @@ impl Syntax {
             (tree_of (symbol_ref_name name) no_more)) }
         ensures keeps { Keeps self.old.terms self.new.terms }
     {
-        let head = name.to_owned(&mut self.names)?;
-        self.term(head, &[])
-    }
-
-    // The term of a head over its parts. A head that is stored already is given up.
-    fn term(&mut self, head: Symbol, parts: &[TermRef]) -> Result<TermRef, Fault>
-        ensures tree { IfOk result (λ n. (trees : Trees) → Stand self.old.terms parts.now trees →
-            UnfoldsTo self.new.terms (term_name n) (tree_of (symbol_name head) trees)) }
-        ensures keeps { Keeps self.old.terms self.new.terms }
-    {
-        let (term, back) = self.terms.term(head, parts)?;
-        if let Some(head) = back {
-            let _ = head.release(&mut self.names);
-        }
-        Ok(term)
+        Ok(self.terms.term_of(name, &[], &mut self.names)?)
     }
 }
 
