@@ -19,8 +19,8 @@ ghost use Rattle.intern_terms.specs.Tree.{Tree as TermTree, Trees as TermTrees, 
 use crate::handle::{Term, TermRef, Terms};
 use crate::iter::TermIter;
 use ra_ap_intern::{
-    Collected, FixedState, GarbageCollector, InternSliceStorage, InternedSlice, Limits, Name,
-    Refusal, Refused, Symbol, SymbolRef, SymbolTable, Trace,
+    Collected, FixedState, GarbageCollector, GcInternedVisit, InternSliceStorage, InternedSlice,
+    Limits, Name, Refusal, Refused, Symbol, SymbolRef, SymbolTable, Trace,
 };
 use std::alloc::{AllocError, Global};
 use std::hash::BuildHasher;
@@ -322,8 +322,22 @@ impl<B: BuildHasher> TermStore<B> {
         GarbageCollector::new(self.alloc).collect(&mut self.terms)
     }
 
-    /// Does the same, and leaves the trees of these terms too. A term of another store, one that is
-    /// gone, or one that is listed twice, adds nothing.
+    /// Does the same, and leaves the trees of what a visitor declares too: a [`TermRef`], or an option,
+    /// a pair, an array, a vector or a slice of such, or a value of a type with a visitor of its own.
+    /// A term of another store, one that is gone, or one that is declared twice, adds nothing.
+    pub fn collect_from<R: GcInternedVisit>(&mut self, roots: &R) -> Result<Collected, AllocError>
+        ensures ok { IfOk result (λ told. (names : List TermName)
+            × IsCollection (starts_with (R.children roots.now) (terms_of self.old))
+            (terms_of self.old) names told
+            × (self.new ≡ kept_named self.old (has names))) }
+        ensures err { OnErr result (self.new ≡ self.old) }
+        ensures trees { (name : TermName) (t : TermTree) → IsSome (reads self.new name) →
+            UnfoldsTo self.old name t → UnfoldsTo self.new name t }
+    {
+        GarbageCollector::new(self.alloc).collect_from(&mut self.terms, roots)
+    }
+
+    /// Does the same with these terms.
     pub fn collect_keeping(&mut self, roots: &[TermRef]) -> Result<Collected, AllocError>
         ensures ok { IfOk result (λ told. (names : List TermName)
             × IsCollection (starts_with (list_map term_name roots.now) (terms_of self.old))
@@ -333,7 +347,7 @@ impl<B: BuildHasher> TermStore<B> {
         ensures trees { (name : TermName) (t : TermTree) → IsSome (reads self.new name) →
             UnfoldsTo self.old name t → UnfoldsTo self.new name t }
     {
-        GarbageCollector::new(self.alloc).collect_from(&mut self.terms, &roots)
+        self.collect_from(&roots)
     }
 
     /// Does what [`TermStore::collect_keeping`] does, and gives up what the heads of the terms that go
