@@ -1,4 +1,5 @@
-//! Collections that give up the heads of the terms that go.
+//! Collections that begin at what a visitor declares, and those that give up the heads of the terms
+//! that go.
 use crate::texts::is_equal;
 use intern_fixtures::told;
 use intern_terms::{TermRef, TermStore};
@@ -37,6 +38,18 @@ fn fill(rt: &impl Abort, store: &mut TermStore, heads: &mut SymbolTable) -> (Ter
 }
 
 fn drop_all(_store: TermStore, _heads: SymbolTable) {}
+
+#[test]
+fn what_a_visitor_declares_stays(rt: HostRuntime) {
+    let mut heads = SymbolTable::new(rt.alloc(), 1);
+    let mut store = TermStore::new(rt.alloc(), 2);
+    let (x, g) = fill(&rt, &mut store, &mut heads);
+    let did = store.collect_from(&(g, Some(x)));
+    is_equal(&rt, told(did), Some((2, 1, 3)));
+    assert!(rt; store.contains(x) && store.contains(g));
+    is_equal(&rt, heads.len(), 3);
+    drop_all(store, heads);
+}
 
 #[test]
 fn heads_go_with_their_terms(rt: HostRuntime) {
