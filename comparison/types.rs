@@ -386,20 +386,30 @@ fn is_letter(character: char) -> bool {
     character.is_alphanumeric() || character == '_' || character == '\''
 }
 
-/// The tokens of a text.
-fn tokens(text: &str) -> Vec<&str> {
-    let (mut tokens, mut rest) = (Vec::new(), text.trim_start());
-    while let Some(first) = rest.chars().next() {
-        let length = match first {
-            '#' => rest.find('\n').unwrap_or(rest.len()),
-            _ if is_letter(first) => rest.find(|c| !is_letter(c)).unwrap_or(rest.len()),
-            _ if rest.starts_with("->") || rest.starts_with("==") => 2,
-            _ => first.len_utf8(),
-        };
-        tokens.extend((first != '#').then_some(&rest[..length]));
-        rest = rest[length..].trim_start();
+/// What is left of a text, of which each token is taken in turn.
+struct Tokens<'a> {
+    rest: &'a str,
+}
+
+impl<'a> Iterator for Tokens<'a> {
+    type Item = &'a str;
+
+    fn next(&mut self) -> Option<&'a str> {
+        loop {
+            let rest = self.rest.trim_start();
+            let first = rest.chars().next()?;
+            let length = match first {
+                '#' => rest.find('\n').unwrap_or(rest.len()),
+                _ if is_letter(first) => rest.find(|c| !is_letter(c)).unwrap_or(rest.len()),
+                _ if rest.starts_with("->") || rest.starts_with("==") => 2,
+                _ => first.len_utf8(),
+            };
+            self.rest = &rest[length..];
+            if first != '#' {
+                return Some(&rest[..length]);
+            }
+        }
     }
-    tokens
 }
 
 const KEYWORDS: [&str; 9] = ["let", "rec", "in", "if", "then", "else", "fun", "true", "false"];
@@ -410,7 +420,7 @@ fn is_name(token: &str) -> bool {
 
 /// A parser, with the steps of the declaration that it reads.
 struct Parser<'a> {
-    tokens: std::vec::IntoIter<&'a str>,
+    tokens: Tokens<'a>,
     token: &'a str,
     steps: Vec<Step<'a>>,
 }
@@ -556,7 +566,7 @@ fn declare_parts(inference: &mut Inference) {
 fn run() -> Result<(), Error> {
     let mut text = String::new();
     io::stdin().read_to_string(&mut text)?;
-    let mut parser = Parser { tokens: tokens(&text).into_iter(), token: "", steps: Vec::new() };
+    let mut parser = Parser { tokens: Tokens { rest: &text }, token: "", steps: Vec::new() };
     let (mut inference, mut out) = (Inference::default(), String::new());
     declare_parts(&mut inference);
     parser.advance();
