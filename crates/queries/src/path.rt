@@ -28,7 +28,7 @@ pub struct Frame {
 pub struct Path {
     /// The queries.
     pub frames: Vec<Frame>,
-    // The handles of all that waited so far, and of these above all.
+    // The handles of all that waited so far, those that wait among them.
     waited: HashSet<KeyRef>,
     ghost noted: { All (λ frame. contains_by
         (λ r. same_name (ref_name frame.handle) (ref_name r)) waited ≡ true) frames.items },

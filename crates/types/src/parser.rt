@@ -130,7 +130,8 @@ struct Parser {
     steps: Vec<Step>,
 }
 
-/// The next declaration of a text, whose names are added to the table.
+/// The next declaration of a text, whose names are added to the table. `OutOfMemory` or `Refused`
+/// when there is no memory.
 pub fn parse(alloc: Global, names: &mut SymbolTable, words: &mut Words) -> Result<Parsed, Fault> {
     let mut state = State::Declaration;
     let mut parser = Parser {
