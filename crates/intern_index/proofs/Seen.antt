@@ -5,7 +5,7 @@ use Rattle.std.specs.Ordering.{nat_cmp}
 use Rattle.std.specs.FinMap.{FinMap, empty, get, insert, remove, retain_keys, get-empty}
 use Rattle.std.proofs.lemmas.Bool.{eq-eqb}
 use Rattle.std.proofs.lemmas.Option.{same_Some}
-use Rattle.intern_store.specs.Kept.{Kept, is_at, recounted}
+use Rattle.intern_store.specs.Kept.{Kept, is_where, recounted}
 use Rattle.intern_store.proofs.Compared.{get-inserted, get-removed, get-retained}
 use Rattle.intern_buckets.specs.Leading.{leads}
 use Rattle.intern_index.specs.IndexEntry.{IndexEntry, Indexed, IsLed, has_hash, is_sought, with_payload, repaid}
@@ -103,28 +103,37 @@ module _ {T N V : Type 0} (entry : IndexEntry T N → Kept V) where
               ∙ ap (insert k b) (counts r)
 
   -- a search among the rows of a hash, seen as one among all entries
-  module _ (fits : T → N → Bool) (eq : V → V → Bool) (v : V) (same : (r : IndexEntry T N) → fits r.value r.payload ≡ eq v (entry r).value) (i : Indexed T N) (k : FinMap nat_cmp (Kept V)) (view : map_values entry i.entries ≡ k) where
+  module _ (fits : T → N → Bool) (test : V → Bool) (same : (r : IndexEntry T N) → fits r.value r.payload ≡ test (entry r).value) (i : Indexed T N) (k : FinMap nat_cmp (Kept V)) (view : map_values entry i.entries ≡ k) where
     -- what is sought in a row is what is at its entry
-    pub sought_seen : (b : ℕ) → is_sought fits (get i.entries b) ≡ is_at eq v (get k b)
-    sought_seen b = go (get i.entries b) ∙ sym (ap (is_at eq v) (seen entry i.entries k view b))
+    pub sought_seen : (b : ℕ) → is_sought fits (get i.entries b) ≡ is_where test (get k b)
+    sought_seen b = go (get i.entries b) ∙ sym (ap (is_where test) (seen entry i.entries k view b))
       where
-        go : (o : Option (IndexEntry T N)) → is_sought fits o ≡ is_at eq v (option_map entry o)
+        go : (o : Option (IndexEntry T N)) → is_sought fits o ≡ is_where test (option_map entry o)
         go None = refl
         go (Some r) = same r
 
-    pub finds : {X : Type 0} (birth : X → ℕ) (o : Option X) (h : ℕ) → IfSome o (λ x. is_sought fits (get i.entries (birth x)) ≡ true) → IfOk (ok_or o h) (λ x. is_at eq v (get k (birth x)) ≡ true)
+    pub found : {X : Type 0} (birth : X → ℕ) (o : Option X) → IfSome o (λ x. is_sought fits (get i.entries (birth x)) ≡ true) → IfSome o (λ x. is_where test (get k (birth x)) ≡ true)
+    found birth None has = has
+    found birth (Some x) has = sym (sought_seen (birth x)) ∙ has
+
+    pub finds : {X : Type 0} (birth : X → ℕ) (o : Option X) (h : ℕ) → IfSome o (λ x. is_sought fits (get i.entries (birth x)) ≡ true) → IfOk (ok_or o h) (λ x. is_where test (get k (birth x)) ≡ true)
     finds birth o h = some_then o h (λ x has. sym (sought_seen (birth x)) ∙ has)
 
-    -- each is led to by the hash of the value that is seen, and what is equal to v has the hash of v
-    module _ (hash : V → ℕ) (alike : (x : V) → eq v x ≡ true → hash v ≡ hash x) (key : T → N → ℕ) (keys : (r : IndexEntry T N) → key r.value r.payload ≡ hash (entry r).value) (led : IsLed key i) where
-      candidate : (b : ℕ) → is_at eq v (get k b) ≡ true → has_hash key (hash v) (get i.entries b) ≡ true
-      candidate b equal = go (get i.entries b) (ap (is_at eq v) (sym (seen entry i.entries k view b)) ∙ equal)
+    -- each is led to by the hash of the value that is seen, and what passes the test has hash h
+    module _ (hash : V → ℕ) (h : ℕ) (alike : (x : V) → test x ≡ true → h ≡ hash x) (key : T → N → ℕ) (keys : (r : IndexEntry T N) → key r.value r.payload ≡ hash (entry r).value) (led : IsLed key i) where
+      candidate : (b : ℕ) → is_where test (get k b) ≡ true → has_hash key h (get i.entries b) ≡ true
+      candidate b passes = go (get i.entries b) (ap (is_where test) (sym (seen entry i.entries k view b)) ∙ passes)
         where
-          go : (o : Option (IndexEntry T N)) → is_at eq v (option_map entry o) ≡ true → has_hash key (hash v) o ≡ true
+          go : (o : Option (IndexEntry T N)) → is_where test (option_map entry o) ≡ true → has_hash key h o ≡ true
           go None e = absurd (cc)
-          go (Some r) e = eq-eqb (hash v) (key r.value r.payload) (alike (entry r).value e ∙ sym (keys r))
+          go (Some r) e = eq-eqb h (key r.value r.payload) (alike (entry r).value e ∙ sym (keys r))
 
-      pub finds_none : {X : Type 0} (o : Option X) (h : ℕ) → h ≡ hash v
-          → IfNone o ((key : T → N → ℕ) → IsLed key i → (b : ℕ) → has_hash key h (get i.entries b) ≡ true → is_sought fits (get i.entries b) ≡ false) → OnErr (ok_or o h) ((b : ℕ) → is_at eq v (get k b) ≡ false)
-      finds_none None h hashes apart = λ b. settled _ _ (λ equal. ap (λ x. has_hash key x (get i.entries b)) hashes ∙ candidate b equal) (λ has. sym (sought_seen b) ∙ apart key led b has)
-      finds_none (Some x) h hashes apart = apart
+      pub unfound : {X : Type 0} (o : Option X)
+          → IfNone o ((key : T → N → ℕ) → IsLed key i → (b : ℕ) → has_hash key h (get i.entries b) ≡ true → is_sought fits (get i.entries b) ≡ false) → IfNone o ((b : ℕ) → is_where test (get k b) ≡ false)
+      unfound None apart = λ b. settled _ _ (candidate b) (λ has. sym (sought_seen b) ∙ apart key led b has)
+      unfound (Some x) apart = apart
+
+      pub finds_none : {X : Type 0} (o : Option X)
+          → IfNone o ((key : T → N → ℕ) → IsLed key i → (b : ℕ) → has_hash key h (get i.entries b) ≡ true → is_sought fits (get i.entries b) ≡ false) → OnErr (ok_or o h) ((b : ℕ) → is_where test (get k b) ≡ false)
+      finds_none {X} None apart = unfound {X = X} None apart
+      finds_none (Some x) apart = apart

@@ -1,5 +1,5 @@
 -- The birth of a value, as the map's entries give it and as look-ups do.
-use Rattle.std.proofs.Common.{◌≡◌, ◌≢◌, ℕ, Bool, true, false, cond, List, [], ◌∷◌, Option, Some, None, Result, Ok, Err, IfOk, OnErr, refl, sym, ap, ◌∙◌, arith}
+use Rattle.std.proofs.Common.{◌≡◌, ◌≢◌, ℕ, Bool, true, false, cond, List, [], ◌∷◌, Option, Some, None, IfSome, IfNone, Result, Ok, Err, IfOk, OnErr, refl, sym, ap, ◌∙◌, arith}
 use Rattle.std.specs.Prelude.{T}
 use Rattle.std.specs.Option.{option_map}
 use Rattle.std.specs.Result.{result_ok}
@@ -9,8 +9,8 @@ use Rattle.std.specs.Cmp.{IsEquivalence}
 use Rattle.std.specs.FinMap.{get, entries, get-entries, entries_sorted, is_sorted}
 use Rattle.std.specs.FinMap.Entries as entry
 use Rattle.std.proofs.lemmas.Bool.{eq-eqb, ne_eqb}
-use Rattle.intern_store.specs.Kept.{Kept, is_at}
-use Rattle.intern_store.specs.State.{State, IsState, birth_of}
+use Rattle.intern_store.specs.Kept.{Kept, is_at, is_where}
+use Rattle.intern_store.specs.State.{State, IsState, birth_of, birth_where}
 use Rattle.intern_store.proofs.Compared.{tied}
 use Rattle.intern_store.proofs.Sorted.{parts, above_all}
 
@@ -40,55 +40,84 @@ module _ {X : Type 0} where
       go later false t none true is = let same : x.1 ≡ v = cc in ap f (sym same) ∙ sym (by x) ∙ t
       go later false t none false is = later none is
 
-module _ {V : Type 0} (eq : V → V → Bool) where
-  -- an entry that is told by its value is there
-  pub is_stored : (s : State V) (v : V) (b : ℕ) → birth_of eq s v ≡ Some b → is_at eq v (get s.map b) ≡ true
-  is_stored s v b is = go (find (λ e. eq v e.1.value) (entries s.map)) refl is
+module _ {V : Type 0} (test : V → Bool) where
+  -- an entry that is told by a test of its value is there
+  pub is_there : (s : State V) (b : ℕ) → birth_where test s ≡ Some b → is_where test (get s.map b) ≡ true
+  is_there s b is = go (find (λ e. test e.1.value) (entries s.map)) refl is
     where
-      go : (o : Option (ℕ × Kept V)) → find (λ e. eq v e.1.value) (entries s.map) ≡ o → option_map (λ e. e.0) o ≡ Some b → is_at eq v (get s.map b) ≡ true
+      go : (o : Option (ℕ × Kept V)) → find (λ e. test e.1.value) (entries s.map) ≡ o → option_map (λ e. e.0) o ≡ Some b → is_where test (get s.map b) ≡ true
       go None found is = absurd (cc)
       go (Some e) found is =
           let same : e.0 ≡ b = cc in
           let first = first_found _ (entries s.map) e (entries_sorted s.map) found in
-          ap (is_at eq v) (ap (get s.map) (sym same) ∙ get-entries s.map e.0 ∙ first.0) ∙ first.1
+          ap (is_where test) (ap (get s.map) (sym same) ∙ get-entries s.map e.0 ∙ first.0) ∙ first.1
+
+  -- where no birth is told, no entry's value passes
+  pub not_there : (s : State V) → birth_where test s ≡ None → (b : ℕ) → is_where test (get s.map b) ≡ false
+  not_there s is b = go (find (λ e. test e.1.value) (entries s.map)) refl is (get s.map b) refl
+    where
+      go : (o : Option (ℕ × Kept V)) → find (λ e. test e.1.value) (entries s.map) ≡ o → option_map (λ e. e.0) o ≡ None → (r : Option (Kept V)) → get s.map b ≡ r → is_where test r ≡ false
+      go o found is None has = refl
+      go None found is (Some k) has = none_found _ (λ x. test x.value) (λ e. refl) (entries s.map) b k found (sym (get-entries s.map b) ∙ has)
+      go (Some e) found is (Some k) has = absurd (cc)
+
+  -- no birth is told where no entry's value passes
+  pub none_where : (s t : State V) → s ≡ t → ((b : ℕ) → is_where test (get s.map b) ≡ false) → birth_where test t ≡ None
+  none_where s t view none = ap (birth_where test) (sym view) ∙ go (birth_where test s) refl
+    where
+      go : (o : Option ℕ) → birth_where test s ≡ o → o ≡ None
+      go None is = refl
+      go (Some c) is = let yes = is_there s c is in let no = none c in absurd (cc)
+
+  -- values that pass are equal
+  module _ (eq : V → V → Bool) (alike : (v w : V) → test v ≡ true → test w ≡ true → eq v w ≡ true) (s t : State V) (view : s ≡ t) (ok : IsState eq s) where
+    -- two entries whose values pass are one
+    one : (b c : ℕ) → is_where test (get s.map b) ≡ true → is_where test (get s.map c) ≡ true → b ≡ c
+    one b c first second = go (get s.map b) refl first (get s.map c) refl second
+      where
+        go : (o : Option (Kept V)) → get s.map b ≡ o → is_where test o ≡ true → (r : Option (Kept V)) → get s.map c ≡ r → is_where test r ≡ true → b ≡ c
+        go None hb e r hc f = absurd (cc)
+        go (Some k) hb e None hc f = absurd (cc)
+        go (Some k) hb e (Some l) hc f = ok.apart b c k l hb hc (alike k.value l.value e f)
+
+    -- the birth of an entry whose value passes
+    pub found_where : (b : ℕ) → is_where test (get s.map b) ≡ true → birth_where test t ≡ Some b
+    found_where b found = ap (birth_where test) (sym view) ∙ go (birth_where test s) refl
+      where
+        go : (o : Option ℕ) → birth_where test s ≡ o → o ≡ Some b
+        go None is = let no = not_there s is b in absurd (cc)
+        go (Some c) is = ap Some (one c b (is_there s c is) found)
+
+    -- what a search finds is that birth
+    pub searched : {X : Type 0} (birth : X → ℕ) (o : Option X)
+        → IfSome o (λ x. is_where test (get s.map (birth x)) ≡ true) → IfNone o ((b : ℕ) → is_where test (get s.map b) ≡ false) → option_map birth o ≡ birth_where test t
+    searched birth (Some x) found none = sym (found_where (birth x) found)
+    searched birth None found none = sym (none_where s t view none)
+
+module _ {V : Type 0} (eq : V → V → Bool) where
+  -- an entry that is told by its value is there
+  pub is_stored : (s : State V) (v : V) (b : ℕ) → birth_of eq s v ≡ Some b → is_at eq v (get s.map b) ≡ true
+  is_stored s v b is = is_there (eq v) s b is
 
   -- where no birth is told, no entry has an equal value
   pub not_stored : (s : State V) (v : V) → birth_of eq s v ≡ None → (b : ℕ) → is_at eq v (get s.map b) ≡ false
-  not_stored s v is b = go (find (λ e. eq v e.1.value) (entries s.map)) refl is (get s.map b) refl
-    where
-      go : (o : Option (ℕ × Kept V)) → find (λ e. eq v e.1.value) (entries s.map) ≡ o → option_map (λ e. e.0) o ≡ None → (r : Option (Kept V)) → get s.map b ≡ r → is_at eq v r ≡ false
-      go o found is None has = refl
-      go None found is (Some k) has = none_found _ (λ x. eq v x.value) (λ e. refl) (entries s.map) b k found (sym (get-entries s.map b) ∙ has)
-      go (Some e) found is (Some k) has = absurd (cc)
+  not_stored s v is b = not_there (eq v) s is b
 
   -- the same of a state that is seen as another
   pub not_stored_in : (s t : State V) → s ≡ t → (v : V) → birth_of eq t v ≡ None → (b : ℕ) → is_at eq v (get s.map b) ≡ false
   not_stored_in s t view v is = not_stored s v (ap (λ x. birth_of eq x v) view ∙ is)
 
-  -- two entries that equal one value are one
-  one : IsEquivalence eq → (s : State V) → IsState eq s → (v : V) (b c : ℕ) → is_at eq v (get s.map b) ≡ true → is_at eq v (get s.map c) ≡ true → b ≡ c
-  one laws s ok v b c first second = go (get s.map b) refl first (get s.map c) refl second
-    where
-      go : (o : Option (Kept V)) → get s.map b ≡ o → is_at eq v o ≡ true → (r : Option (Kept V)) → get s.map c ≡ r → is_at eq v r ≡ true → b ≡ c
-      go None hb e r hc f = absurd (cc)
-      go (Some k) hb e None hc f = absurd (cc)
-      go (Some k) hb e (Some l) hc f = ok.apart b c k l hb hc (sym (laws.congr v k.value l.value e) ∙ f)
+  -- values that equal one value are equal
+  pub both_equal : IsEquivalence eq → (v x y : V) → eq v x ≡ true → eq v y ≡ true → eq x y ≡ true
+  both_equal laws v x y first second = sym (laws.congr v x y first) ∙ second
 
   -- the birth of a value that an entry has
   pub birth_found : IsEquivalence eq → (s t : State V) → s ≡ t → IsState eq s → (v : V) (b : ℕ) → is_at eq v (get s.map b) ≡ true → birth_of eq t v ≡ Some b
-  birth_found laws s t view ok v b found = ap (λ x. birth_of eq x v) (sym view) ∙ go (birth_of eq s v) refl
-    where
-      go : (o : Option ℕ) → birth_of eq s v ≡ o → o ≡ Some b
-      go None is = let no = not_stored s v is b in absurd (cc)
-      go (Some c) is = ap Some (one laws s ok v c b (is_stored s v c is) found)
+  birth_found laws s t view ok v b found = found_where (eq v) eq (both_equal laws v) s t view ok b found
 
   -- and of one that none has
   pub birth_unfound : (s t : State V) → s ≡ t → (v : V) → ((b : ℕ) → is_at eq v (get s.map b) ≡ false) → birth_of eq t v ≡ None
-  birth_unfound s t view v none = ap (λ x. birth_of eq x v) (sym view) ∙ go (birth_of eq s v) refl
-    where
-      go : (o : Option ℕ) → birth_of eq s v ≡ o → o ≡ None
-      go None is = refl
-      go (Some c) is = let yes = is_stored s v c is in let no = none c in absurd (cc)
+  birth_unfound s t view v none = none_where (eq v) s t view none
 
   -- what a search finds is the birth of the value
   pub birth_is : {X E : Type 0} (birth : X → ℕ) → IsEquivalence eq → (s t : State V) → s ≡ t → IsState eq s → (v : V) (r : Result X E)

@@ -138,13 +138,21 @@ module _ {V : Type 0} where
   abbrev pub added : State V → V → State V
   added s v = added_with 0 s v
 
+  -- the first birth whose value passes a test
+  abbrev pub birth_where : (V → Bool) → State V → Option ℕ
+  birth_where test s = option_map (λ e. e.0) (find (λ e. test e.1.value) (map.entries s.map))
+
+  -- the name of its entry
+  abbrev pub name_where : (V → Bool) → State V → Option Name
+  name_where test s = option_map (name_in s) (birth_where test s)
+
   -- the birth whose value equals v
   abbrev pub birth_of : (V → V → Bool) → State V → V → Option ℕ
-  birth_of eq s v = option_map (λ e. e.0) (find (λ e. eq v e.1.value) (map.entries s.map))
+  birth_of eq s v = birth_where (eq v) s
 
   -- the name of the entry whose value equals v
   abbrev pub name_of_value : (V → V → Bool) → State V → V → Option Name
-  name_of_value eq s v = option_map (name_in s) (birth_of eq s v)
+  name_of_value eq s v = name_where (eq v) s
 
   -- the name of each entry, with its value
   abbrev pub named_values : State V → List (Name × V)

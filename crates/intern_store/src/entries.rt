@@ -1,9 +1,9 @@
 //! What a store asks of the table that keeps its entries.
-ghost use Rattle.std.specs.Prelude.{◌≡◌, ℕ, ◌<◌, ◌≤◌, ◌-◌, Bool, IsSome, is_some, Some, None, IsOk, OnOk, OnErr, IfOk, IfErr, true, false};
+ghost use Rattle.std.specs.Prelude.{◌≡◌, ℕ, ◌<◌, ◌≤◌, ◌-◌, Bool, IsSome, IfSome, IfNone, is_some, Some, None, IsOk, OnOk, OnErr, IfOk, IfErr, true, false};
 ghost use Rattle.std.specs.Option.{option_map};
 ghost use Rattle.std.specs.FinMap as map;
 ghost use Rattle.std.specs.Ordering.{nat_cmp};
-ghost use Rattle.intern_store.specs.Kept.{Kept, is_at, raised, recounted};
+ghost use Rattle.intern_store.specs.Kept.{Kept, is_at, is_where, raised, recounted};
 ghost use Rattle.intern_store.specs.Memory.{least_memory};
 ghost use Rattle.intern_store.specs.Outcome.{Spends};
 
@@ -116,6 +116,25 @@ pub trait Finds<Q>: Entries {
         ensures none { OnErr result ((b : ℕ) →
             is_at Self.Value.eq (value query.now) (map.get (Self.entries self.now) b) ≡ false) }
         ensures hash { IfErr result (λ h. h ≡ hash_of (Self.hashes_by self.now) query.now) };
+}
+
+/// A table in which a value is looked up by a query of this type, which is no value yet.
+pub trait Seeks<Q>: Entries {
+    ghost use Rattle.std.specs.Prelude.{Bool, true, ◌≡◌};
+
+    // Whether a value is what is looked up.
+    ghost fits: { Q → Self.Value → Bool };
+
+    /// An entry whose value is the one that is looked up. It takes no memory.
+    fn seek(&self, query: &Q) -> Option<Spot>
+        ensures found { IfSome result (λ s.
+            is_where (fits query.now) (map.get (Self.entries self.now) s.birth) ≡ true) }
+        ensures none { IfNone result ((b : ℕ) →
+            is_where (fits query.now) (map.get (Self.entries self.now) b) ≡ false) };
+
+    // Values that are looked up by one query are equal.
+    ghost alike: { (q : Q) (v w : Self.Value) → fits q v ≡ true → fits q w ≡ true
+        → Self.Value.eq v w ≡ true };
 }
 
 /// A table that takes what is offered by such a query.

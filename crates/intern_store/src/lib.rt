@@ -6,7 +6,7 @@ mod names;
 mod refusal;
 mod store;
 
-pub use entries::{Entries, Finds, Keeps, Pools, Raises, Removes, Sweeps, Takes};
+pub use entries::{Entries, Finds, Keeps, Pools, Raises, Removes, Seeks, Sweeps, Takes};
 pub use names::{EntryKey, Limits, Name, Spot};
 pub use refusal::{Refusal, Refused};
 pub use store::Store;

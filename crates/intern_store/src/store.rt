@@ -6,9 +6,9 @@ ghost use Rattle.std.specs.Option.{option_map};
 ghost use Rattle.intern_store.specs.Memory.{least_memory};
 ghost use Rattle.intern_store.specs.Named.{key_name};
 ghost use Rattle.intern_store.specs.Outcome.{Owes, OwesBack, MayWant, MayWantBack, Becomes, Spends};
-ghost use Rattle.intern_store.specs.State.{HasRoom, IsState, new_state, name_in, entry_at, count_at, counts, counted_up, counted_down, taken, added_with, birth_of, is_new, interned, interned_name, interned_counted, given_back, name_of_value, due, due_at, due_adding, due_interning, due_found_full, found_counted, full, zero_count, any_count, freed, released, kept};
+ghost use Rattle.intern_store.specs.State.{HasRoom, IsState, new_state, name_in, entry_at, count_at, counts, counted_up, counted_down, taken, added_with, birth_of, birth_where, is_new, interned, interned_name, interned_counted, given_back, name_of_value, name_where, due, due_at, due_adding, due_interning, due_found_full, found_counted, full, zero_count, any_count, freed, released, kept};
 
-use crate::entries::{Entries, Finds, Keeps, Pools, Raises, Removes, Sweeps, Takes};
+use crate::entries::{Entries, Finds, Keeps, Pools, Raises, Removes, Seeks, Sweeps, Takes};
 use crate::names::{EntryKey, Limits, Spot};
 use crate::refusal::{Refusal, Refused};
 use std::alloc::Global;
@@ -212,14 +212,26 @@ impl<E: Entries> Store<E> {
         self.table.find(query)
     }
 
-    /// The key of the entry whose value equals the one that a query names.
+    // An entry whose value is what a query looks up.
+    fn sought<Q>(&self, query: &Q) -> Option<Spot>
+    where
+        E: Seeks<Q>,
+        ensures { option_map (λ s. s.birth) result
+            ≡ birth_where (E.fits query.now) self.now.state }
+    {
+        // A field that is read brings in the invariant, which the table alone doesn't know.
+        let _next = self.next;
+        self.table.seek(query)
+    }
+
+    /// The key of the entry whose value is what a query looks up.
     pub fn find<Q>(&self, query: &Q) -> Option<EntryKey>
     where
-        E: Finds<Q>,
+        E: Seeks<Q>,
         ensures { option_map key_name result
-            ≡ name_of_value E.Value.eq self.now.state (E.value query.now) }
+            ≡ name_where (E.fits query.now) self.now.state }
     {
-        Some(self.key(self.search(query).ok()?))
+        Some(self.key(self.sought(query)?))
     }
 
     // Adds an entry under its hash, with its first count.

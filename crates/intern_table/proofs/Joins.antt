@@ -14,7 +14,7 @@ use Rattle.intern_store.specs.Kept.{Kept, recounted}
 use Rattle.intern_store.proofs.Compared.{get-inserted, get-retained}
 use Rattle.intern_index.specs.IndexEntry.{Indexed, IsLed, with_payload}
 use Rattle.intern_store.specs.Maps.{map_values}
-use Rattle.intern_table.specs.Sliced.{Sliced, sliced_eq, sliced_input}
+use Rattle.intern_table.specs.Sliced.{Sliced, sliced_eq, sliced_fits, sliced_input}
 use Rattle.intern_table.specs.Read.{shown, shown_row}
 use Rattle.intern_table.specs.Joined.{Row, far, far_length, items_in, end_of, read_entry, sliced_entry, sliced_hash, IsLaid, IsCovered, IsJoined}
 use Rattle.intern_table.specs.declared.layout.SliceRow.{SliceRow}
@@ -23,13 +23,18 @@ use Rattle.intern_store.proofs.Chosen.{here, away}
 use Rattle.intern_index.proofs.Seen.{alike_led, changed_seen}
 use Rattle.intern_store.proofs.Maps.{get-map_values, map_values-insert, map_values-retain, map_values-same, read_seen}
 
+-- what is fed of a header that passes a test, and of equal lists, is the same
+pub sliced_input-fits : {H S : Type 0} (fed_first : List (List ℕ)) (h : H → List (List ℕ)) (s : S → List (List ℕ)) (test : H → Bool) (item_eq : S → S → Bool) → ((x : H) → test x ≡ true → fed_first ≡ h x) → ((x y : S) → item_eq x y ≡ true → s x ≡ s y)
+    → (xs : List S) (w : Sliced H S) → sliced_fits test item_eq xs w ≡ true → fed_first ++ fed.slice s xs ≡ sliced_input h s w
+sliced_input-fits first h s test item_eq headers items xs w e =
+    let parts = and_parts (test w.header) (pointwise item_eq xs w.items) e in
+    let alike : fed.Alike item_eq s = record { fed = items } in
+    ap (λ i. i ++ fed.slice s xs) (headers w.header parts.0) ∙ ap (λ i. h w.header ++ i) ((fed.items_Alike alike).fed xs w.items parts.1)
+
 -- equal headers and lists feed a hasher the same
 pub sliced_input-same : {H S : Type 0} (h : H → List (List ℕ)) (s : S → List (List ℕ)) (eq : H → H → Bool) (item_eq : S → S → Bool) → ((x y : H) → eq x y ≡ true → h x ≡ h y) → ((x y : S) → item_eq x y ≡ true → s x ≡ s y)
     → (v w : Sliced H S) → sliced_eq eq item_eq v w ≡ true → sliced_input h s v ≡ sliced_input h s w
-sliced_input-same h s eq item_eq headers items v w e =
-    let parts = and_parts (eq v.header w.header) (pointwise item_eq v.items w.items) e in
-    let alike : fed.Alike item_eq s = record { fed = items } in
-    ap (λ i. i ++ fed.slice s v.items) (headers v.header w.header parts.0) ∙ ap (λ i. h w.header ++ i) ((fed.items_Alike alike).fed v.items w.items parts.1)
+sliced_input-same h s eq item_eq headers items v w e = sliced_input-fits (h v.header) h s (eq v.header) item_eq (headers v.header) items v.items w e
 
 module _ {S : Type 0} where
   -- a part that fits has its length

@@ -3,8 +3,8 @@
 
 mod counted;
 mod counts;
-mod equivalent;
 mod layout;
+mod offered;
 mod pool;
 mod slice;
 mod slice_iter;
@@ -13,9 +13,10 @@ mod table;
 mod text;
 
 pub use counted::{Counted, Counts};
-pub use equivalent::{Equivalent, FixedState};
+pub use indexmap::Equivalent;
 pub use intern_index::Iter;
 pub use layout::{Far, Layout, Near, NearItems, NoItems, OwnItems, SliceRow};
+pub use offered::{FixedState, Offered};
 pub use pool::SlicePayload;
 pub use slice::{HeaderSlice, HeaderWithLength, SliceValue};
 pub use slice_iter::SliceIter;

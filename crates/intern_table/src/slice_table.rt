@@ -2,7 +2,7 @@
 ghost use Rattle.std.specs.Prelude.{◌≡◌, IsPermutation, length};
 ghost use Rattle.std.specs.Option.{option_map};
 ghost use Rattle.std.specs.FinMap as map;
-ghost use Rattle.intern_table.specs.Sliced.{sliced_eq, sliced_input};
+ghost use Rattle.intern_table.specs.Sliced.{sliced_fits, sliced_input};
 ghost use Rattle.intern_table.specs.Hashes.{hash_of};
 ghost use Rattle.intern_table.specs.Joined.{items_in, sliced_hash};
 ghost use Rattle.intern_table.specs.Listed.{listed_counts, listed_slices};
@@ -10,13 +10,14 @@ ghost use Rattle.intern_table.specs.Read.{read, shown};
 
 use crate::counted::{Counted, Counts};
 use crate::counts::{Lower, OfCount, Raise};
-use crate::equivalent::hash_value;
+use crate::offered::hash_value;
 use crate::layout::{NearItems, SliceRow, far_length};
 use crate::pool::{SlicePayload, compact};
 use crate::slice::{HeaderSlice, SliceValue};
 use crate::slice_iter::SliceIter;
+use indexmap::Equivalent;
 use intern_index::{BirthOrder, Hashes, Index, Query, size_of_one};
-use intern_store::{Entries, Finds, Keeps, Pools, Spot, Sweeps, Takes};
+use intern_store::{Entries, Finds, Keeps, Pools, Seeks, Spot, Sweeps, Takes};
 use std::alloc::{AllocError, Global};
 use std::cmp::Eq;
 use std::hash::{BuildHasher, Hash};
@@ -63,25 +64,25 @@ impl<H: Hash + Eq, S: Hash + Eq + Copy, A: NearItems<S>, B: BuildHasher> Model
         a.index a.items.items };
 }
 
-// A header and a slice that equal those offered.
-#[derive_where(Clone, Copy)]
-struct EqualSlice<'a, H, S> {
-    header: &'a H,
+// A slice with equal items, and with a header that this one is equivalent to.
+#[derive(Clone, Copy)]
+struct EqualSlice<'a, Q: Copy, S: Copy> {
+    header: Q,
     items: &'a [S],
     // The items in the vector.
     all: &'a [S],
 }
 
-impl<H: Eq, S: Eq, A: NearItems<S>> Query<SliceRow<H, A>, SlicePayload> for EqualSlice<'_, H, S> {
-    ghost fits = { λ q v p. sliced_eq H.eq S.eq
-        (record { header = q.header.now; items = q.items.now })
+impl<H: Hash + Eq, S: Eq + Copy, A: NearItems<S>, Q: Equivalent<H>> Query<SliceRow<H, A>, SlicePayload>
+    for EqualSlice<'_, Q, S> {
+    ghost fits = { λ q v p. sliced_fits (Q.equivalent q.header) S.eq q.items.now
         (record {
           header = v.header;
           items = items_in (A.near_of v.near) p.start p.length q.all.now;
         }) };
 
     fn fits(&self, row: &SliceRow<H, A>, payload: SlicePayload) -> bool {
-        self.header == &row.header && self.items == row.items(payload, self.all)
+        self.header.equivalent(&row.header) && self.items == row.items(payload, self.all)
     }
 }
 
@@ -202,26 +203,27 @@ impl<H: Hash + Eq, S: Hash + Eq + Copy, A: NearItems<S>, B: BuildHasher> Pools
     }
 }
 
-// A header and a slice that are looked up, both borrowed.
-impl<'a, H: Hash + Eq, S: Hash + Eq + Copy, A: NearItems<S>, B: BuildHasher> Finds<(&'a H, &'a [S])>
-    for SliceTable<H, S, A, B> {
-    ghost value = { λ q. record { header = q.0.now; items = q.1.now } };
+// A slice with a header that a query is equivalent to.
+impl<'a, H: Hash + Eq, S: Hash + Eq + Copy, A: NearItems<S>, B: BuildHasher, Q: Equivalent<H>>
+    Seeks<(Q, &'a [S])> for SliceTable<H, S, A, B> {
+    ghost use Rattle.intern_table.specs.Sliced.{fits_alike};
 
-    ghost hash_of = { λ b q. hash_of B.BuildHasher B.Hasher.Hasher b
-        (sliced_input H.hash_input S.hash_input (record { header = q.0.now; items = q.1.now })) };
+    ghost fits = { λ q v. sliced_fits (Q.equivalent q.0) S.eq q.1.now v };
 
-    fn find(&self, query: &(&'a H, &'a [S])) -> Result<Spot, u64> {
+    ghost alike = { λ q. fits_alike (Q.equivalent q.0) H.eq S.Eq.laws (Q.Equivalent.respects_eq q.0) q.1.now };
+
+    fn seek(&self, query: &(Q, &'a [S])) -> Option<Spot> {
         let equal = EqualSlice {
             header: query.0,
             items: query.1,
             all: self.items.as_slice(),
         };
         let hash = hash_value(&self.hasher, query);
-        self.index.find(hash, &equal).ok_or(hash)
+        self.index.find(hash, &equal)
     }
 }
 
-// The same of a header that is offered.
+// A header and a slice that are offered.
 impl<'a, H: Hash + Eq, S: Hash + Eq + Copy, A: NearItems<S>, B: BuildHasher> Finds<(H, &'a [S])>
     for SliceTable<H, S, A, B> {
     ghost value = { λ o. record { header = o.0; items = o.1.now } };
@@ -230,7 +232,14 @@ impl<'a, H: Hash + Eq, S: Hash + Eq + Copy, A: NearItems<S>, B: BuildHasher> Fin
         (sliced_input H.hash_input S.hash_input (record { header = o.0; items = o.1.now })) };
 
     fn find(&self, offer: &(H, &'a [S])) -> Result<Spot, u64> {
-        self.find(&(&offer.0, offer.1))
+        let query = (&offer.0, offer.1);
+        let equal = EqualSlice {
+            header: query.0,
+            items: query.1,
+            all: self.items.as_slice(),
+        };
+        let hash = hash_value(&self.hasher, &query);
+        self.index.find(hash, &equal).ok_or(hash)
     }
 }
 

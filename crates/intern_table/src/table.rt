@@ -7,9 +7,10 @@ ghost use Rattle.intern_table.specs.Listed.{listed_counts, listed_values};
 
 use crate::counted::Counts;
 use crate::counts::{Lower, Raise};
-use crate::equivalent::{Equivalent, FixedState, ValueHash};
+use crate::offered::{FixedState, Offered, ValueHash, hash_value};
+use indexmap::Equivalent;
 use intern_index::{BirthTable, Index, Iter, Query};
-use intern_store::{Entries, Finds, Keeps, Raises, Removes, Spot, Sweeps, Takes};
+use intern_store::{Entries, Finds, Keeps, Raises, Removes, Seeks, Spot, Sweeps, Takes};
 use std::alloc::{AllocError, Global};
 use std::cmp::Eq;
 use std::hash::{BuildHasher, Hash};
@@ -56,11 +57,25 @@ struct Equal<'a, O> {
     offer: &'a O,
 }
 
-impl<T: Hash + Eq, O: Equivalent<T>> Query<T, u64> for Equal<'_, O> {
+impl<T: Hash + Eq, O: Offered<T>> Query<T, u64> for Equal<'_, O> {
     ghost fits = { λ q v _. T.eq (O.value q.offer.now) v };
 
     fn fits(&self, value: &T, _count: u64) -> bool {
         self.offer.equals(value)
+    }
+}
+
+// A value that a query is equivalent to.
+#[derive(Clone, Copy)]
+struct Sought<Q: Copy> {
+    query: Q,
+}
+
+impl<T: Hash + Eq, Q: Equivalent<T>> Query<T, u64> for Sought<Q> {
+    ghost fits = { λ s v _. Q.equivalent s.query v };
+
+    fn fits(&self, value: &T, _count: u64) -> bool {
+        self.query.equivalent(value)
     }
 }
 
@@ -147,7 +162,7 @@ impl<T: Hash + Eq, B: BuildHasher> Removes for Table<T, B> {
     }
 }
 
-impl<T: Hash + Eq, B: BuildHasher, O: Equivalent<T>> Finds<O> for Table<T, B> {
+impl<T: Hash + Eq, B: BuildHasher, O: Offered<T>> Finds<O> for Table<T, B> {
     ghost value = { O.value };
 
     ghost hash_of = { λ b o. hash_of B.BuildHasher B.Hasher.Hasher b (T.hash_input (O.value o)) };
@@ -158,7 +173,20 @@ impl<T: Hash + Eq, B: BuildHasher, O: Equivalent<T>> Finds<O> for Table<T, B> {
     }
 }
 
-impl<T: Hash + Eq, B: BuildHasher, O: Equivalent<T>> Takes<O> for Table<T, B> {
+impl<T: Hash + Eq, B: BuildHasher, Q: Equivalent<T>> Seeks<Q> for Table<T, B> {
+    ghost use Rattle.std.proofs.Common.{sym, ◌∙◌};
+
+    ghost fits = { λ q v. Q.equivalent q v };
+
+    ghost alike = { λ q v w first second. sym (Q.Equivalent.respects_eq q v w first) ∙ second };
+
+    fn seek(&self, query: &Q) -> Option<Spot> {
+        let hash = hash_value(&self.hasher, query);
+        self.index.find(hash, &Sought { query: *query })
+    }
+}
+
+impl<T: Hash + Eq, B: BuildHasher, O: Offered<T>> Takes<O> for Table<T, B> {
     ghost outside = { O.outside };
 
     fn insert(&mut self, birth: u64, hash: u64, offer: O, count: u64) -> Result<usize, O> {
@@ -169,7 +197,7 @@ impl<T: Hash + Eq, B: BuildHasher, O: Equivalent<T>> Takes<O> for Table<T, B> {
     }
 }
 
-impl<T: Hash + Eq, B: BuildHasher, O: Equivalent<T>> Raises<O> for Table<T, B> {
+impl<T: Hash + Eq, B: BuildHasher, O: Offered<T>> Raises<O> for Table<T, B> {
     fn find_and_raise(&mut self, offer: &O, top: u64) -> Result<(Spot, u64), u64> {
         let hash = offer.hashed(&self.hasher);
         let raise = Raise { top };

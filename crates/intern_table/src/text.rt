@@ -6,8 +6,9 @@ ghost use Rattle.std.specs.Hash as fed;
 ghost use Rattle.std.specs.Str.{bytes_eq};
 ghost use Rattle.std.proofs.Common.{rules};
 
-use crate::equivalent::{Equivalent, hash_value};
+use crate::offered::{Offered, hash_value};
 use arrayvec::ArrayString;
+use indexmap::Equivalent;
 use intern_index::Offer;
 use std::alloc::{AllocError, Global};
 use std::cmp::Eq;
@@ -134,7 +135,23 @@ impl<'a> Offer<Text> for &'a str {
     }
 }
 
+// A borrowed text looks up the text with its bytes.
 impl Equivalent<Text> for &str {
+    ghost use Rattle.std.proofs.Common.{ap};
+    ghost use Rattle.std.specs.Cmp.Lexicographic.{bytes_decides, nat_list_eq_equiv};
+
+    ghost equivalent = { λ q t. bytes_eq q.now t };
+
+    ghost respects_hash = { λ q t is. ap fed.str ((bytes_decides q.now t).0 is) };
+
+    ghost respects_eq = { λ q t u. nat_list_eq_equiv.congr q.now t u };
+
+    fn equivalent(&self, stored: &Text) -> bool {
+        *self == stored.as_str()
+    }
+}
+
+impl Offered<Text> for &str {
     fn equals(&self, stored: &Text) -> bool {
         *self == stored.as_str()
     }

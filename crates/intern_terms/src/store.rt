@@ -231,6 +231,17 @@ impl<B: BuildHasher> TermStore<B> {
         Some(TermRef { reference })
     }
 
+    /// The term with a referenced head over these arguments, where it is stored. It takes no memory,
+    /// and counts nothing.
+    pub fn get_of(&self, head: SymbolRef, args: &[TermRef]) -> Option<TermRef>
+        ensures { (owner : Head) → symbol_name owner ≡ symbol_ref_name head →
+            option_map term_name result
+            ≡ name_of_value same_node self.now (slice_of owner args.now) }
+    {
+        let reference = self.terms.find(head, args)?;
+        Some(TermRef { reference })
+    }
+
     /// Whether the store has a term of this name: one of another store, or one that is gone, it
     /// hasn't.
     pub fn contains(&self, term: TermRef) -> bool

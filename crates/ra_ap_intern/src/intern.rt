@@ -8,7 +8,7 @@
 ghost use Rattle.std.specs.Prelude.{◌≡◌, ◌<◌, if◌then◌else◌, true, false, Bool, IsPermutation, IfOk, option_copied};
 ghost use Rattle.std.specs.Option.{option_map};
 ghost use Rattle.intern_store.specs.Outcome.{Owes, OwesBack, MayWant, MayWantBack, Becomes, Spends};
-ghost use Rattle.intern_store.specs.State.{name_in, entry_at, reads, is_new, interned, interned_name, interned_counted, given_back, name_of_value, named_values, due, due_at, due_interning, full, zero_count, any_count, freed, released};
+ghost use Rattle.intern_store.specs.State.{name_in, entry_at, reads, is_new, interned, interned_name, interned_counted, given_back, name_of_value, name_where, named_values, due, due_at, due_interning, full, zero_count, any_count, freed, released};
 ghost use Rattle.ra_ap_intern.specs.Handle.{name_of, ref_name};
 
 mod each;
@@ -18,7 +18,7 @@ use crate::kind::Values;
 use crate::storage::{Owned, Ref, Reserved, Storage};
 pub use each::InternHandle;
 use intern_store::{Refusal, Refused};
-use intern_table::FixedState;
+use intern_table::{Equivalent, FixedState};
 pub use iter::Iter;
 use std::cmp::Eq;
 use std::hash::{BuildHasher, Hash};
@@ -47,7 +47,15 @@ impl<T: Internable, B: BuildHasher> InternStorage<T, B> {
     pub fn get(&self, obj: &T) -> Option<InternedRef<T>>
         ensures { option_map ref_name result ≡ name_of_value T.eq self.now obj.now }
     {
-        Some(Ref::new(self.inner.store.find(obj)?))
+        self.find(obj)
+    }
+
+    /// A reference to the entry whose value this is equivalent to, as a `&str` is to a `String`:
+    /// nothing has to be built to look it up. None where there is none. It takes no memory.
+    pub fn find<Q: Equivalent<T>>(&self, query: Q) -> Option<InternedRef<T>>
+        ensures { option_map ref_name result ≡ name_where (Q.equivalent query) self.now }
+    {
+        Some(Ref::new(self.inner.store.find(&query)?))
     }
 
     /// The entries, each with a reference to it, in no promised order. It takes no memory, and goes

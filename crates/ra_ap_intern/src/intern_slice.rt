@@ -8,9 +8,9 @@
 ghost use Rattle.std.specs.Prelude.{◌≡◌, ◌≤◌, if◌then◌else◌, None, IsOk, OnOk, length, true, Bool, IsPermutation, IfOk};
 ghost use Rattle.std.specs.Option.{option_map};
 ghost use Rattle.intern_store.specs.Outcome.{OwesBack, MayWant, MayWantBack, Becomes, Spends};
-ghost use Rattle.intern_store.specs.State.{HasRoom, name_of_value, reads, counted_down, due, zero_count};
+ghost use Rattle.intern_store.specs.State.{HasRoom, name_of_value, name_where, reads, counted_down, due, zero_count};
 ghost use Rattle.intern_table.specs.Read.{read};
-ghost use Rattle.intern_table.specs.Sliced.{sliced_eq};
+ghost use Rattle.intern_table.specs.Sliced.{sliced_eq, sliced_fits};
 ghost use Rattle.ra_ap_intern.specs.Handle.{name_of, ref_name};
 ghost use Rattle.ra_ap_intern.specs.Slices.{slice_of, sized, named_slices, slice_in, slice_name_in, slice_back, due_slice, is_new_slice};
 
@@ -19,7 +19,7 @@ mod iter;
 use crate::kind::Slices;
 use crate::storage::{Owned, Ref, Reserved, Storage};
 use intern_store::{Refusal, Refused};
-use intern_table::{Far, FixedState, HeaderSlice, Layout, Near};
+use intern_table::{Equivalent, Far, FixedState, HeaderSlice, Layout, Near};
 pub use iter::SliceIter;
 use std::cmp::Eq;
 use std::hash::{BuildHasher, Hash};
@@ -66,6 +66,19 @@ impl<T: SliceInternable, L: Layout<T::SliceType>, B: BuildHasher> InternSliceSto
     pub fn get(&self, header: &T::Header, slice: &[T::SliceType]) -> Option<InternedSliceRef<T, L>>
         ensures { let eq = sliced_eq T.Header.eq T.SliceType.eq in option_map ref_name result
             ≡ name_of_value eq self.now (slice_of header.now slice.now) }
+    {
+        self.find(header, slice)
+    }
+
+    /// A reference to the entry with these items, and with a header that this one is equivalent to:
+    /// none has to be built to look it up. None where there is no such entry. It takes no memory.
+    pub fn find<Q: Equivalent<T::Header>>(
+        &self,
+        header: Q,
+        slice: &[T::SliceType],
+    ) -> Option<InternedSliceRef<T, L>>
+        ensures { option_map ref_name result
+            ≡ name_where (sliced_fits (Q.equivalent header) T.SliceType.eq slice.now) self.now }
     {
         Some(Ref::new(self.inner.store.find(&(header, slice))?))
     }

@@ -22,7 +22,9 @@ pub use intern_slice::{
     SliceIter,
 };
 pub use intern_store::{Limits, Name, Refusal, Refused};
-pub use intern_table::{Far, FixedState, HeaderSlice, HeaderWithLength, Layout, Near, Text};
+pub use intern_table::{
+    Equivalent, Far, FixedState, HeaderSlice, HeaderWithLength, Layout, Near, Text,
+};
 pub use kind::{Kind, Slices, Values};
 pub use optional::{OptionalInternedRef, OptionalInternedSliceRef, OptionalRef};
 pub use owed::{Owed, OwedSlice, OwedValue};

@@ -24,12 +24,13 @@ pub mod symbols;
 
 pub use display::SymbolDisplay;
 use intern_store::{Limits, Name, Refusal, Refused, Store};
-use intern_table::{FixedState, Table, Text};
+use intern_table::{Equivalent, FixedState, Table, Text};
 pub use iter::SymbolIter;
 pub use owed::OwedSymbol;
 use packed::{Packed, Source, text_of_preset};
 use std::alloc::Global;
-use std::hash::BuildHasher;
+use std::cmp::Eq;
+use std::hash::{BuildHasher, Hash};
 use std::marker::Model;
 
 /// A table of texts, each kept once, and only while it is counted. The presets are in no table. Texts
@@ -77,6 +78,23 @@ pub struct Symbol(Packed);
 /// names alone.
 #[derive(Clone, Copy, PartialEq, Eq, PartialOrd, Ord, Hash)]
 pub struct SymbolRef(Packed);
+
+// A reference looks a symbol up by what both name.
+impl Equivalent<Symbol> for SymbolRef {
+    ghost use Rattle.std.proofs.Common.{rules};
+    ghost use Rattle.std.specs.Cmp.Rules.{comparing, hashing};
+    ghost use Rattle.ra_ap_intern.specs.Symbols.{same_named, symbol_name, symbol_ref_name};
+
+    ghost equivalent = { λ r s. same_named (symbol_ref_name r) (symbol_name s) };
+
+    ghost respects_hash = { Prim.search (hashing, rules) };
+
+    ghost respects_eq = { Prim.search (comparing, rules) };
+
+    fn equivalent(&self, symbol: &Symbol) -> bool {
+        self.0 == symbol.0
+    }
+}
 
 impl SymbolTable {
     /// An empty table with the largest limits. It takes no memory.

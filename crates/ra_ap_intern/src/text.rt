@@ -25,7 +25,7 @@ impl<B: BuildHasher> InternStorage<Text, B> {
     pub fn get_text(&self, text: &str) -> Option<InternedRef<Text>>
         ensures { option_map ref_name result ≡ name_of_value bytes_eq self.now text.now }
     {
-        Some(Ref::new(self.inner.store.find(&text)?))
+        self.find(text)
     }
 
     /// The owned handle of a text, which is counted once more: what [`Interned::new`] gives for it.

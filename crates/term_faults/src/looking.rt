@@ -15,6 +15,7 @@ enum Look {
     Contains,
     Count,
     Get,
+    GetOf,
     Head,
     Args,
     Name,
@@ -53,7 +54,7 @@ fn shows(store: &TermStore, terms: &[TermRef], look: Look) -> bool {
     }
 }
 
-const LOOKUPS: [Marked; 9] = [
+const LOOKUPS: [Marked; 10] = [
     ("takes none: TermStore::number", Look::Number),
     ("takes none: TermStore::len", Look::Len),
     ("takes none: TermStore::is_empty", Look::IsEmpty),
@@ -61,6 +62,7 @@ const LOOKUPS: [Marked; 9] = [
     ("takes none: TermStore::contains", Look::Contains),
     ("takes none: TermStore::count", Look::Count),
     ("takes none: TermStore::get", Look::Get),
+    ("takes none: TermStore::get_of", Look::GetOf),
     ("takes none: TermStore::head", Look::Head),
     ("takes none: TermStore::args", Look::Args),
 ];
@@ -90,6 +92,7 @@ fn answers(store: &TermStore, terms: &[TermRef], term: TermRef, number: usize, l
         Look::Contains => store.contains(term),
         Look::Count => store.count(term) == Some(0),
         Look::Get => store.get(&head_of(number), args) == Some(term),
+        Look::GetOf => store.get_of(head_of(number).as_ref(), args) == Some(term),
         Look::Head => store.head(term) == Some(&head_of(number)),
         Look::Args => store.args(term) == Some(args),
         Look::Name => term.name() == name_of(store, number),
@@ -125,10 +128,11 @@ pub(crate) fn check_references(
     Ok(())
 }
 
-const UNREAD: [Marked; 5] = [
+const UNREAD: [Marked; 6] = [
     ("takes none: TermStore::contains", Look::Contains),
     ("takes none: TermStore::count", Look::Count),
     ("takes none: TermStore::get", Look::Get),
+    ("takes none: TermStore::get_of", Look::GetOf),
     ("takes none: TermStore::head", Look::Head),
     ("takes none: TermStore::args", Look::Args),
 ];
@@ -156,6 +160,7 @@ fn shows_nothing(store: &TermStore, term: TermRef, look: Look) -> bool {
         Look::Contains => !store.contains(term),
         Look::Count => store.count(term).is_none(),
         Look::Get => store.get(&sym::fn_, &[term]).is_none(),
+        Look::GetOf => store.get_of(sym::fn_.as_ref(), &[term]).is_none(),
         Look::Head => store.head(term).is_none(),
         Look::Args => store.args(term).is_none(),
         _ => false,

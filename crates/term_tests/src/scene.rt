@@ -80,10 +80,12 @@ impl Scene {
         is_equal(rt, self.store.len(), before);
     }
 
-    /// What the store has of this head over these arguments.
+    /// What the store has of this head over these arguments, by the head and by a reference of it.
     pub fn get(&mut self, rt: &impl Abort, text: &str, args: &[TermRef]) -> Option<TermRef> {
         let head = head(rt, &mut self.table, text);
-        self.store.get(&head, args)
+        let found = self.store.get(&head, args);
+        assert!(rt; self.store.get_of(head.as_ref(), args) == found);
+        found
     }
 
     /// The term has so many owners.

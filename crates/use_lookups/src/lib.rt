@@ -8,9 +8,15 @@ ghost use Rattle.ra_ap_intern.specs.Handle.{ref_name};
 ghost use Rattle.ra_ap_intern.specs.Interning.{Interns, names_in_turn};
 ghost use Rattle.ra_ap_intern.specs.Name.{Name};
 ghost use Rattle.ra_ap_intern.specs.Outcome.{Becomes, MayWantBack};
-ghost use Rattle.ra_ap_intern.specs.State.{reads, is_new, interned, interned_name, due_interning, any_count};
+ghost use Rattle.ra_ap_intern.specs.State.{reads, is_new, interned, interned_name, due_interning, any_count, name_where};
+ghost use Rattle.std.specs.Option.{option_map};
+ghost use Rattle.use_lookups.specs.Qualified.{is_named};
 
-use ra_ap_intern::{InternStorage, Internable, Interned, InternedRef, Refused};
+use ra_ap_intern::{
+    Equivalent, InternStorage, Internable, Interned, InternedRef, Refused, Text,
+};
+use std::cmp::Eq;
+use std::hash::Hash;
 use std::vec::IntoIter;
 
 /// The reference of a value, which is stored where no equal one is. Refused, with the value back:
@@ -61,4 +67,55 @@ pub fn find<'a, T: Internable>(storage: &'a InternStorage<T>, value: &T) -> Opti
         reads storage.now n ≡ Some w → T.eq value.now w ≡ false) }
 {
     storage.get(value)?.get(storage)
+}
+
+/// What a module names.
+#[derive(Debug, Drop, PartialEq, Eq, Hash)]
+pub struct Qualified {
+    /// The module.
+    pub module: Text,
+    /// Its name there.
+    pub name: Text,
+}
+
+impl Internable for Qualified {
+    const USE_GC: bool = true;
+
+    ghost USE_GC = { true };
+}
+
+/// The same, borrowed: by it one is looked up, and none is built for that.
+#[derive(Clone, Copy, PartialEq, Eq, Hash)]
+pub struct QualifiedRef<'a> {
+    /// The module.
+    pub module: &'a str,
+    /// Its name there.
+    pub name: &'a str,
+}
+
+impl Equivalent<Qualified> for QualifiedRef<'_> {
+    ghost use Rattle.std.proofs.Common.{rules};
+    ghost use Rattle.std.specs.Cmp.Rules.{comparing, hashing};
+    ghost use Rattle.use_lookups.specs.Qualified.{is_named};
+
+    ghost equivalent = { λ q. is_named q.module.now q.name.now };
+
+    ghost respects_hash = { Prim.search (hashing, rules) };
+
+    ghost respects_eq = { Prim.search (comparing, rules) };
+
+    fn equivalent(&self, stored: &Qualified) -> bool {
+        stored.module.is(self.module) && stored.name.is(self.name)
+    }
+}
+
+/// The reference of what a module names. None where it isn't stored.
+pub fn find_qualified(
+    storage: &InternStorage<Qualified>,
+    module: &str,
+    name: &str,
+) -> Option<InternedRef<Qualified>>
+    ensures { option_map ref_name result ≡ name_where (is_named module.now name.now) storage.now }
+{
+    storage.find(QualifiedRef { module, name })
 }

@@ -1,8 +1,10 @@
 //! One storage of numbers.
 ghost use Rattle.std.specs.Prelude.{true};
 
-use ra_ap_intern::{InternStorage, Internable};
-use use_lookups::{find, find_or_intern, find_or_intern_all};
+use ra_ap_intern::{InternStorage, Internable, Text};
+use std::alloc::Global;
+use std::process::Abort;
+use use_lookups::{Qualified, find, find_or_intern, find_or_intern_all, find_qualified};
 
 /// A number that is collected.
 #[derive(Debug, Drop, PartialEq, Eq, Hash)]
@@ -38,4 +40,22 @@ fn many_are_stored_once(rt: HostRuntime) {
     assert_eq!(rt; references.len(), 3);
     assert!(rt; references.first() == references.last());
     assert_eq!(rt; numbers.len(), 2);
+}
+
+fn qualified(rt: &impl Abort, alloc: Global, module: &str, name: &str) -> Qualified {
+    Qualified {
+        module: Text::new(alloc, module).expect(rt, "memory"),
+        name: Text::new(alloc, name).expect(rt, "memory"),
+    }
+}
+
+#[test]
+fn what_is_borrowed_finds_what_it_is_equivalent_to(rt: HostRuntime) {
+    let alloc = rt.alloc();
+    let mut names = InternStorage::new(alloc, 1);
+    let word = qualified(&rt, alloc, "list", "map");
+    let map = find_or_intern(&mut names, word).expect(&rt, "memory");
+    assert!(rt; find_qualified(&names, "list", "map") == Some(map));
+    assert!(rt; find_qualified(&names, "map", "list").is_none());
+    assert!(rt; find_qualified(&names, "list", "ma").is_none());
 }

@@ -15,7 +15,7 @@ invariant_of-self g c =
 pub returns-clause-found : goal.returns-clause-found
 returns-clause-found g c =
     let v = g.O.Offer.value c.args.offer.now in
-    rw c.ok_or.ensures.value (finds kept_entry (λ w n. g.T.PartialEq.eq v w) g.T.PartialEq.eq v (λ r. refl) c.self.inside.index _ (seen_entries c.self.view_is) (λ r. r.0.birth) c.find_and_change.result c.hashed-hash.result c.find_and_change.ensures.found)
+    rw c.ok_or.ensures.value (finds kept_entry (λ w n. g.T.PartialEq.eq v w) (g.T.PartialEq.eq v) (λ r. refl) c.self.inside.index _ (seen_entries c.self.view_is) (λ r. r.0.birth) c.find_and_change.result c.hashed-hash.result c.find_and_change.ensures.found)
 
 pub returns-clause-count : goal.returns-clause-count
 returns-clause-count g c =
@@ -30,5 +30,5 @@ returns-clause-state g c =
 pub returns-clause-none : goal.returns-clause-none
 returns-clause-none g c =
     let v = g.O.Offer.value c.args.offer.now in
-    rw c.ok_or.ensures.value (finds_none kept_entry (λ w n. g.T.PartialEq.eq v w) g.T.PartialEq.eq v (λ r. refl) c.self.inside.index _ (seen_entries c.self.view_is) (λ v. hash_of g.B.BuildHasher g.B.Hasher.Hasher c.self.inside.hasher (g.T.Hash.hash_input v)) (λ w e. ap (hash_of g.B.BuildHasher g.B.Hasher.Hasher c.self.inside.hasher) (g.met.T.Hash.respects_eq v w e)) _ (λ r. refl) c.self.invariant
-    c.find_and_change.result c.hashed-hash.result c.hashed-hash.ensures c.find_and_change.ensures.none)
+    rw c.ok_or.ensures.value (finds_none kept_entry (λ w n. g.T.PartialEq.eq v w) (g.T.PartialEq.eq v) (λ r. refl) c.self.inside.index _ (seen_entries c.self.view_is) (λ v. hash_of g.B.BuildHasher g.B.Hasher.Hasher c.self.inside.hasher (g.T.Hash.hash_input v)) _ (λ w e. c.hashed-hash.ensures ∙ ap (hash_of g.B.BuildHasher g.B.Hasher.Hasher c.self.inside.hasher) (g.met.T.Hash.respects_eq v w e)) _ (λ r. refl) c.self.invariant
+    c.find_and_change.result c.find_and_change.ensures.none)

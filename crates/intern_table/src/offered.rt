@@ -34,7 +34,7 @@ impl<T: Hash, N: Copy, B: BuildHasher> Hashes<T, N> for ValueHash<'_, B> {
 }
 
 /// An offer that is compared and hashed as the value that it names. That takes no memory.
-pub trait Equivalent<T: Hash>: Offer<T> {
+pub trait Offered<T: Hash>: Offer<T> {
     /// Whether a stored value equals the one named.
     fn equals(&self, stored: &T) -> bool
         ensures { result ≡ T.eq (Self.value self.now) stored.now };
@@ -46,7 +46,7 @@ pub trait Equivalent<T: Hash>: Offer<T> {
 }
 
 // A value names itself.
-impl<T: Hash + Eq> Equivalent<T> for T {
+impl<T: Hash + Eq> Offered<T> for T {
     fn equals(&self, stored: &T) -> bool {
         *self == *stored
     }
