@@ -136,16 +136,21 @@ module _ {V : Type 0} (eq : V → V → Bool) where
       go true here h = inl (names_same _ _ here, same_Some _ _ h)
       go false other h = inr h
 
-  -- what is read after an interning is what was interned, or was read
-  pub interned_or_read : (s : State V) (v : V) (name : Name) (w : V)
-      → reads (interned eq s v).state name ≡ Some w → (v ≡ w) ⊎ (reads s name ≡ Some w)
-  interned_or_read s v name w = go (birth_of eq s v)
+  -- what is read after an interning is what was interned, under a new name, or was read
+  pub interned_new_or_read : (s : State V) (v : V) (name : Name) (w : V)
+      → reads (interned eq s v).state name ≡ Some w
+      → ((name ≡ name_in s s.next) × (v ≡ w)) ⊎ (reads s name ≡ Some w)
+  interned_new_or_read s v name w = go (birth_of eq s v)
     where
       go : (o : Option ℕ) → reads (or_added o s v).state name ≡ Some w
-          → (v ≡ w) ⊎ (reads s name ≡ Some w)
+          → ((name ≡ name_in s s.next) × (v ≡ w)) ⊎ (reads s name ≡ Some w)
       go (Some b) read = inr read
-      go None read =
-          elim (new_or_old s v name w read) [ inl new ↦ inl new.1 | inr old ↦ inr old ]
+      go None read = new_or_old s v name w read
+
+  pub interned_or_read : (s : State V) (v : V) (name : Name) (w : V)
+      → reads (interned eq s v).state name ≡ Some w → (v ≡ w) ⊎ (reads s name ≡ Some w)
+  interned_or_read s v name w read =
+      elim (interned_new_or_read s v name w read) [ inl new ↦ inl new.1 | inr old ↦ inr old ]
 
   added_telling : IsEquivalence eq → (s : State V) (v : V) → IsTelling s
       → name_of_value eq s v ≡ None → IsTelling (added s v)

@@ -161,3 +161,13 @@ pub named_once : (s : State (List ℕ)) (text other : List ℕ) (a b : Named)
 named_once s text other a b here there same =
     same_Some text other (sym (named_reads s text a here) ∙ ap (text_of s) same
     ∙ named_reads s other b there)
+
+-- what a symbol's text is stays that after an interning
+pub text_stays : (s : State (List ℕ)) → IsState bytes_eq s → (interned_text : List ℕ) (a : Named) (text : List ℕ)
+    → text_of s a ≡ Some text → text_of (symbol_in s interned_text).table a ≡ Some text
+text_stays s ok other (preset place) text is = is
+text_stays s ok other (entry name) text is = go (place_of other)
+  where
+    go : (p : Option ℕ) → reads (symbol_at p s other).table name ≡ Some text
+    go (Some place) = is
+    go None = interned_counted_reads_on bytes_eq s ok other name text is

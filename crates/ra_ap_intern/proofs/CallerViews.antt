@@ -19,7 +19,7 @@ use Rattle.ra_ap_intern.specs.declared.gc.Collected.{Collected}
 use Rattle.intern_store.proofs.Named.{names_same, same_names}
 use Rattle.intern_store.proofs.Reading.{interned_reads}
 use Rattle.ra_ap_intern.proofs.CallerCollections.{kept_reads, kept_counts, root_reads, child_kept, children_read, entry_read}
-use Rattle.ra_ap_intern.proofs.CallerInterning.{found_reads, read_found}
+use Rattle.ra_ap_intern.proofs.CallerInterning.{found_reads, none_found, read_found}
 use Rattle.ra_ap_intern.proofs.CallerReads.{read_once}
 
 -- two names are those of two others
@@ -98,6 +98,28 @@ module _ {V X : Type 0} (eq : V → V → Bool) (view : V → X)
       let r = interned_reads eq viewed_equivalence s v in
       (λ i. option_map view (reads (now i) (named i)))
       ∙ ap (option_map view) r.1 ∙ ap Some (sym ((alike v r.0).0 r.2))
+
+  -- what a look-up answers is seen as what was looked up
+  pub found_view : (s : State V) (v : V) (name : Name) → name_of_value eq s v ≡ Some name
+      → option_map view (reads s name) ≡ Some (view v)
+  found_view s v name found =
+      let r = found_reads eq s v name found in
+      ap (option_map view) r.1 ∙ ap Some (sym ((alike v r.0).0 r.2))
+
+  -- the look-up of what is seen so answers its name
+  pub view_found : (s : State V) → IsState eq s → (v : V) (name : Name)
+      → option_map view (reads s name) ≡ Some (view v) → name_of_value eq s v ≡ Some name
+  view_found s ok v name at =
+      let r = seen view (reads s name) (view v) at in
+      read_found eq viewed_equivalence s ok v name r.value r.read ((alike v r.value).1 (sym r.same))
+
+  -- and where it answers nothing, nothing is seen so
+  pub none_view : (s : State V) (v : V) → name_of_value eq s v ≡ None → (name : Name)
+      → option_map view (reads s name) ≡ Some (view v) → ⊥
+  none_view s v none name at =
+      let r = seen view (reads s name) (view v) at in
+      let no = none_found eq s v none name r.value r.read in
+      let yes = (alike v r.value).1 (sym r.same) in absurd (cc)
 
 -- values that are equal exactly if they are the same
 module _ {V : Type 0} (eq : V → V → Bool) (alike : (v w : V) → (eq v w ≡ true) ↔ (v ≡ w)) where

@@ -1,17 +1,17 @@
 mod Answered
 mod Births
-mod CallerCollections
-mod CallerInterning
+pub mod CallerCollections
+pub mod CallerInterning
 pub mod CallerLemmas
-mod CallerReads
-mod CallerSlices
-mod CallerStates
-mod CallerSymbols
-mod CallerViews
+pub mod CallerReads
+pub mod CallerSlices
+pub mod CallerStates
+pub mod CallerSymbols
+pub mod CallerViews
 mod Collections
 mod Entries
 mod Following
-mod InTurn
+pub mod InTurn
 mod Learning
 mod Listings
 mod Pairs
