@@ -18,6 +18,7 @@ ghost use Rattle.ra_ap_intern.specs.Handle.{ref_name};
 
 mod family;
 mod learn;
+mod plain;
 mod storages;
 mod trace;
 mod visit;

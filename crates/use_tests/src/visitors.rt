@@ -3,6 +3,7 @@ use ra_ap_intern::{
     GarbageCollector, InternSliceStorage, InternStorage, Interned, InternedRef, InternedSlice,
     NoStorages,
 };
+use std::collections::HashMap;
 use std::process::Abort;
 use use_visitors::{Signature, TypeNode, Uses};
 
@@ -43,4 +44,23 @@ fn each_field_keeps_its_types(rt: HostRuntime) {
     let told = GarbageCollector::new(alloc).collect_from(&mut family, &used);
     let told = told.expect(&rt, "memory");
     assert_eq!(rt; (told.visits, told.mark_calls, told.removed), (9, 8, 1));
+}
+
+#[test]
+fn a_map_keeps_its_keys_and_what_is_under_them(rt: HostRuntime) {
+    let alloc = rt.alloc();
+    let mut types = InternStorage::new(alloc, 1);
+    let key = named(&rt, &mut types, 0);
+    let under = named(&rt, &mut types, 1);
+    let alone = named(&rt, &mut types, 2);
+    let mut aliases = HashMap::new(alloc);
+    assert!(rt; aliases.insert(key, under).is_ok());
+    let mut numbered = HashMap::new(alloc);
+    assert!(rt; numbered.insert(7u32, under).is_ok());
+
+    let roots = (aliases, numbered);
+    let told = GarbageCollector::new(alloc).collect_from(&mut types, &roots);
+    let told = told.expect(&rt, "memory");
+    assert_eq!(rt; (told.visits, told.removed), (2, 1));
+    assert!(rt; types.contains(key) && types.contains(under) && !types.contains(alone));
 }

@@ -6,6 +6,9 @@
 use super::GarbageCollector;
 use super::visit::GcInternedVisit;
 use crate::storage::Ref;
+use std::cmp::Eq;
+use std::collections::HashMap;
+use std::hash::{BuildHasher, Hash};
 
 // A reference declares its entry, of whichever kind.
 impl<K> GcInternedVisit for Ref<K> {
@@ -82,5 +85,21 @@ impl<V: GcInternedVisit> GcInternedVisit for Vec<V> {
 
     fn visit_with(&self, gc: &mut GarbageCollector) {
         gc.mark_all(self.as_slice());
+    }
+}
+
+// Each key, and what is under it, in the order in which the map lists them.
+impl<K: Eq + Hash + GcInternedVisit, V: GcInternedVisit, S: BuildHasher> GcInternedVisit
+    for HashMap<K, V, S> {
+    ghost use Rattle.ra_ap_intern.specs.Visitors.{of_map};
+
+    ghost children = { of_map K.children V.children };
+
+    #[tactic(auto, using(crate::proofs::Visitors::marks_append))]
+    fn visit_with(&self, gc: &mut GarbageCollector) {
+        for (key, value) in self.iter() {
+            key.visit_with(gc);
+            value.visit_with(gc);
+        }
     }
 }
