@@ -136,12 +136,6 @@ impl BirthOrder {
         let shift = birth.checked_sub(place as u64)?;
         Some(Row { shift })
     }
-
-    /// How many places there is room for.
-    #[cfg(test)]
-    pub(crate) fn capacity(&self) -> usize {
-        self.places.capacity()
-    }
 }
 
 impl Births for BirthOrder {

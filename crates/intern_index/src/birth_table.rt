@@ -81,12 +81,6 @@ impl BirthTable {
         self.row = row;
         Ok(())
     }
-
-    /// How many buckets there is room for.
-    #[cfg(test)]
-    pub(crate) fn capacity(&self) -> usize {
-        self.others.buckets.capacity()
-    }
 }
 
 impl Births for BirthTable {

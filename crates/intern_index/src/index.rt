@@ -343,16 +343,3 @@ impl<T, N: Copy> Index<T, N, BirthOrder> {
         Some((Spot { birth, place }, &entry.value, entry.payload))
     }
 }
-
-#[cfg(test)]
-impl<T, N: Copy, B: Births> Index<T, N, B> {
-    /// How many slots, and how many buckets of the hash table, there is room for.
-    pub(crate) fn capacity(&self) -> (usize, usize) {
-        (self.slots.capacity(), self.by_hash.buckets.capacity())
-    }
-
-    /// What finds the places of births.
-    pub(crate) fn births(&self) -> &B {
-        &self.births
-    }
-}

@@ -14,8 +14,6 @@ mod row;
 mod size;
 mod sweep;
 mod table;
-#[cfg(test)]
-mod tests;
 
 pub use birth_order::BirthOrder;
 pub use birth_table::BirthTable;
