@@ -6,6 +6,7 @@
 //! what was offered came back. Marks on standard error say what each request is for (`marks`).
 #![tactic(auto)]
 
+mod alone;
 mod collections;
 mod fault;
 mod many;
@@ -21,6 +22,7 @@ mod two_texts;
 mod values;
 mod worlds;
 
+use crate::alone::{AloneSlices, AloneValues};
 use crate::collections::{Collection, check_collection, check_registration};
 use crate::fault::Fault;
 use crate::many::check_many;
@@ -41,11 +43,15 @@ use std::process::ExitCode;
 fn check_all(rt: &(impl Print + Eprint), alloc: Global) -> Result<(), Fault> {
     check(rt, alloc, InternStorage::<Text>::new(alloc, 1))?;
     check(rt, alloc, Texts(InternStorage::new(alloc, 1)))?;
+    check(rt, alloc, AloneValues(InternStorage::<Text>::new(alloc, 1)))?;
     check(rt, alloc, InternStorage::<OneHash>::new(alloc, 2))?;
     check(rt, alloc, InternStorage::<Term>::new(alloc, 3))?;
+    check(rt, alloc, AloneValues(InternStorage::<Term>::new(alloc, 3)))?;
     check(rt, alloc, InternSliceStorage::<Row>::new(alloc, 4))?;
+    check(rt, alloc, AloneSlices(InternSliceStorage::new(alloc, 4)))?;
     check(rt, alloc, NearSliceStorage::<Row, 2>::new(alloc, 5))?;
     check(rt, alloc, Symbols::new(alloc, Call::Intern))?;
+    check(rt, alloc, Symbols::new(alloc, Call::Alone))?;
     check(rt, alloc, Symbols::new(alloc, Call::Integer))?;
     check(rt, alloc, Symbols::new(alloc, Call::Generated))?;
     check_registration(rt, alloc)?;

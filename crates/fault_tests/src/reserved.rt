@@ -7,8 +7,8 @@ use crate::scene::room;
 use crate::values::text_of;
 use intern_fixtures::Unhashed;
 use ra_ap_intern::{
-    InternSliceStorage, InternStorage, Interned, NearSliceStorage, Refused, SliceInternable,
-    Symbol, SymbolTable, Text,
+    FixedState, InternSliceStorage, InternStorage, Interned, Kind, Layout, NearSliceStorage,
+    Refused, SliceInternable, Storage, Symbol, SymbolTable, Text,
 };
 use std::alloc::Global;
 
@@ -78,40 +78,60 @@ fn store(
     Ok(handle)
 }
 
+// Makes room in a storage. Where that is refused, all is as it was, and it is made at the second try.
+fn reserve<K: Kind<FixedState>>(
+    rt: &impl Eprint,
+    storage: &mut Storage<K>,
+    call: &'static str,
+) -> Result<(), Fault> {
+    let len = storage.len();
+    marks::asks(rt, call);
+    if storage.reserve(ENTRIES).is_err() {
+        marks::refused(rt, call);
+        ensure(
+            storage.len() == len,
+            "an entry came or went where no room was made",
+        )?;
+        storage.reserve(ENTRIES)?;
+    }
+    Ok(())
+}
+
+// Checks that there are so many entries now, and tells it.
+fn has_entries(
+    rt: &impl Print,
+    call: &'static str,
+    len: usize,
+    wanted: usize,
+) -> Result<(), Fault> {
+    ensure(
+        len == wanted,
+        "what there was room for isn't stored, or more is",
+    )?;
+    println!(rt; "{call}: {len}")?;
+    Ok(())
+}
+
 // All values have one hash, so each takes a bucket behind those before.
 fn reserve_values(
     rt: &(impl Print + Eprint),
     storage: &mut InternStorage<Unhashed>,
 ) -> Result<(), Fault> {
     let len = storage.len();
-    marks::asks(rt, VALUES);
-    if storage.reserve(ENTRIES).is_err() {
-        marks::refused(rt, VALUES);
-        ensure(storage.len() == len, "a value was lost where no room is")?;
-        storage.reserve(ENTRIES)?;
-    }
+    reserve(rt, storage, VALUES)?;
     marks::takes_none(rt, "Reserved::intern, of values");
     let room = storage.reserve(ENTRIES)?;
     for number in 0..ENTRIES {
         room.intern(Unhashed(number as u64 + 100))?;
     }
-    ensure(
-        storage.len() == len.saturating_add(ENTRIES),
-        "a value isn't stored in the room for it",
-    )?;
-    println!(rt; "{VALUES}: {}", storage.len())?;
-    Ok(())
+    has_entries(rt, VALUES, storage.len(), len.saturating_add(ENTRIES))
 }
 
 fn reserve_slices(
     rt: &(impl Print + Eprint),
     storage: &mut InternSliceStorage<Row>,
 ) -> Result<(), Fault> {
-    marks::asks(rt, SLICES);
-    if storage.reserve(ENTRIES).is_err() {
-        marks::refused(rt, SLICES);
-        storage.reserve(ENTRIES)?;
-    }
+    reserve(rt, storage, SLICES)?;
     marks::asks(rt, ALL_ITEMS);
     let room = storage.reserve(ENTRIES)?;
     if room.reserve_items(ENTRIES * ITEMS).is_err() {
@@ -119,14 +139,8 @@ fn reserve_slices(
         room.reserve_items(ENTRIES * ITEMS)?;
     }
     marks::takes_none(rt, "Reserved::intern, of slices");
-    for number in 0..ENTRIES as u64 {
-        room.intern(number, &[number; ITEMS])?;
-    }
-    ensure(
-        storage.len() == ENTRIES,
-        "a slice isn't stored in the room for it",
-    )?;
-    println!(rt; "{SLICES}: {}", storage.len())?;
+    store_slices(storage)?;
+    has_entries(rt, SLICES, storage.len(), ENTRIES)?;
     println!(rt; "{ALL_ITEMS}: {}", ENTRIES * ITEMS)?;
     Ok(())
 }
@@ -136,21 +150,20 @@ fn reserve_near_slices(
     rt: &(impl Print + Eprint),
     storage: &mut NearSliceStorage<Row, ITEMS>,
 ) -> Result<(), Fault> {
-    marks::asks(rt, NEAR_SLICES);
-    if storage.reserve(ENTRIES).is_err() {
-        marks::refused(rt, NEAR_SLICES);
-        storage.reserve(ENTRIES)?;
-    }
+    reserve(rt, storage, NEAR_SLICES)?;
     marks::takes_none(rt, "Reserved::intern, of near slices");
+    store_slices(storage)?;
+    has_entries(rt, NEAR_SLICES, storage.len(), ENTRIES)
+}
+
+// Stores slices in the room that was made.
+fn store_slices<L: Layout<u64>>(
+    storage: &mut InternSliceStorage<Row, FixedState, L>,
+) -> Result<(), Fault> {
     let room = storage.reserve(ENTRIES)?;
     for number in 0..ENTRIES as u64 {
         room.intern(number, &[number; ITEMS])?;
     }
-    ensure(
-        storage.len() == ENTRIES,
-        "a near slice isn't stored in the room for it",
-    )?;
-    println!(rt; "{NEAR_SLICES}: {}", storage.len())?;
     Ok(())
 }
 
@@ -161,22 +174,13 @@ fn reserve_text_values(
 ) -> Result<(), Fault> {
     marks::prepares(rt);
     let texts = short_texts(alloc)?;
-    marks::asks(rt, TEXT_VALUES);
-    if storage.reserve(ENTRIES).is_err() {
-        marks::refused(rt, TEXT_VALUES);
-        storage.reserve(ENTRIES)?;
-    }
+    reserve(rt, storage, TEXT_VALUES)?;
     marks::takes_none(rt, "Reserved::intern_text");
     let room = storage.reserve(ENTRIES)?;
     for text in texts.iter() {
         room.intern_text(text.as_str())?;
     }
-    ensure(
-        storage.len() == ENTRIES,
-        "a text isn't stored as a value in the room for it",
-    )?;
-    println!(rt; "{TEXT_VALUES}: {}", storage.len())?;
-    Ok(())
+    has_entries(rt, TEXT_VALUES, storage.len(), ENTRIES)
 }
 
 fn reserve_texts(
@@ -196,12 +200,7 @@ fn reserve_texts(
     for text in texts.iter() {
         let _: Symbol = room.intern(text.as_str())?;
     }
-    ensure(
-        table.len() == ENTRIES,
-        "a text isn't stored in the room for it",
-    )?;
-    println!(rt; "{TEXTS}: {}", table.len())?;
-    Ok(())
+    has_entries(rt, TEXTS, table.len(), ENTRIES)
 }
 
 // Texts that lie in their entries.

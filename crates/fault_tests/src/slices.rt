@@ -43,6 +43,11 @@ impl Input {
         })
     }
 
+    /// The items.
+    pub(crate) fn items(&self) -> &[u64] {
+        self.items.as_slice()
+    }
+
     fn is_read(&self, read: Option<HeaderSlice<'_, Text, u64>>) -> bool {
         let Some(read) = read else {
             return false;

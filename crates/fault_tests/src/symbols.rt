@@ -10,6 +10,8 @@ use std::alloc::{AllocError, Global};
 pub(crate) enum Call {
     /// `Symbol::intern`.
     Intern,
+    /// `SymbolTable::get_or_intern`.
+    Alone,
     /// `Integer::get`.
     Integer,
     /// `RaGeneratedName::get`.
@@ -42,6 +44,7 @@ impl Symbols {
     fn intern(&mut self, input: &Input) -> Result<Symbol, Refusal> {
         match self.call {
             Call::Intern => Symbol::intern(&mut self.table, input.text.as_str()),
+            Call::Alone => intern_alone(&mut self.table, input.text.as_str()),
             Call::Integer => sym::Integer::get(&mut self.table, input.number),
             Call::Generated => sym::RaGeneratedName::get(&mut self.table, input.number),
         }
@@ -60,7 +63,7 @@ impl Call {
     // The text that the call makes of a number.
     fn text(self, alloc: Global, number: usize) -> Result<Text, AllocError> {
         let text = match self {
-            Call::Intern => return text_of(alloc, number as u64),
+            Call::Intern | Call::Alone => return text_of(alloc, number as u64),
             Call::Integer => format!(in alloc; "{number}")?,
             Call::Generated => format!(in alloc; "<ra@gennew>{number}")?,
         };
@@ -78,6 +81,7 @@ impl Storage for Symbols {
     fn call(&self) -> &'static str {
         match self.call {
             Call::Intern => "Symbol::intern",
+            Call::Alone => "SymbolTable::get_or_intern",
             Call::Integer => "Integer::get",
             Call::Generated => "RaGeneratedName::get",
         }
@@ -142,6 +146,13 @@ impl Storage for Symbols {
         again.release(&mut self.table)?;
         intern_preset(&mut self.table)
     }
+}
+
+// Takes over the count that the table keeps.
+fn intern_alone(table: &mut SymbolTable, text: &str) -> Result<Symbol, Refusal> {
+    let mut symbol = table.get_or_intern(text)?.to_owned(table)?;
+    symbol.decrease_refcount(table)?;
+    Ok(symbol)
 }
 
 fn has_count(table: &SymbolTable, symbol: &Symbol, count: u64) -> Result<(), Fault> {
