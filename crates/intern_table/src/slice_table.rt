@@ -10,8 +10,8 @@ ghost use Rattle.intern_table.specs.Read.{read, shown};
 
 use crate::counted::{Counted, Counts};
 use crate::counts::{Lower, OfCount, Raise};
-use crate::offered::hash_value;
 use crate::layout::{NearItems, SliceRow, far_length};
+use crate::offered::hash_value;
 use crate::pool::{SlicePayload, compact};
 use crate::slice::{HeaderSlice, SliceValue};
 use crate::slice_iter::SliceIter;
@@ -73,8 +73,10 @@ struct EqualSlice<'a, Q: Copy, S: Copy> {
     all: &'a [S],
 }
 
-impl<H: Hash + Eq, S: Eq + Copy, A: NearItems<S>, Q: Equivalent<H>> Query<SliceRow<H, A>, SlicePayload>
-    for EqualSlice<'_, Q, S> {
+impl<H: Hash + Eq, S: Eq + Copy, A: NearItems<S>, Q: Equivalent<H>> Query<
+    SliceRow<H, A>,
+    SlicePayload,
+> for EqualSlice<'_, Q, S> {
     ghost fits = { λ q v p. sliced_fits (Q.equivalent q.header) S.eq q.items.now
         (record {
           header = v.header;
@@ -204,8 +206,14 @@ impl<H: Hash + Eq, S: Hash + Eq + Copy, A: NearItems<S>, B: BuildHasher> Pools
 }
 
 // A slice with a header that a query is equivalent to.
-impl<'a, H: Hash + Eq, S: Hash + Eq + Copy, A: NearItems<S>, B: BuildHasher, Q: Equivalent<H>>
-    Seeks<(Q, &'a [S])> for SliceTable<H, S, A, B> {
+impl<
+    'a,
+    H: Hash + Eq,
+    S: Hash + Eq + Copy,
+    A: NearItems<S>,
+    B: BuildHasher,
+    Q: Equivalent<H>,
+> Seeks<(Q, &'a [S])> for SliceTable<H, S, A, B> {
     ghost use Rattle.intern_table.specs.Sliced.{fits_alike};
 
     ghost fits = { λ q v. sliced_fits (Q.equivalent q.0) S.eq q.1.now v };

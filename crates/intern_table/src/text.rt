@@ -153,7 +153,7 @@ impl Equivalent<Text> for &str {
 
 impl Offered<Text> for &str {
     fn equals(&self, stored: &Text) -> bool {
-        *self == stored.as_str()
+        self.equivalent(stored)
     }
 
     fn hashed<B: BuildHasher>(&self, hasher: &B) -> u64 {

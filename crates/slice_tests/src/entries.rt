@@ -1,7 +1,7 @@
 //! Look-ups that intern nothing, and the entries of a storage one after the other.
 use crate::kinds::Numbers;
 use crate::steps::{Numbered, has_len, intern_new, is_equal, reads};
-use intern_fixtures::{List, drop_slices, make_word, new_slices};
+use intern_fixtures::{StringSlice, drop_slices, make_word, new_slices};
 use ra_ap_intern::{InternSliceStorage, InternedSliceRef};
 use std::alloc::Global;
 use std::process::Abort;
@@ -40,7 +40,7 @@ fn finds(
 #[test]
 fn a_header_is_found_without_a_copy(rt: HostRuntime) {
     let alloc = rt.alloc();
-    let mut storage: InternSliceStorage<List> = new_slices(alloc, 1);
+    let mut storage: InternSliceStorage<StringSlice> = new_slices(alloc, 1);
     let header = String::from_str(alloc, "x").expect(&rt, "memory");
     let interned = storage.get_or_intern(header, &[1, 2]).expect(&rt, "memory");
     assert!(rt; storage.find("x", &[1, 2]) == Some(interned));

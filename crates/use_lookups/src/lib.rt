@@ -12,9 +12,7 @@ ghost use Rattle.ra_ap_intern.specs.State.{reads, is_new, interned, interned_nam
 ghost use Rattle.std.specs.Option.{option_map};
 ghost use Rattle.use_lookups.specs.Qualified.{is_named};
 
-use ra_ap_intern::{
-    Equivalent, InternStorage, Internable, Interned, InternedRef, Refused, Text,
-};
+use ra_ap_intern::{Equivalent, InternStorage, Internable, Interned, InternedRef, Refused, Text};
 use std::cmp::Eq;
 use std::hash::Hash;
 use std::vec::IntoIter;

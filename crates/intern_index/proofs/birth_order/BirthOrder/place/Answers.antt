@@ -2,7 +2,7 @@ use Rattle.std.proofs.Common.{subst}
 use Rattle.std.specs.Option.{option_map}
 use Rattle.intern_store.specs.declared.names.Spot.{Spot}
 use Rattle.intern_index.specs.Entries.{birth_at}
-use Rattle.intern_index.specs.Ordered.{IsOrder, IsOrdered, IsPlaced}
+use Rattle.intern_index.specs.Ordered.{IsOrdered}
 use Rattle.intern_index.proofs.Rows.{occupied, row_order, ranked_next, some_told}
 use Rattle.intern_index.proofs.birth_order.BirthOrder.place.Goals as goal
 
