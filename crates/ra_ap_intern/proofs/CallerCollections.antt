@@ -106,8 +106,7 @@ module _ {V : Type 0} where
   kept_counts s set name has =
       counts-kept_named s set name ∙ ap (λ t. cond t (counts s name) None) has
 
-module _ (begins : Name → Bool) (family : List Entry) (names : List Name)
-    (is : IsReachedSet begins family names) where
+module _ (begins : Name → Bool) (family : List Entry) (names : List Name) (is : IsReachedSet begins family names) where
   -- a name at which the collection begins is reached
   pub start_kept : (name : Name) → begins name ≡ true → has names name ≡ true
   start_kept name starts = (is.reached name).1 ([], starts)
@@ -120,8 +119,7 @@ module _ (begins : Name → Bool) (family : List Entry) (names : List Name)
       let path = (is.reached parent).0 kept in
       (is.reached name).1 (parent ∷ path.0, (there, child, path.1))
 
-module _ (listed : List Name) (family : List Entry) (names : List Name)
-    (is : IsReachedSet (starts_with listed family) family names) where
+module _ (listed : List Name) (family : List Entry) (names : List Name) (is : IsReachedSet (starts_with listed family) family names) where
   -- a root with an entry is reached
   pub root_kept : (name : Name) → has listed name ≡ true → is_entry family name ≡ true
       → has names name ≡ true
@@ -181,9 +179,7 @@ module _ (xs ys : List Entry) (name : Name) where
   children_first there = ap children_of (in_first xs ys name there)
 
   -- and so is one of the second, as no storage of the first has its number
-  module _ (ns ms : List ℕ)
-      (numbered : (x : Name) → is_entry xs x ≡ true → has_number ns x.storage ≡ true)
-      (apart : are_distinct (ns ++ ms) ≡ true) (home : has_number ms name.storage ≡ true) where
+  module _ (ns ms : List ℕ) (numbered : (x : Name) → is_entry xs x ≡ true → has_number ns x.storage ≡ true) (apart : are_distinct (ns ++ ms) ≡ true) (home : has_number ms name.storage ≡ true) where
     in_second_alone : entry_of (xs ++ ys) name ≡ entry_of ys name
     in_second_alone =
         in_second xs ys name (ap is_some (none_in_first xs ns ms numbered apart name home))

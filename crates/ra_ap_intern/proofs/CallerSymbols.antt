@@ -48,8 +48,7 @@ references_tested eq alike =
 
 -- a map under symbols is read by what they name, also after a value was put under one or taken away,
 -- or where it holds the same in another order
-module _ {M S : Type 0} (eq : SymbolRef → SymbolRef → Bool)
-    (alike : (a b : SymbolRef) → (eq a b ≡ true) ↔ (symbol_ref_name a ≡ symbol_ref_name b)) where
+module _ {M S : Type 0} (eq : SymbolRef → SymbolRef → Bool) (alike : (a b : SymbolRef) → (eq a b ≡ true) ↔ (symbol_ref_name a ≡ symbol_ref_name b)) where
   pub symbols_named : (m : HashMap SymbolRef M S) (a : SymbolRef)
       → get eq m a ≡ get_by (λ s. same_named (symbol_ref_name a) (symbol_ref_name s)) m
   symbols_named = map_named eq same_named symbol_ref_name (references_tested eq alike)
@@ -100,8 +99,7 @@ reads_back s v w n other is =
 
 -- ---- after a text is interned
 
-module _ (s : State (List ℕ)) (name : List ℕ) (ok : IsState bytes_eq s)
-    (free : due_symbol s name ≡ None) where
+module _ (s : State (List ℕ)) (name : List ℕ) (ok : IsState bytes_eq s) (free : due_symbol s name ≡ None) where
   -- it has its symbol
   pub named_here : named_in (symbol_in s name).table name ≡ Some (symbol_in s name).symbol
   named_here = go (place_of name) (state_symbol s name ok free)

@@ -60,8 +60,7 @@ both true b there back = sym (there refl)
 both false true there back = back refl
 both false false there back = refl
 
-module _ {V X : Type 0} (eq : V → V → Bool) (view : V → X)
-    (alike : (v w : V) → (eq v w ≡ true) ↔ (view v ≡ view w)) where
+module _ {V X : Type 0} (eq : V → V → Bool) (view : V → X) (alike : (v w : V) → (eq v w ≡ true) ↔ (view v ≡ view w)) where
   -- such an equality is an equivalence
   pub viewed_equivalence : IsEquivalence eq
   viewed_equivalence = record {
@@ -162,8 +161,7 @@ handles_tested eq name alike =
     equality_tested eq same_name name alike names_same (λ n. same_names n n refl)
 
 -- a map under handles is read by what they name
-module _ {H N M S : Type 0} (eq : H → H → Bool) (test : N → N → Bool) (view : H → N)
-    (tested : (a b : H) → eq a b ≡ test (view a) (view b)) where
+module _ {H N M S : Type 0} (eq : H → H → Bool) (test : N → N → Bool) (view : H → N) (tested : (a b : H) → eq a b ≡ test (view a) (view b)) where
   pub map_named : (m : HashMap H M S) (h : H) → get eq m h ≡ get_by (λ r. test (view h) (view r)) m
   map_named m h = λ i. get_by (λ r. tested h r i) m
 
@@ -200,9 +198,7 @@ part_kept {V} view parts begins s names is n m x kept at part there =
 
 -- of a storage that is a family, or within one of nested pairs: what paths reach reads after a
 -- collection what it read, and has the count that it had
-module _ {F V : Type 0} (part : F → State V) (kept : F → (Name → Bool) → F)
-    (of_part : (f : F) (set : Name → Bool) → part (kept f set) ≡ kept_named (part f) set)
-    (begins : Name → Bool) (all : List Entry) (s t : F) where
+module _ {F V : Type 0} (part : F → State V) (kept : F → (Name → Bool) → F) (of_part : (f : F) (set : Name → Bool) → part (kept f set) ≡ kept_named (part f) set) (begins : Name → Bool) (all : List Entry) (s t : F) where
   -- what a collection answers, and leaves of the family
   abbrev pub Collects : Result Collected AllocError → Type 0
   Collects r = IfOk r (λ told. (names : List Name) × IsCollection begins all names told
