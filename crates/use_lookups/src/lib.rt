@@ -67,11 +67,11 @@ pub fn find<'a, T: Internable>(storage: &'a InternStorage<T>, value: &T) -> Opti
     storage.get(value)?.get(storage)
 }
 
-/// What a module names.
+/// What a scope names.
 #[derive(Debug, Drop, PartialEq, Eq, Hash)]
 pub struct Qualified {
-    /// The module.
-    pub module: Text,
+    /// The scope.
+    pub scope: Text,
     /// Its name there.
     pub name: Text,
 }
@@ -85,8 +85,8 @@ impl Internable for Qualified {
 /// The same, borrowed: by it one is looked up, and none is built for that.
 #[derive(Clone, Copy, PartialEq, Eq, Hash)]
 pub struct QualifiedRef<'a> {
-    /// The module.
-    pub module: &'a str,
+    /// The scope.
+    pub scope: &'a str,
     /// Its name there.
     pub name: &'a str,
 }
@@ -96,24 +96,24 @@ impl Equivalent<Qualified> for QualifiedRef<'_> {
     ghost use Rattle.std.specs.Cmp.Rules.{comparing, hashing};
     ghost use Rattle.use_lookups.specs.Qualified.{is_named};
 
-    ghost equivalent = { λ q. is_named q.module.now q.name.now };
+    ghost equivalent = { λ q. is_named q.scope.now q.name.now };
 
     ghost respects_hash = { Prim.search (hashing, rules) };
 
     ghost respects_eq = { Prim.search (comparing, rules) };
 
     fn equivalent(&self, stored: &Qualified) -> bool {
-        stored.module.is(self.module) && stored.name.is(self.name)
+        stored.scope.is(self.scope) && stored.name.is(self.name)
     }
 }
 
-/// The reference of what a module names. None where it isn't stored.
+/// The reference of what a scope names. None where it isn't stored.
 pub fn find_qualified(
     storage: &InternStorage<Qualified>,
-    module: &str,
+    scope: &str,
     name: &str,
 ) -> Option<InternedRef<Qualified>>
-    ensures { option_map ref_name result ≡ name_where (is_named module.now name.now) storage.now }
+    ensures { option_map ref_name result ≡ name_where (is_named scope.now name.now) storage.now }
 {
-    storage.find(QualifiedRef { module, name })
+    storage.find(QualifiedRef { scope, name })
 }

@@ -42,9 +42,9 @@ fn many_are_stored_once(rt: HostRuntime) {
     assert_eq!(rt; numbers.len(), 2);
 }
 
-fn qualified(rt: &impl Abort, alloc: Global, module: &str, name: &str) -> Qualified {
+fn qualified(rt: &impl Abort, alloc: Global, scope: &str, name: &str) -> Qualified {
     Qualified {
-        module: Text::new(alloc, module).expect(rt, "memory"),
+        scope: Text::new(alloc, scope).expect(rt, "memory"),
         name: Text::new(alloc, name).expect(rt, "memory"),
     }
 }
