@@ -68,8 +68,6 @@ fn a_text_is_found_without_a_copy(rt: HostRuntime) {
     let (word, _) = allowed(Interned::new(&mut texts, word)).expect(&rt, "interned");
     assert!(rt; texts.get_text("word") == Some(word.as_ref()));
     assert!(rt; texts.get_text("work").is_none());
-    assert!(rt; texts.find("word") == Some(word.as_ref()));
-    assert!(rt; texts.find("work").is_none());
     drop_values(texts);
 }
 
