@@ -91,10 +91,8 @@ impl<E: Entries> Store<E> {
         ensures hasher { self.new.hasher ≡ self.old.hasher }
         ensures room { OnOk result (additional ≤ self.new.room) }
     {
-        match self.table.reserve(additional) {
-            Ok(()) => Ok(()),
-            Err(_) => Err(Refusal::OutOfMemory),
-        }
+        let reserved = self.table.reserve(additional);
+        reserved.map_err(|_| Refusal::OutOfMemory)
     }
 
     /// The storage's number.
@@ -453,10 +451,8 @@ impl<E: Pools> Store<E> {
         ensures spare { OnOk result (additional ≤ self.new.spare) }
         ensures stays { self.old.spare ≤ self.new.spare }
     {
-        match self.table.reserve_outside(additional) {
-            Ok(()) => Ok(()),
-            Err(_) => Err(Refusal::OutOfMemory),
-        }
+        let reserved = self.table.reserve_outside(additional);
+        reserved.map_err(|_| Refusal::OutOfMemory)
     }
 }
 

@@ -218,7 +218,8 @@ impl<
 
     ghost fits = { λ q v. sliced_fits (Q.equivalent q.0) S.eq q.1.now v };
 
-    ghost alike = { λ q. fits_alike (Q.equivalent q.0) H.eq S.Eq.laws (Q.Equivalent.respects_eq q.0) q.1.now };
+    ghost alike = { λ q. fits_alike (Q.equivalent q.0) H.eq S.Eq.laws
+        (Q.Equivalent.respects_eq q.0) q.1.now };
 
     fn seek(&self, query: &(Q, &'a [S])) -> Option<Spot> {
         let equal = EqualSlice {
