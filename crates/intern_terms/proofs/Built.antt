@@ -91,10 +91,10 @@ built_becomes (Err _) s t next is before after = subst IsBuilt (sym is) before
 -- a call that stores a term over arguments that can all be read
 pub built_after_term : {A E : Type 0} (r : Result A E) (seen s t : State (Sliced Symbol TermRef))
     (head : Symbol) (args : List TermRef) → s ≡ seen → IsTerms seen
-    → None ≡ due_arguments seen (map term_name args)
+    → due_arguments seen (map term_name args) ≡ None
     → Becomes r s t (interned same_node s (slice_of head args)).state → IsBuilt t
 built_after_term r seen s t head args same ok none becomes =
     let known = subst IsTerms (sym same) ok in
     built_becomes r s t _ becomes known.built
     (built_interned same_node s head args known.state known.built
-    (ap (λ x. due_arguments x (map term_name args)) same ∙ sym none))
+    (ap (λ x. due_arguments x (map term_name args)) same ∙ none))

@@ -5,10 +5,12 @@ mod found;
 mod handle;
 mod iter;
 pub mod laws;
+mod owed;
 mod store;
 mod walk;
 mod written;
 
 pub use handle::{Term, TermRef};
 pub use iter::TermIter;
+pub use owed::OwedTerm;
 pub use store::TermStore;

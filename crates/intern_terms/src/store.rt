@@ -149,7 +149,7 @@ impl<B: BuildHasher> TermStore<B> {
         ensures trees { (name : TermName) (t : TermTree) →
             UnfoldsTo self.old name t → UnfoldsTo self.new name t }
     {
-        if let Some(why) = self.refusal(args) {
+        if let Err(why) = self.check_all(args) {
             return Err(Refused { why, back: head });
         }
         let (reference, back) = InternedSlice::from_header_and_slice(&mut self.terms, head, args)?;
@@ -251,6 +251,13 @@ impl<B: BuildHasher> TermStore<B> {
         // What `number` says of the state is said here too.
         let _number = self.number();
         self.terms.count(term.reference).is_some()
+    }
+
+    /// Whether a term is here, and why it can't be read where it isn't. Refused: `Foreign`, `Gone`.
+    pub fn check(&self, term: TermRef) -> Result<(), Refusal>
+        ensures { Owes result (due self.now (term_name term) any_count) }
+    {
+        self.terms.check(term.reference)
     }
 
     /// How many owners a term has. None for a term of another store, or one that is gone.
@@ -404,32 +411,17 @@ impl<B: BuildHasher> TermStore<B> {
         self.alloc
     }
 
-    // Why the first argument that can't be read can't be.
-    fn refusal(&self, args: &[TermRef]) -> Option<Refusal>
-        ensures why { result ≡ due_arguments self.now (list_map term_name args.now) }
+    // Refused as the first argument that can't be read.
+    fn check_all(&self, args: &[TermRef]) -> Result<(), Refusal>
+        ensures refused { Owes result (due_arguments self.now (list_map term_name args.now)) }
         ensures state { IsTerms self.now }
     {
-        let number = self.number();
+        // What `number` says of the state is said here too.
+        let _number = self.number();
         for term in args {
-            if let Some(why) = self.unread(number, *term) {
-                return Some(why);
-            }
+            self.check(*term)?;
         }
-        None
-    }
-
-    // Why a term can't be read, if it can't.
-    fn unread(&self, number: u64, term: TermRef) -> Option<Refusal>
-        requires { number ≡ self.now.number }
-        ensures { result ≡ due self.now (term_name term) any_count }
-    {
-        if term.name().storage != number {
-            return Some(Refusal::Foreign);
-        }
-        match self.terms.count(term.reference) {
-            Some(_) => None,
-            None => Some(Refusal::Gone),
-        }
+        Ok(())
     }
 }
 

@@ -130,7 +130,14 @@ fn check_table(rt: &impl Eprint, table: &SymbolTable, symbols: &Symbols) -> Resu
             && table.count(&sym::Clone) == None
             && table.count(&symbols.gone) == None
             && table.count(&symbols.foreign) == None,
-    )
+    )?;
+    check_readable(rt, table, symbols)
+}
+
+fn check_readable(rt: &impl Eprint, table: &SymbolTable, symbols: &Symbols) -> Result<(), Fault> {
+    takes_none(rt, "SymbolTable::check");
+    table.check(symbols.live.as_ref())?;
+    is_refused(table.check(symbols.gone.as_ref()), Refusal::Gone)
 }
 
 fn check_walk(rt: &impl Eprint, table: &SymbolTable) -> Result<(), Fault> {

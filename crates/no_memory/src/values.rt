@@ -195,7 +195,10 @@ fn check_births(rt: &impl Eprint, storage: &Storage, handles: &Handles) -> Resul
     is_refused(InternedRef::from_raw(storage, 3), Refusal::Gone)?;
     takes_none(rt, "Storage::reference");
     ensure(storage.reference(handles.zero.name())? == handles.zero.as_ref())?;
-    is_refused(storage.reference(handles.gone.name()), Refusal::Gone)
+    is_refused(storage.reference(handles.gone.name()), Refusal::Gone)?;
+    takes_none(rt, "Storage::check");
+    storage.check(handles.zero.as_ref())?;
+    is_refused(storage.check(handles.gone.as_ref()), Refusal::Gone)
 }
 
 // Texts that are stored, and one that isn't, while all births are given.

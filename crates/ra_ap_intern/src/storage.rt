@@ -201,6 +201,20 @@ impl<K: Kind<B>, B> Storage<K, B> {
     {
         self.count(reference).is_some()
     }
+
+    /// Whether the entry that a reference names is here, and why it can't be read where it isn't.
+    /// Refused: `Foreign`, `Gone`.
+    pub fn check(&self, reference: Ref<K>) -> Result<(), Refusal>
+        ensures { Owes result (due self.now (ref_name reference) any_count) }
+    {
+        if reference.name().storage != self.number() {
+            return Err(Refusal::Foreign);
+        }
+        if !self.contains(reference) {
+            return Err(Refusal::Gone);
+        }
+        Ok(())
+    }
 }
 
 impl<K> Owned<K> {

@@ -233,6 +233,23 @@ impl<B: BuildHasher> SymbolTable<B> {
     {
         symbol.as_ref().count(self)
     }
+
+    /// Whether the text of a symbol can be read, and why it can't be where it can't.
+    /// Refused, never for a preset: `Foreign`, `Gone`.
+    pub fn check(&self, symbol: SymbolRef) -> Result<(), Refusal>
+        ensures { Owes result (due_of self.now (symbol_ref_name symbol) any_count) }
+    {
+        let Some(name) = symbol.name() else {
+            return Ok(());
+        };
+        if name.storage != self.number() {
+            return Err(Refusal::Foreign);
+        }
+        if symbol.count(self).is_none() {
+            return Err(Refusal::Gone);
+        }
+        Ok(())
+    }
 }
 
 impl<'a, B: BuildHasher> IntoIterator for &'a SymbolTable<B> {

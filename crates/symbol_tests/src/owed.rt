@@ -62,14 +62,18 @@ fn a_refusal_gives_an_owed_symbol_back(rt: HostRuntime) {
     let mut table = new_table(alloc, 1);
     let mut other = new_table(alloc, 2);
     let x = OwedSymbol::from(intern_new(&rt, &mut table, "x", 1));
+    is_equal(&rt, table.check(x.as_ref()), Ok(()));
+    is_equal(&rt, other.check(x.as_ref()), Err(Refusal::Foreign));
     let x = not_released(&rt, &mut other, x, Refusal::Foreign);
     x.as_ref()
         .decrease_refcount(&mut table)
         .expect(&rt, "taken back");
+    is_equal(&rt, table.check(x.as_ref()), Err(Refusal::Gone));
     let x = not_released(&rt, &mut table, x, Refusal::Gone);
     drop(x.into_symbol());
 
     // A preset has nothing to release, and is given up all the same.
+    is_equal(&rt, other.check(sym::Clone.as_ref()), Ok(()));
     release(&rt, &mut other, OwedSymbol::from(sym::Clone), 0);
     drop_table(table);
     drop_table(other);

@@ -13,6 +13,7 @@ enum Look {
     IsEmpty,
     Iter,
     Contains,
+    Check,
     Count,
     Get,
     GetOf,
@@ -54,12 +55,13 @@ fn shows(store: &TermStore, terms: &[TermRef], look: Look) -> bool {
     }
 }
 
-const LOOKUPS: [Marked; 10] = [
+const LOOKUPS: [Marked; 11] = [
     ("takes none: TermStore::number", Look::Number),
     ("takes none: TermStore::len", Look::Len),
     ("takes none: TermStore::is_empty", Look::IsEmpty),
     ("takes none: TermStore::iter", Look::Iter),
     ("takes none: TermStore::contains", Look::Contains),
+    ("takes none: TermStore::check", Look::Check),
     ("takes none: TermStore::count", Look::Count),
     ("takes none: TermStore::get", Look::Get),
     ("takes none: TermStore::get_of", Look::GetOf),
@@ -90,6 +92,7 @@ fn answers(store: &TermStore, terms: &[TermRef], term: TermRef, number: usize, l
     let args = args_of(terms, number);
     match look {
         Look::Contains => store.contains(term),
+        Look::Check => store.check(term).is_ok(),
         Look::Count => store.count(term) == Some(0),
         Look::Get => store.get(&head_of(number), args) == Some(term),
         Look::GetOf => store.get_of(head_of(number).as_ref(), args) == Some(term),
@@ -128,8 +131,9 @@ pub(crate) fn check_references(
     Ok(())
 }
 
-const UNREAD: [Marked; 6] = [
+const UNREAD: [Marked; 7] = [
     ("takes none: TermStore::contains", Look::Contains),
+    ("takes none: TermStore::check", Look::Check),
     ("takes none: TermStore::count", Look::Count),
     ("takes none: TermStore::get", Look::Get),
     ("takes none: TermStore::get_of", Look::GetOf),
@@ -158,6 +162,7 @@ pub(crate) fn check_unread(
 fn shows_nothing(store: &TermStore, term: TermRef, look: Look) -> bool {
     match look {
         Look::Contains => !store.contains(term),
+        Look::Check => store.check(term).is_err(),
         Look::Count => store.count(term).is_none(),
         Look::Get => store.get(&sym::fn_, &[term]).is_none(),
         Look::GetOf => store.get_of(sym::fn_.as_ref(), &[term]).is_none(),

@@ -96,7 +96,7 @@ impl Scene {
     /// The term reads this head and these arguments.
     pub fn reads(&mut self, rt: &impl Abort, term: TermRef, text: &str, args: &[TermRef]) {
         let head = head(rt, &mut self.table, text);
-        assert!(rt; self.store.contains(term));
+        assert!(rt; self.store.contains(term) && self.store.check(term).is_ok());
         assert!(rt; self.store.head(term) == Some(&head));
         assert!(rt; self.store.args(term) == Some(args));
         assert!(rt; is_node(&self.store, term, &head, args));
@@ -105,7 +105,7 @@ impl Scene {
 
     /// The term reads nothing.
     pub fn reads_nothing(&self, rt: &impl Abort, term: TermRef) {
-        assert!(rt; !self.store.contains(term));
+        assert!(rt; !self.store.contains(term) && self.store.check(term).is_err());
         assert!(rt; self.store.head(term).is_none());
         assert!(rt; self.store.args(term).is_none());
         assert!(rt; self.store.node(term).is_none());

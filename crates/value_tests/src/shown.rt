@@ -29,10 +29,15 @@ fn a_reference_is_made_from_a_handle(rt: HostRuntime) {
     let x = intern_new(&rt, alloc, &mut storage, "x", 0);
     let reference: InternedRef<Word> = InternedRef::from(&x);
     is_equal(&rt, reference.name(), x.name());
-    assert!(rt; storage.contains(reference));
+    let other = new_values(alloc, 2);
+    assert!(rt; storage.contains(reference) && !other.contains(reference));
+    is_equal(&rt, storage.check(reference), Ok(()));
+    is_equal(&rt, other.check(reference), Err(Refusal::Foreign));
     frees(&rt, &mut storage, x, "x");
     assert!(rt; !storage.contains(reference));
+    is_equal(&rt, storage.check(reference), Err(Refusal::Gone));
     drop_values(storage);
+    drop_values(other);
 }
 
 #[test]
