@@ -1,17 +1,19 @@
 -- What interning gives, what look-ups answer, and whether two names are one.
-use Rattle.std.proofs.Common.{◌≡◌, ℕ, ◌+◌, ◌<◌, Bool, true, false, cond, Option, Some, None, IsSome, is_some, ◌⊎◌, inl, inr, refl, sym, ap, subst, ◌∙◌, arith}
+use Rattle.std.proofs.Common.{◌≡◌, ℕ, ◌+◌, ◌<◌, Bool, true, false, cond, Option, Some, None, IsSome, is_some, Result, Ok, Err, ◌⊎◌, inl, inr, refl, sym, ap, subst, ◌∙◌, arith}
 use Rattle.std.specs.Prelude.{◌↔◌}
 use Rattle.std.specs.Option.{option_map}
 use Rattle.std.specs.Cmp.{IsEquivalence}
 use Rattle.std.proofs.lemmas.Bool.{and_from, eq-eqb}
 use Rattle.std.proofs.lemmas.Option.{same_Some}
+use Rattle.intern_store.specs.declared.refusal.Refused.{Refused}
 use Rattle.intern_store.proofs.Births.{not_stored, is_stored}
 use Rattle.intern_store.proofs.Named.{names_same}
 use Rattle.intern_store.proofs.Reading.{interned_reads, equal_read}
 use Rattle.ra_ap_intern.specs.Kept.{is_at}
 use Rattle.ra_ap_intern.specs.Name.{Name}
 use Rattle.ra_ap_intern.specs.Named.{same_name}
-use Rattle.ra_ap_intern.specs.State.{State, IsState, name_in, reads, counts, counted_up, due, zero_count, added, or_added, interned, interned_name, interned_counted, birth_of, name_of_value}
+use Rattle.ra_ap_intern.specs.Outcome.{OwesBack, Becomes}
+use Rattle.ra_ap_intern.specs.State.{State, IsState, name_in, reads, counts, counted_up, due, zero_count, added, or_added, interned, interned_name, interned_counted, released, birth_of, name_of_value}
 use Rattle.ra_ap_intern.proofs.CallerReads.{read_at, read_below, read_once, reads-added, counts_read, counts-recounted, due_counted, counted_up_reads, interned_reads_given}
 
 module _ {V : Type 0} (eq : V → V → Bool) where
@@ -64,6 +66,19 @@ module _ {V : Type 0} (eq : V → V → Bool) where
   interned_counted_due laws s v =
       let c = interned_counted_counts laws s v in
       due_counted (interned_counted eq s v) (interned_name eq s v) c.0 c.1
+
+  -- and so a handle that was just given is released, where a later call is refused
+  pub interned_undone : IsEquivalence eq → (s : State V) (v : V) (stays : Bool) (t u : State V)
+      (name : Name) → t ≡ interned_counted eq s v → name ≡ interned_name eq s v
+      → {A H : Type 0} (r : Result A (Refused H)) (handle : H)
+      → OwesBack r (due t name zero_count) handle → Becomes r t u (released stays t name.birth)
+      → u ≡ released stays (interned_counted eq s v) (interned_name eq s v).birth
+  interned_undone laws s v stays t u name counted named (Ok _) handle owes becomes =
+      becomes ∙ (λ i. released stays (counted i) (named i).birth)
+  interned_undone laws s v stays t u name counted named (Err refused) handle owes becomes =
+      let free = (λ i. due (counted i) (named i) zero_count) ∙ interned_counted_due laws s v in
+      let owed = owes.0 in
+      absurd (cc)
 
   -- ---- what a look-up answers
 

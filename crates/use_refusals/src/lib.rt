@@ -6,9 +6,11 @@ ghost use Rattle.std.specs.Str.{bytes_eq};
 ghost use Rattle.ra_ap_intern.specs.Handle.{name_of};
 ghost use Rattle.ra_ap_intern.specs.Outcome.{Becomes, MayWant, MayWantBack};
 ghost use Rattle.ra_ap_intern.specs.State.{is_new, interned_name, interned_counted, due_interning, full};
+ghost use Rattle.ra_ap_intern.specs.Symbols.{symbol_in, symbol_name};
+ghost use Rattle.use_refusals.specs.Both.{IsOfEither};
 ghost use Rattle.use_refusals.specs.WordError.{IsFor};
 
-use ra_ap_intern::{InternStorage, Interned, Refusal, Refused, Text};
+use ra_ap_intern::{InternStorage, Interned, Refusal, Refused, Symbol, SymbolTable, Text};
 use thiserror::Error;
 
 /// A word, and the line that it stands in.
@@ -91,4 +93,28 @@ pub fn handle_of_some(
         return Err(WordError::Empty);
     }
     Ok(handle_of(words, word)?)
+}
+
+/// A word in two interners: its handle, and its symbol. Where the symbol is refused, the handle is
+/// released: what was stored for it goes again, and only its birth stays used.
+pub fn handle_and_symbol(
+    words: &mut InternStorage<Text>,
+    table: &mut SymbolTable,
+    word: &str,
+) -> Result<(Interned<Text>, Symbol), Refusal>
+    ensures names { IfOk result (λ r.
+        (name_of r.0 ≡ interned_name bytes_eq words.old word.now)
+        × (symbol_name r.1 ≡ (symbol_in table.old word.now).symbol)) }
+    ensures refused { IfErr result (λ w. IsOfEither w words.old words.new table.old word.now) }
+    ensures words { OnOk result (words.new ≡ interned_counted bytes_eq words.old word.now) }
+    ensures table { Becomes result table.old table.new (symbol_in table.old word.now).table }
+{
+    let handle = words.intern_text(word)?;
+    match Symbol::intern(table, word) {
+        Ok(symbol) => Ok((handle, symbol)),
+        Err(why) => {
+            let _freed = handle.release(words);
+            Err(why)
+        }
+    }
 }

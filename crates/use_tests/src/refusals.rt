@@ -1,8 +1,8 @@
 //! What callers read of refusals.
-use ra_ap_intern::{InternStorage, Limits, Text};
+use ra_ap_intern::{InternStorage, Limits, Refusal, SymbolTable, Text};
 use std::alloc::Global;
 use std::process::Abort;
-use use_refusals::{Token, handle_of, handle_of_some, handle_of_token};
+use use_refusals::{Token, handle_and_symbol, handle_of, handle_of_some, handle_of_token};
 
 fn word(rt: &impl Abort, alloc: Global, text: &str) -> Text {
     Text::new(alloc, text).expect(rt, "memory")
@@ -29,4 +29,26 @@ fn refusals_tell_what_to_do(rt: HostRuntime) {
         "the storage has given all its births; begin another one"
     );
     assert_eq!(rt; (refused.back.word.as_str(), refused.back.line), ("two", 7));
+}
+
+#[test]
+fn a_refused_symbol_leaves_no_word_behind(rt: HostRuntime) {
+    let alloc = rt.alloc();
+    let mut words = InternStorage::new(alloc, 1);
+    let mut table = SymbolTable::with_limits(alloc, 2, Limits { top: 1, numbers: 1 });
+    let (word, symbol) = handle_and_symbol(&mut words, &mut table, "one").expect(&rt, "both");
+    assert_eq!(rt;
+        (word.get(&words).map(Text::as_str), symbol.as_str(&table)),
+        (Some("one"), Some("one"))
+    );
+    let why = handle_and_symbol(&mut words, &mut table, "one").expect_err(&rt, "full");
+    assert_eq!(rt;
+        (why, words.count(word.as_ref())),
+        (Refusal::CountFull, Some(1))
+    );
+    let why = handle_and_symbol(&mut words, &mut table, "two").expect_err(&rt, "used up");
+    assert_eq!(rt;
+        (why, words.len(), table.len()),
+        (Refusal::NumbersUsedUp, 1, 1)
+    );
 }
