@@ -2,11 +2,14 @@
 mod grove;
 pub(crate) mod node;
 
+ghost use Rattle.std.specs.Prelude.{◌≡◌, true};
+ghost use Rattle.ra_ap_intern.specs.Families.{are_distinct};
+
 use crate::fault::{Fault, ensure};
 use crate::marks;
 use grove::{Grove, Left, owns_branch, owns_node};
-use ra_ap_intern::{Collected, GarbageCollector};
-use std::alloc::Global;
+use ra_ap_intern::{Collected, Family, GarbageCollector, GcInternedVisit, Name};
+use std::alloc::{AllocError, Global};
 use std::ops::ControlFlow;
 
 /// How many nodes, and how many branches, the large family has.
@@ -63,25 +66,35 @@ impl Collection {
         alloc: Global,
         grove: &mut Grove,
     ) -> Result<Collected, Fault> {
-        if !GarbageCollector::distinct(&grove.storages) {
+        let Grove {
+            storages,
+            listed,
+            roots,
+            ..
+        } = grove;
+        self.collect_family(rt, alloc, storages, listed.as_slice(), roots)
+    }
+
+    // Makes it on any family. What holds of a family's parts costs the prover nothing here.
+    fn collect_family<F: Family, R: GcInternedVisit>(
+        self,
+        rt: &impl Eprint,
+        alloc: Global,
+        family: &mut F,
+        listed: &[Name],
+        roots: &R,
+    ) -> Result<Collected, Fault>
+        requires { F.collected ≡ true }
+    {
+        if !GarbageCollector::distinct(family) {
             return Err(Fault::Wrong("two storages of a family have one number"));
         }
         marks::asks(rt, self.name());
+        let gc = GarbageCollector::new(alloc);
         let collected = match self {
-            Collection::Plain => GarbageCollector::new(alloc).collect(&mut grove.storages),
-            Collection::Keeping => GarbageCollector::new(alloc).collect_keeping(
-                &mut grove.storages,
-                grove.listed.as_slice(),
-            ),
-            Collection::Tracing => {
-                match GarbageCollector::new(alloc).trace(&grove.storages, &grove.roots) {
-                    Ok(trace) => {
-                        marks::takes_none(rt, "Trace::sweep");
-                        Ok(trace.sweep(&mut grove.storages))
-                    }
-                    Err(error) => Err(error),
-                }
-            }
+            Collection::Plain => gc.collect(family),
+            Collection::Keeping => gc.collect_keeping(family, listed),
+            Collection::Tracing => trace_and_sweep(rt, gc, family, roots),
         };
         collected.map_err(|_| Fault::NoMemory)
     }
@@ -153,6 +166,20 @@ impl Collection {
         ensure(collected == wanted, "a collection tells something else")?;
         grove.check(self.left())
     }
+}
+
+fn trace_and_sweep<F: Family, R: GcInternedVisit>(
+    rt: &impl Eprint,
+    gc: GarbageCollector,
+    family: &mut F,
+    roots: &R,
+) -> Result<Collected, AllocError>
+    requires distinct { are_distinct (F.numbers family.old) ≡ true }
+    requires collected { F.collected ≡ true }
+{
+    let trace = gc.trace(family, roots)?;
+    marks::takes_none(rt, "Trace::sweep");
+    Ok(trace.sweep(family))
 }
 
 fn told(visits: usize, mark_calls: u64, removed: usize) -> Collected {
@@ -229,15 +256,11 @@ impl Registration<'_> {
 
     // Registers the family. Where that is refused, all is as it was, and it is tried once more.
     fn register(&mut self, rt: &impl Eprint) -> Result<(), Fault> {
-        let storages = &self.grove.storages;
-        if !GarbageCollector::distinct(storages) {
-            return Err(Fault::Wrong("two storages of a family have one number"));
-        }
         marks::asks(rt, "GarbageCollector::register");
-        if self.gc.register(storages).is_err() {
+        if register(&mut self.gc, &self.grove.storages).is_err() {
             marks::refused(rt, "GarbageCollector::register");
             self.is_as_it_was()?;
-            self.gc.register(storages)?;
+            register(&mut self.gc, &self.grove.storages)?;
         }
         self.is_registered = true;
         self.is_marked = false;
@@ -293,6 +316,16 @@ impl Registration<'_> {
         self.is_marked = true;
         self.check_marks()
     }
+}
+
+fn register<F: Family>(gc: &mut GarbageCollector, family: &F) -> Result<(), Fault>
+    requires { F.collected ≡ true }
+{
+    if !GarbageCollector::distinct(family) {
+        return Err(Fault::Wrong("two storages of a family have one number"));
+    }
+    gc.register(family)?;
+    Ok(())
 }
 
 fn flow(marks: bool) -> ControlFlow<()> {

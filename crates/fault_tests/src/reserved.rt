@@ -46,15 +46,45 @@ impl SliceInternable for Row {
 
 /// Checks the calls that make room, and those that take it.
 pub(crate) fn check_reserved(rt: &(impl Print + Eprint), alloc: Global) -> Result<(), Fault> {
-    reserve_values(rt, &mut InternStorage::new(alloc, 1))?;
-    marks::prepares(rt);
-    let mut used = InternStorage::new(alloc, 1);
-    use_a_slot_again(&mut used)?;
-    reserve_values(rt, &mut used)?;
-    reserve_slices(rt, &mut InternSliceStorage::new(alloc, 1))?;
-    reserve_near_slices(rt, &mut NearSliceStorage::new(alloc, 1))?;
-    reserve_text_values(rt, alloc, &mut InternStorage::new(alloc, 1))?;
+    fresh_values(rt, alloc)?;
+    used_values(rt, alloc)?;
+    slices(rt, alloc)?;
+    near_slices(rt, alloc)?;
+    text_values(rt, alloc)?;
+    texts(rt, alloc)
+}
+
+fn fresh_values(rt: &(impl Print + Eprint), alloc: Global) -> Result<(), Fault> {
+    reserve_values(rt, &mut InternStorage::new(alloc, 1))
+}
+
+fn used_values(rt: &(impl Print + Eprint), alloc: Global) -> Result<(), Fault> {
+    reserve_used(rt, &mut InternStorage::new(alloc, 1))
+}
+
+fn slices(rt: &(impl Print + Eprint), alloc: Global) -> Result<(), Fault> {
+    reserve_slices(rt, &mut InternSliceStorage::new(alloc, 1))
+}
+
+fn near_slices(rt: &(impl Print + Eprint), alloc: Global) -> Result<(), Fault> {
+    reserve_near_slices(rt, &mut NearSliceStorage::new(alloc, 1))
+}
+
+fn text_values(rt: &(impl Print + Eprint), alloc: Global) -> Result<(), Fault> {
+    reserve_text_values(rt, alloc, &mut InternStorage::new(alloc, 1))
+}
+
+fn texts(rt: &(impl Print + Eprint), alloc: Global) -> Result<(), Fault> {
     reserve_texts(rt, alloc, &mut SymbolTable::new(alloc, 1))
+}
+
+fn reserve_used(
+    rt: &(impl Print + Eprint),
+    storage: &mut InternStorage<Unhashed>,
+) -> Result<(), Fault> {
+    marks::prepares(rt);
+    use_a_slot_again(storage)?;
+    reserve_values(rt, storage)
 }
 
 // Stores two values, of which the first goes, and a third in its slot.

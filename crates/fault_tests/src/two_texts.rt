@@ -1,9 +1,11 @@
 //! Two texts and a slice, and the collection that keeps one text and the slice.
+ghost use Rattle.std.specs.Prelude.{◌≡◌, true};
+
 use crate::fault::{Fault, ensure};
 use crate::marks;
 use intern_fixtures::{GcString, StringSlice, make_gc_string};
 use ra_ap_intern::{
-    Collected, GarbageCollector, InternSliceStorage, InternStorage, Interned, InternedRef,
+    Collected, Family, GarbageCollector, InternSliceStorage, InternStorage, Interned, InternedRef,
     InternedSlice, InternedSliceRef, NoStorages, Pair,
 };
 use std::alloc::Global;
@@ -98,7 +100,10 @@ fn store_numbers(
     Ok((slice, back.is_some()))
 }
 
-fn collect(alloc: Global, family: &mut Storages) -> Result<Collected, Fault> {
+// Collects any family. What holds of a family's parts costs the prover nothing here.
+fn collect<F: Family>(alloc: Global, family: &mut F) -> Result<Collected, Fault>
+    requires { F.collected ≡ true }
+{
     if !GarbageCollector::distinct(family) {
         return Err(Fault::Wrong("two storages of a family have one number"));
     }

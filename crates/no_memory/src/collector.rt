@@ -1,10 +1,12 @@
 //! The collector, and calls in collected mode.
+ghost use Rattle.std.specs.Prelude.{◌≡◌, true};
+
 use crate::fault::{Fault, ensure, gives_back};
 use crate::marks::{prepares, takes_none};
 use intern_fixtures::{Node, NodeSlice, make_node};
 use ra_ap_intern::{
-    GarbageCollector, InternSliceStorage, InternStorage, Interned, InternedRef, InternedSlice,
-    InternedSliceRef, Limits, NoStorages, Pair, Refusal,
+    Family, GarbageCollector, InternSliceStorage, InternStorage, Interned, InternedRef,
+    InternedSlice, InternedSliceRef, Limits, Name, NoStorages, Pair, Refusal,
 };
 use std::alloc::{AllocError, Global};
 use std::ops::ControlFlow;
@@ -74,7 +76,7 @@ fn fill(alloc: Global, storages: &mut Storages) -> Result<Known, Fault> {
     let node = intern(alloc, nodes, TAG, &[owned])?;
     let (slice, _) = InternedSlice::from_header_and_slice(&mut storages.second, 5, &[node])?;
     let foreign = intern(alloc, &mut InternStorage::new(alloc, 3), 0, &[])?;
-    collect(alloc, storages, slice)?;
+    collect(alloc, storages, &[slice.name()])?;
     Ok(Known {
         node,
         owned,
@@ -84,16 +86,19 @@ fn fill(alloc: Global, storages: &mut Storages) -> Result<Known, Fault> {
     })
 }
 
-// Keeps what the slice reaches, and what is owned.
-fn collect(
+/// Keeps what is owned, and what the listed entries reach, of any family. What holds of a family's
+/// parts costs the prover nothing here.
+pub(crate) fn collect<F: Family>(
     alloc: Global,
-    storages: &mut Storages,
-    slice: InternedSliceRef<NodeSlice>,
-) -> Result<(), Fault> {
-    if !GarbageCollector::distinct(storages) {
+    family: &mut F,
+    listed: &[Name],
+) -> Result<(), Fault>
+    requires { F.collected ≡ true }
+{
+    if !GarbageCollector::distinct(family) {
         return Err(Fault::Wrong);
     }
-    GarbageCollector::new(alloc).collect_keeping(storages, &[slice.name()])?;
+    GarbageCollector::new(alloc).collect_keeping(family, listed)?;
     Ok(())
 }
 
@@ -123,7 +128,9 @@ fn check_collector(
 }
 
 // Registers the storages, at the second try where the first is refused.
-fn register(gc: &mut GarbageCollector, storages: &Storages) -> Result<(), Fault> {
+fn register<F: Family>(gc: &mut GarbageCollector, storages: &F) -> Result<(), Fault>
+    requires { F.collected ≡ true }
+{
     if !GarbageCollector::distinct(storages) {
         return Err(Fault::Wrong);
     }

@@ -1,4 +1,5 @@
 //! Storages of slices.
+use crate::collector::collect;
 use crate::fault::{Fault, ensure, gives_back, is_refused, of_owed};
 use crate::marks::{prepares, takes_none};
 use intern_fixtures::StringSlice;
@@ -84,20 +85,12 @@ fn make(alloc: Global) -> Result<(Storage, Handles), Fault> {
 
 fn fill_and_collect(alloc: Global, family: &mut Family) -> Result<Handles, Fault> {
     let handles = fill(alloc, &mut family.second)?;
-    collect(alloc, family)?;
+    collect(alloc, family, &[])?;
     handles
         .zero
         .as_ref()
         .decrement_refcount(&mut family.second)?;
     Ok(handles)
-}
-
-fn collect(alloc: Global, family: &mut Family) -> Result<(), Fault> {
-    if !GarbageCollector::distinct(family) {
-        return Err(Fault::Wrong);
-    }
-    GarbageCollector::new(alloc).collect(family)?;
-    Ok(())
 }
 
 fn fill(alloc: Global, storage: &mut Storage) -> Result<Handles, Fault> {
