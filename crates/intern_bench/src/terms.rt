@@ -97,7 +97,7 @@ impl<K: Keeper> Workload<K> {
     fn prepare(alloc: Global, entries: usize) -> Result<Workload<K>> {
         let mut table = SymbolTable::new(alloc, 1);
         let mut keeper = K::make(alloc);
-        let extra = keeper.store_leaf(Symbol::intern(&mut table, "warm-up")?)?;
+        let extra = keeper.store_leaf(symbol(&mut table, "warm-up")?)?;
         let places = (0..entries).collect::<Vec<usize>>(alloc)?;
         let order = scattered(alloc, entries)?;
         let leaves = entries - entries / 2;
@@ -233,10 +233,15 @@ impl<K: Keeper> Workload<K> {
 fn head(alloc: Global, table: &mut SymbolTable, leaves: usize, place: usize) -> Result<Symbol> {
     if place < leaves {
         let text = format!(in alloc; "x{place}")?;
-        Ok(Symbol::intern(table, text.as_str())?)
+        Ok(symbol(table, text.as_str())?)
     } else {
-        Ok(Symbol::intern(table, "upper")?)
+        Ok(symbol(table, "upper")?)
     }
+}
+
+// The symbol of a text. Of a text that it knows, the prover would look it up among the presets.
+fn symbol(table: &mut SymbolTable, text: &str) -> Result<Symbol, Refusal> {
+    Symbol::intern(table, text)
 }
 
 // The heads of the terms of these places.
