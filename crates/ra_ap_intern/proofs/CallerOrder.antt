@@ -1,18 +1,18 @@
 -- Storages whose values declare earlier ones: what keeps that, and the lines of values that lead up
 -- from a name.
-use Rattle.std.proofs.Common.{◌≡◌, ◌↔◌, ℕ, zero, suc, ◌<◌, nat_eq, Bool, true, false, cond, ◌==◌, List, [], ◌∷◌, Option, Some, None, IsSome, is_some, Result, inl, inr, refl, sym, ap, subst, ◌∙◌, arith}
+use Rattle.std.proofs.Common.{◌≡◌, ◌↔◌, ℕ, zero, suc, ◌<◌, nat_eq, Bool, true, false, cond, ◌==◌, List, [], ◌∷◌, ◌++◌, Option, Some, None, IsSome, is_some, Result, inl, inr, refl, sym, ap, subst, ◌∙◌, append_assoc, arith}
 use Rattle.std.specs.FinMap.{get-empty}
 use Rattle.std.specs.Option.{option_map}
 use Rattle.std.specs.Ordering.{nat_cmp}
 use Rattle.std.specs.declared.alloc.AllocError.{AllocError}
-use Rattle.std.proofs.lemmas.Bool.{or_left}
+use Rattle.std.proofs.lemmas.Bool.{or_cases, or_left}
 use Rattle.std.proofs.lemmas.Option.{same_Some}
 use Rattle.ra_ap_intern.specs.Families.{entries_of, kept_named}
 use Rattle.ra_ap_intern.specs.Kept.{Kept}
 use Rattle.ra_ap_intern.specs.Name.{Name}
 use Rattle.ra_ap_intern.specs.Named.{same_name}
 use Rattle.ra_ap_intern.specs.Names.{has}
-use Rattle.ra_ap_intern.specs.Order.{IsBefore, Falls, Stands, line_from, line_at, line_within, line}
+use Rattle.ra_ap_intern.specs.Order.{IsBefore, Falls, IsBuilt, due_parent, line_from, line_at, line_within, line, line_rest, steps_left}
 use Rattle.ra_ap_intern.specs.Reach.{Entry, IsReachedSet, IsPath, Reached}
 use Rattle.ra_ap_intern.specs.State.{State, IsState, new_state, name_in, entry_at, reads, counted_up, counted_down, taken, released, interned, interned_counted}
 use Rattle.ra_ap_intern.specs.Visitors.{of_name}
@@ -22,7 +22,7 @@ use Rattle.intern_store.proofs.Later.{neither}
 use Rattle.intern_store.proofs.Named.{names_same, same_names}
 use Rattle.ra_ap_intern.proofs.CallerCollections.{child_kept, children_read, entry_read, kept_reads, kept_was_read, reads-kept_named}
 use Rattle.ra_ap_intern.proofs.CallerInterning.{interned_new_or_read}
-use Rattle.ra_ap_intern.proofs.CallerReads.{read_at, read_below, read_once, some_read, counted_up_reads, counted_down_reads, interned_reads_on, released_either}
+use Rattle.ra_ap_intern.proofs.CallerReads.{read_at, read_due, read_below, read_once, some_read, counted_up_reads, counted_down_reads, interned_reads_on, released_either}
 use Rattle.ra_ap_intern.proofs.CallerViews.{Collects, collected}
 
 -- what is kept keeps all that paths of declared children reach from it
@@ -41,6 +41,15 @@ behind_kept begins family names is name kept m path = go path.0 m path.1
 pub parent_declared : (o : Option Name) (name : Name) → o ≡ Some name → has (of_name o) name ≡ true
 parent_declared None name is = absurd (cc)
 parent_declared (Some parent) name is = or_left _ _ (same_names name parent (sym (same_Some _ _ is)))
+
+-- where nothing is due of a parent, it is read
+pub parent_read : {V : Type 0} (s : State V) (o : Option Name) → due_parent s o ≡ None
+    → (name : Name) → has (of_name o) name ≡ true → IsSome (reads s name)
+parent_read s None free name declared = absurd (cc)
+parent_read s (Some parent) free name declared = elim (or_cases _ _ declared) [
+  | inl same ↦ subst (λ n. IsSome (reads s n)) (sym (names_same name parent same)) (read_due s parent free)
+  | inr none ↦ absurd (cc)
+]
 
 module _ {V : Type 0} where
   new_reads : (number top numbers : ℕ) (name : Name)
@@ -152,20 +161,37 @@ module _ {V X : Type 0} (parent : V → Option Name) (see : V → X) where
 
   -- where nothing is read there is none
   pub line_none : (s : State V) (name : Name) → reads s name ≡ None → line parent see s name ≡ None
+  unfolding line
   line_none s name = within_none s (suc name.birth) name
 
   -- of a value without a parent it is that alone
   pub line_top : (s : State V) (name : Name) (v : V) → reads s name ≡ Some v → parent v ≡ None
       → line parent see s name ≡ Some (see v ∷ [])
+  unfolding line
   line_top s name v read top =
       ap (line_at parent see (line_within parent see s name.birth)) read
       ∙ ap (line_from (see v) (line_within parent see s name.birth)) top
+
+  -- a loop that begins at a name has its line ahead
+  pub rest_begun : (s : State V) (name : Name)
+      → line_rest parent see s [] (Some name) ≡ line parent see s name
+  rest_begun s name = go (line parent see s name)
+    where
+      go : (o : Option (List X)) → option_map (λ ys. [] ++ ys) o ≡ o
+      go None = refl
+      go (Some ys) = refl
+
+  -- and ends in none where nothing is read
+  pub rest_none : (s : State V) (xs : List X) (name : Name) → reads s name ≡ None
+      → line_rest parent see s xs (Some name) ≡ None
+  rest_none s xs name none = ap (option_map (λ ys. xs ++ ys)) (line_none s name none)
 
   -- it stays where what is read stays
   pub line_on : (s t : State V)
       → ((name : Name) (v : V) → reads s name ≡ Some v → reads t name ≡ Some v)
       → (name : Name) (xs : List X) → line parent see s name ≡ Some xs
       → line parent see t name ≡ Some xs
+  unfolding line
   line_on s t on name = within (suc name.birth) name
     where
       within : (k : ℕ) (n : Name) (xs : List X) → line_within parent see s k n ≡ Some xs
@@ -192,6 +218,7 @@ module _ {V X : Type 0} (children : V → List Name) (parent : V → Option Name
   -- of a value with a parent it is that, followed by the parent's
   pub line_up : (name above : Name) (v : V) → reads s name ≡ Some v → parent v ≡ Some above
       → line parent see s name ≡ option_map (λ xs. see v ∷ xs) (line parent see s above)
+  unfolding line
   line_up name above v read is =
       let below = (falls name above v read (declares v above is)).birth in
       ap (line_at parent see (line_within parent see s name.birth)) read
@@ -199,10 +226,37 @@ module _ {V X : Type 0} (children : V → List Name) (parent : V → Option Name
       ∙ ap (option_map (λ xs. see v ∷ xs))
       (enough name.birth (suc above.birth) above below (omega arith))
 
+  -- so that a loop has fewer steps left at the parent, and ends
+  pub steps_fewer : (name : Name) (v : V) → reads s name ≡ Some v
+      → steps_left (parent v) < steps_left (Some name)
+  steps_fewer name v read = go (parent v) refl
+    where
+      go : (p : Option Name) → parent v ≡ p → steps_left p < suc name.birth
+      go None is = omega arith
+      go (Some above) is = let below = (falls name above v read (declares v above is)).birth in omega arith
+
+  -- and what it has seen and what is ahead stay one line
+  pub rest_up : (xs : List X) (name : Name) (v : V) → reads s name ≡ Some v
+      → line_rest parent see s xs (Some name) ≡ line_rest parent see s (xs ++ (see v ∷ [])) (parent v)
+  rest_up xs name v read = go (parent v) refl
+    where
+      longer : (o : Option (List X)) → option_map (λ ys. xs ++ ys) (option_map (λ ys. see v ∷ ys) o)
+          ≡ option_map (λ ys. (xs ++ (see v ∷ [])) ++ ys) o
+      longer None = refl
+      longer (Some ys) = ap Some (sym (append_assoc xs (see v ∷ []) ys))
+
+      go : (p : Option Name) → parent v ≡ p → line_rest parent see s xs (Some name)
+          ≡ line_rest parent see s (xs ++ (see v ∷ [])) p
+      go None is = ap (option_map (λ ys. xs ++ ys)) (line_top parent see s name v read is)
+      go (Some above) is =
+          ap (option_map (λ ys. xs ++ ys)) (line_up name above v read is)
+          ∙ longer (line parent see s above)
+
   -- there is one of all that is read
-  pub line_read : Stands children s → (name : Name) → IsSome (reads s name)
+  pub line_read : IsBuilt children s → (name : Name) → IsSome (reads s name)
       → IsSome (line parent see s name)
-  line_read stands name = within (suc name.birth) name (omega arith)
+  unfolding line
+  line_read built name = within (suc name.birth) name (omega arith)
     where
       within : (k : ℕ) (n : Name) → n.birth < k → IsSome (reads s n)
           → IsSome (line_within parent see s k n)
@@ -213,7 +267,7 @@ module _ {V X : Type 0} (children : V → List Name) (parent : V → Option Name
           ∙ from_some (see v.0) (line_within parent see s k) (parent v.0) (λ m at.
           let declared = declares v.0 m at in
           let below = (falls n m v.0 v.1 declared).birth in
-          within k m (omega arith) (stands n m v.0 v.1 declared))
+          within k m (omega arith) (built.stands n m v.0 v.1 declared))
 
 -- values are equal exactly if they have the same parent, and the same is seen of them
 module _ {V X : Type 0} (eq : V → V → Bool) (parent : V → Option Name) (see : V → X)
@@ -236,13 +290,15 @@ module _ {V X : Type 0} (eq : V → V → Bool) (parent : V → Option Name) (se
       (not_empty l) (one_name k l) v.2 w.2 in
       read_once eq s ok n m v.0 w.0 v.1 w.1 ((alike v.0 w.0).1 same)
 
-  -- names are equal exactly if their lines are
-  pub lines_tell : (n m : Name) (xs ys : List X) → line parent see s n ≡ Some xs
-      → line parent see s m ≡ Some ys → (n ≡ m) ↔ (xs ≡ ys)
-  lines_tell n m xs ys first second = (
-    λ one. same_Some _ _ (sym first ∙ ap (line parent see s) one ∙ second),
-    λ same. one_name (suc n.birth) (suc m.birth) n m xs first (second ∙ ap Some (sym same)),
-  )
+  -- names are equal exactly if their lines are, where there is one
+  pub lines_tell : (n m : Name) → IsSome (line parent see s n)
+      → (n ≡ m) ↔ (line parent see s n ≡ line parent see s m)
+  unfolding line
+  lines_tell n m there =
+      let xs = some_read (line parent see s n) there in (
+        ap (line parent see s),
+        λ same. one_name (suc n.birth) (suc m.birth) n m xs.0 xs.1 (sym same ∙ xs.1),
+      )
 
 module _ {V : Type 0} (children : V → List Name) where
   -- ---- children are before what declares them
@@ -299,47 +355,57 @@ module _ {V : Type 0} (children : V → List Name) where
   falls_kept s set =
       falls_less s (kept_named s set) (λ name v read. (kept_was_read s set name v read).1)
 
-  -- ---- children are read
+  -- ---- and are read too
 
   -- where the same is read
-  pub stands_same : (s t : State V) → ((name : Name) → reads t name ≡ reads s name)
-      → Stands children s → Stands children t
-  stands_same s t same stands name child v read declared =
-      ap is_some (same child) ∙ stands name child v (sym (same name) ∙ read) declared
+  pub built_same : (s t : State V) → ((name : Name) → reads t name ≡ reads s name)
+      → IsBuilt children s → IsBuilt children t
+  built_same s t same built = record {
+    falls = falls_less s t (λ name v read. sym (same name) ∙ read) built.falls;
+    stands = λ name child v read declared.
+        ap is_some (same child) ∙ built.stands name child v (sym (same name) ∙ read) declared;
+  }
 
-  pub stands_new : (number top numbers : ℕ) → Stands children (new_state number top numbers)
-  stands_new number top numbers name child v read declared =
-      let none = new_reads number top numbers name in
-      let no : ◌≡◌ {A = Option V} None (Some v) = sym none ∙ read in absurd (cc)
+  pub built_new : (number top numbers : ℕ) → IsBuilt children (new_state number top numbers)
+  built_new number top numbers = record {
+    falls = falls_new number top numbers;
+    stands = λ name child v read declared.
+        let none = new_reads number top numbers name in
+        let no : ◌≡◌ {A = Option V} None (Some v) = sym none ∙ read in absurd (cc);
+  }
 
   -- after an interning of a value whose children are read
-  pub stands_interned : (eq : V → V → Bool) (s : State V) → IsState eq s → (w : V)
-      → Stands children s
+  pub built_interned : (eq : V → V → Bool) (s : State V) → IsState eq s → (w : V)
+      → IsBuilt children s
       → ((child : Name) → has (children w) child ≡ true → IsSome (reads s child))
-      → Stands children (interned eq s w).state
-  stands_interned eq s ok w stands there name child v read declared =
-      let was : IsSome (reads s child) = elim (interned_new_or_read eq s w name v read) [
-        | inl new ↦ there child (ap (λ x. has (children x) child) new.1 ∙ declared)
-        | inr old ↦ stands name child v old declared
-      ] in
-      let x = some_read (reads s child) was in
-      ap is_some (interned_reads_on eq s ok w child x.0 x.1)
+      → IsBuilt children (interned eq s w).state
+  built_interned eq s ok w built there = record {
+    falls = falls_interned eq s w built.falls
+        (λ child declared. read_before eq s ok child (there child declared));
+    stands = λ name child v read declared.
+        let was : IsSome (reads s child) = elim (interned_new_or_read eq s w name v read) [
+          | inl new ↦ there child (ap (λ x. has (children x) child) new.1 ∙ declared)
+          | inr old ↦ built.stands name child v old declared
+        ] in
+        let x = some_read (reads s child) was in
+        ap is_some (interned_reads_on eq s ok w child x.0 x.1);
+  }
 
-  pub stands_counted_up : (s : State V) (b : ℕ) → Stands children s
-      → Stands children (counted_up s b)
-  stands_counted_up s b = stands_same s (counted_up s b) (counted_up_reads s b)
+  pub built_counted_up : (s : State V) (b : ℕ) → IsBuilt children s
+      → IsBuilt children (counted_up s b)
+  built_counted_up s b = built_same s (counted_up s b) (counted_up_reads s b)
 
-  pub stands_interned_counted : (eq : V → V → Bool) (s : State V) → IsState eq s → (w : V)
-      → Stands children s
+  pub built_interned_counted : (eq : V → V → Bool) (s : State V) → IsState eq s → (w : V)
+      → IsBuilt children s
       → ((child : Name) → has (children w) child ≡ true → IsSome (reads s child))
-      → Stands children (interned_counted eq s w)
-  stands_interned_counted eq s ok w stands there =
-      stands_counted_up (interned eq s w).state (interned eq s w).birth
-      (stands_interned eq s ok w stands there)
+      → IsBuilt children (interned_counted eq s w)
+  built_interned_counted eq s ok w built there =
+      built_counted_up (interned eq s w).state (interned eq s w).birth
+      (built_interned eq s ok w built there)
 
-  pub stands_counted_down : (s : State V) (b : ℕ) → Stands children s
-      → Stands children (counted_down s b)
-  stands_counted_down s b = stands_same s (counted_down s b) (counted_down_reads s b)
+  pub built_counted_down : (s : State V) (b : ℕ) → IsBuilt children s
+      → IsBuilt children (counted_down s b)
+  built_counted_down s b = built_same s (counted_down s b) (counted_down_reads s b)
 
   -- ---- a collection
 
@@ -353,18 +419,22 @@ module _ {V : Type 0} (children : V → List Name) where
         (ap (λ ns. has ns child) (children_read children s name v read) ∙ declared)
         (entry_read children s child ∙ there)
 
-    pub stands_kept : Stands children s → Stands children (kept_named s (has names))
-    stands_kept stands name child v read declared =
-        let was = kept_was_read s (has names) name v read in
-        let there = stands name child v was.1 declared in
-        ap is_some (kept_reads s (has names) child
-        (declared_kept name child v was.0 was.1 declared there)) ∙ there
+    pub built_kept : IsBuilt children s → IsBuilt children (kept_named s (has names))
+    built_kept built = record {
+      falls = falls_kept s (has names) built.falls;
+      stands = λ name child v read declared.
+          let was = kept_was_read s (has names) name v read in
+          let there = built.stands name child v was.1 declared in
+          ap is_some (kept_reads s (has names) child
+          (declared_kept name child v was.0 was.1 declared there)) ∙ there;
+    }
 
     -- and so is the line that leads up from a name that is kept
     pub line_kept : {X : Type 0} (parent : V → Option Name) (see : V → X)
         → ((v : V) (name : Name) → parent v ≡ Some name → has (children v) name ≡ true)
         → (name : Name) → has names name ≡ true
         → line parent see (kept_named s (has names)) name ≡ line parent see s name
+    unfolding line
     line_kept parent see declares name = within (suc name.birth) name
       where
         t : State V
@@ -397,10 +467,10 @@ module _ {V : Type 0} (children : V → List Name) where
         collected (λ f. f) kept_named (λ f set. refl) begins (entries_of children s) s t (Falls children) falls
         (λ names set. falls_kept s (has names) falls) r is
 
-    pub stands_collected : Stands children s → Stands children t
-    stands_collected stands =
-        collected (λ f. f) kept_named (λ f set. refl) begins (entries_of children s) s t (Stands children) stands
-        (λ names set. stands_kept begins s names set stands) r is
+    pub built_collected : IsBuilt children s → IsBuilt children t
+    built_collected built =
+        collected (λ f. f) kept_named (λ f set. refl) begins (entries_of children s) s t
+        (IsBuilt children) built (λ names set. built_kept begins s names set built) r is
 
     pub line_collected : {X : Type 0} (parent : V → Option Name) (see : V → X)
         → ((v : V) (name : Name) → parent v ≡ Some name → has (children v) name ≡ true)
