@@ -40,14 +40,16 @@ behind_kept begins family names is name kept m path = go path.0 m path.1
 -- a parent is declared
 pub parent_declared : (o : Option Name) (name : Name) → o ≡ Some name → has (of_name o) name ≡ true
 parent_declared None name is = absurd (cc)
-parent_declared (Some parent) name is = or_left _ _ (same_names name parent (sym (same_Some _ _ is)))
+parent_declared (Some parent) name is =
+    or_left _ _ (same_names name parent (sym (same_Some _ _ is)))
 
 -- where nothing is due of a parent, it is read
 pub parent_read : {V : Type 0} (s : State V) (o : Option Name) → due_parent s o ≡ None
     → (name : Name) → has (of_name o) name ≡ true → IsSome (reads s name)
 parent_read s None free name declared = absurd (cc)
 parent_read s (Some parent) free name declared = elim (or_cases _ _ declared) [
-  | inl same ↦ subst (λ n. IsSome (reads s n)) (sym (names_same name parent same)) (read_due s parent free)
+  | inl same ↦
+      subst (λ n. IsSome (reads s n)) (sym (names_same name parent same)) (read_due s parent free)
   | inr none ↦ absurd (cc)
 ]
 
@@ -233,11 +235,13 @@ module _ {V X : Type 0} (children : V → List Name) (parent : V → Option Name
     where
       go : (p : Option Name) → parent v ≡ p → steps_left p < suc name.birth
       go None is = omega arith
-      go (Some above) is = let below = (falls name above v read (declares v above is)).birth in omega arith
+      go (Some above) is =
+          let below = (falls name above v read (declares v above is)).birth in omega arith
 
   -- and what it has seen and what is ahead stay one line
   pub rest_up : (xs : List X) (name : Name) (v : V) → reads s name ≡ Some v
-      → line_rest parent see s xs (Some name) ≡ line_rest parent see s (xs ++ (see v ∷ [])) (parent v)
+      → line_rest parent see s xs (Some name)
+      ≡ line_rest parent see s (xs ++ (see v ∷ [])) (parent v)
   rest_up xs name v read = go (parent v) refl
     where
       longer : (o : Option (List X)) → option_map (λ ys. xs ++ ys) (option_map (λ ys. see v ∷ ys) o)
@@ -348,7 +352,8 @@ module _ {V : Type 0} (children : V → List Name) where
   pub falls_released : (stays : Bool) (s : State V) (b : ℕ) → Falls children s
       → Falls children (released stays s b)
   falls_released stays s b falls =
-      released_either (Falls children) stays s b (falls_taken s b falls) (falls_counted_down s b falls)
+      released_either (Falls children) stays s b (falls_taken s b falls)
+      (falls_counted_down s b falls)
 
   pub falls_kept : (s : State V) (set : Name → Bool) → Falls children s
       → Falls children (kept_named s set)
@@ -461,11 +466,12 @@ module _ {V : Type 0} (children : V → List Name) where
 
   -- what a collection leaves, or that it does nothing
   module _ (begins : Name → Bool) (s t : State V) (r : Result Collected AllocError)
-      (is : Collects (λ (f : State V). f) kept_named (λ f set. refl) begins (entries_of children s) s t r) where
+      (is : Collects (λ (f : State V). f) kept_named (λ f set. refl) begins (entries_of children s)
+      s t r) where
     pub falls_collected : Falls children s → Falls children t
     falls_collected falls =
-        collected (λ f. f) kept_named (λ f set. refl) begins (entries_of children s) s t (Falls children) falls
-        (λ names set. falls_kept s (has names) falls) r is
+        collected (λ f. f) kept_named (λ f set. refl) begins (entries_of children s) s t
+        (Falls children) falls (λ names set. falls_kept s (has names) falls) r is
 
     pub built_collected : IsBuilt children s → IsBuilt children t
     built_collected built =
@@ -474,9 +480,10 @@ module _ {V : Type 0} (children : V → List Name) where
 
     pub line_collected : {X : Type 0} (parent : V → Option Name) (see : V → X)
         → ((v : V) (name : Name) → parent v ≡ Some name → has (children v) name ≡ true)
-        → (name : Name) → Reached begins (entries_of children s) name → line parent see t name ≡ line parent see s name
+        → (name : Name) → Reached begins (entries_of children s) name
+        → line parent see t name ≡ line parent see s name
     line_collected parent see declares name path =
         collected (λ f. f) kept_named (λ f set. refl) begins (entries_of children s) s t
         (λ f. line parent see f name ≡ line parent see s name) refl
-        (λ names set. line_kept begins s names set parent see declares name ((set.reached name).1 path))
-        r is
+        (λ names set.
+        line_kept begins s names set parent see declares name ((set.reached name).1 path)) r is

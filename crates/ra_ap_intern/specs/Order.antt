@@ -51,7 +51,7 @@ module _ {V X : Type 0} where
   unfoldable pub line : (V → Option Name) → (V → X) → State V → Name → Option (List X)
   line parent see s name = line_within parent see s (suc name.birth) name
 
-  -- what a loop that goes up has seen, followed by the line of the name that is next, if there is one
+  -- what a loop that goes up has seen, followed by the line of the next name, if there is one
   abbrev pub line_rest : (V → Option Name) → (V → X) → State V → List X → Option Name
       → Option (List X)
   line_rest parent see s xs None = Some xs

@@ -16,7 +16,7 @@ ghost use Rattle.ra_ap_intern.specs.declared.kind.Values.{Values as ValueKind};
 ghost use Rattle.ra_ap_intern.specs.declared.storage.Ref.{Ref as Reference};
 ghost use Rattle.use_paths.specs.Paths.{declared_by, due_path, last_of, parent_of, paths_of, spelled};
 ghost use Rattle.use_paths.specs.declared.Path.{Path as Node};
-ghost use Rattle.use_paths.specs.declared.Path.TheVariants.{Within as path_within};
+ghost use Rattle.use_paths.specs.declared.Path.TheVariants.{Within as path_of};
 
 use ra_ap_intern::{
     Collected, GarbageCollector, GcInternedVisit, InternStorage, Internable, Interned, InternedRef,
@@ -72,8 +72,8 @@ pub struct Paths {
 }
 
 impl Model for Paths {
-    ghost use Rattle.ra_ap_intern.specs.State.{State, state_code};
     ghost use Rattle.ra_ap_intern.specs.Order.{IsBuilt};
+    ghost use Rattle.ra_ap_intern.specs.State.{State, state_code};
     ghost use Rattle.use_paths.specs.Paths.{declared_by};
     ghost use Rattle.use_paths.specs.contracts.Path as path;
     ghost use Rattle.use_paths.specs.declared.Path.{Path};
@@ -104,12 +104,12 @@ impl Paths {
         name: SymbolRef,
     ) -> Result<PathRef, Refusal>
         ensures name { let eq = ⟦<Path as PartialEq>⟧.eq in
-            IfOk result (λ p. ref_name p ≡ interned_name eq self.old (path_within parent name)) }
+            IfOk result (λ p. ref_name p ≡ interned_name eq self.old (path_of parent name)) }
         ensures refused { let eq = ⟦<Path as PartialEq>⟧.eq in
-            MayWant result (due_path eq self.old (path_within parent name))
-            (is_new eq self.old (path_within parent name)) }
+            MayWant result (due_path eq self.old (path_of parent name))
+            (is_new eq self.old (path_of parent name)) }
         ensures state { let eq = ⟦<Path as PartialEq>⟧.eq in
-            Becomes result self.old self.new (interned eq self.old (path_within parent name)).state }
+            Becomes result self.old self.new (interned eq self.old (path_of parent name)).state }
         ensures stays { (n : Name) (names : List Named) →
             spelled self.old n ≡ Some names → spelled self.new n ≡ Some names }
     {
@@ -166,14 +166,14 @@ impl Paths {
             × IsCollection begins (paths_of self.old) kept told
             × (self.new ≡ kept_named self.old (has kept))) }
         ensures err { OnErr result (self.new ≡ self.old) }
-        ensures stays { let begins = starts_with (list_map ref_name roots.now) (paths_of self.old) in
-            (n : Name) → Reached begins (paths_of self.old) n →
-            spelled self.new n ≡ spelled self.old n }
+        ensures stays { (n : Name) →
+            Reached (starts_with (list_map ref_name roots.now) (paths_of self.old))
+            (paths_of self.old) n → spelled self.new n ≡ spelled self.old n }
     {
         GarbageCollector::new(self.alloc).collect_from(&mut self.paths, &roots)
     }
 
-    /// What can be read is spelled, and its handle is equal to exactly those that are spelled the same.
+    /// What can be read is spelled, and its handle equals exactly those that are spelled the same.
     pub fn handles_tell_paths(&self)
         ensures spelled { (n : Name) → IsSome (reads self.now n) → IsSome (spelled self.now n) }
         ensures equal { (a b : Reference (ValueKind Node)) →
