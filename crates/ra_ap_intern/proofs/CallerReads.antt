@@ -199,7 +199,7 @@ module _ {V : Type 0} where
   -- ---- after a release
 
   -- what holds where the entry is taken out, and where it is counted once less, holds
-  released_either : (P : State V → Type 0) (stays : Bool) (s : State V) (b : ℕ) → P (taken s b)
+  pub released_either : (P : State V → Type 0) (stays : Bool) (s : State V) (b : ℕ) → P (taken s b)
       → P (counted_down s b) → P (released stays s b)
   released_either P stays s b out less = go (is_last stays s b)
     where

@@ -5,9 +5,10 @@ use Rattle.std.specs.Cmp.{IsEquivalence}
 use Rattle.std.specs.HashMap.{HashMap, get, get_by}
 use Rattle.std.specs.List.{filter, flat_map}
 use Rattle.std.specs.Map.{lookup}
-use Rattle.std.specs.Option.{option_map}
+use Rattle.std.specs.Option.{option_eq, option_map}
 use Rattle.std.specs.declared.alloc.AllocError.{AllocError}
 use Rattle.std.proofs.lemmas.Bool.{and_parts, and_from}
+use Rattle.std.proofs.lemmas.Option.{same_Some}
 use Rattle.std.proofs.lemmas.Map.Entries.{lookup-filter-keys}
 use Rattle.ra_ap_intern.specs.Families.{IsCollection, entries_of, kept_named}
 use Rattle.ra_ap_intern.specs.Name.{Name}
@@ -31,6 +32,14 @@ names_same_both a b x y is =
 pub same_names_both : (a b x y : Name) → (a ≡ x) × (b ≡ y)
     → (same_name a x && same_name b y) ≡ true
 same_names_both a b x y is = and_from _ _ (same_names a x is.0) (same_names b y is.1)
+
+-- two names, if there are any, are one
+pub optional_names : (o p : Option Name) → (option_eq same_name o p ≡ true) ↔ (o ≡ p)
+optional_names None None = (λ is. refl, λ is. refl)
+optional_names None (Some m) = (λ is. absurd (cc), λ is. absurd (cc))
+optional_names (Some n) None = (λ is. absurd (cc), λ is. absurd (cc))
+optional_names (Some n) (Some m) =
+    (λ is. ap Some (names_same n m is), λ is. same_names n m (same_Some _ _ is))
 
 -- what is seen of a value that is read
 record IsSeen {V X : Type 0} (view : V → X) (o : Option V) (x : X) : Type 0 where

@@ -2,6 +2,7 @@ pub mod Constants
 pub mod Families
 pub mod Handle
 pub mod Interning
+pub mod Order
 pub mod PairLaws
 pub mod Reserved
 pub mod Slices

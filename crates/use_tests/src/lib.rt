@@ -12,6 +12,8 @@ mod nodes;
 #[cfg(test)]
 mod owed;
 #[cfg(test)]
+mod paths;
+#[cfg(test)]
 mod refusals;
 #[cfg(test)]
 mod removed;
