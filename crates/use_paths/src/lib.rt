@@ -124,10 +124,10 @@ impl Paths {
     fn check(&self, parent: OptionalInternedRef<Path>) -> Result<(), Refusal>
         ensures { Owes result (due_parent self.now (name_if parent)) }
     {
-        if let Some(parent) = parent.name() {
-            self.paths.reference(parent)?;
+        match parent.get() {
+            None => Ok(()),
+            Some(parent) => self.paths.check(parent),
         }
-        Ok(())
     }
 
     /// The parent of a path, if it has one.
