@@ -1,5 +1,5 @@
 -- What a collection leaves of a store.
-use Rattle.std.proofs.Common.{◌≡◌, Bool, true, List, Some, IsSome, is_some, Result, refl, ap, ◌∙◌}
+use Rattle.std.proofs.Common.{◌≡◌, Bool, true, List, Some, IsSome, Result, refl, ap, ◌∙◌}
 use Rattle.std.specs.Option.{option_map}
 use Rattle.std.specs.declared.alloc.AllocError.{AllocError}
 use Rattle.ra_ap_intern.specs.Names.{has}
@@ -23,15 +23,7 @@ module _ (begins : Name → Bool) (s : State (Sliced Symbol TermRef)) (names : L
       → reads s name ≡ Some v → has (arguments v) argument ≡ true → has names argument ≡ true
   arguments_kept name argument v in_names read declares =
       part_kept arguments (λ parts. parts) begins s names is name argument (arguments v) in_names
-      (ap (option_map arguments) read) declares (built name argument v read declares).there
-
-  pub built_kept : IsBuilt (kept_named s (has names))
-  built_kept name argument v read declares =
-      let before = kept_was_read s (has names) name v read in
-      let e = built name argument v before.1 declares in
-      let stays = arguments_kept name argument v before.0 before.1 declares in
-      let still = kept_reads s (has names) argument stays in
-      record { below = e.below; there = ap is_some still ∙ e.there }
+      (ap (option_map arguments) read) declares (built.stands name argument v read declares)
 
   pub tree_kept : (t : Tree) (name : Name) → has names name ≡ true → UnfoldsTo s name t
       → UnfoldsTo (kept_named s (has names)) name t
@@ -50,11 +42,6 @@ module _ (begins : Name → Bool) (s t : State (Sliced Symbol TermRef))
     (r : Result Collected AllocError)
     (is : Collects (λ (f : State (Sliced Symbol TermRef)). f) kept_named (λ f set. refl) begins
     (terms_of s) s t r) (built : IsBuilt s) where
-  pub built_collected : IsBuilt t
-  built_collected =
-      collected (λ f. f) kept_named (λ f set. refl) begins (terms_of s) s t IsBuilt built
-      (λ names reached. built_kept begins s names reached built) r is
-
   pub tree_collected : (name : Name) (x : Tree) → IsSome (reads t name) → UnfoldsTo s name x
       → UnfoldsTo t name x
   tree_collected =

@@ -8,7 +8,7 @@ use Rattle.ra_ap_intern.specs.Kept.{Kept}
 use Rattle.ra_ap_intern.specs.Outcome.{Becomes, MayWant}
 use Rattle.ra_ap_intern.specs.Refusal.{Refusal}
 use Rattle.ra_ap_intern.specs.Refusal.TheVariants.{Foreign}
-use Rattle.ra_ap_intern.specs.State.{State, counted_up, counted_down, due, due_at, any_count, entry_at, full, released, taken, with_count}
+use Rattle.ra_ap_intern.specs.State.{State, counted_up, counted_down, due_at, any_count, entry_at, full, released, taken, with_count}
 use Rattle.ra_ap_intern.specs.Symbols.{IsTable, Named, at_entry, due_of, given_up}
 use Rattle.ra_ap_intern.specs.Symbols.Named.{preset, entry}
 use Rattle.ra_ap_intern.proofs.CallerLemmas.{get-inserted, is_there, not_last}

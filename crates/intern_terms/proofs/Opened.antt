@@ -7,13 +7,14 @@ use Rattle.std.proofs.Math.Nat.{mul-le-mul_right, suc-mul}
 use Rattle.ra_ap_intern.specs.Names.{has}
 use Rattle.ra_ap_intern.specs.Name.{Name}
 use Rattle.ra_ap_intern.specs.Named.{same_name}
+use Rattle.ra_ap_intern.specs.Order.{IsBefore}
 use Rattle.ra_ap_intern.specs.Reach.{Reached}
 use Rattle.ra_ap_intern.specs.Sliced.{Sliced}
 use Rattle.ra_ap_intern.specs.State.{State, name_in, reads}
 use Rattle.ra_ap_intern.specs.declared.symbol.Symbol.{Symbol}
 use Rattle.ra_ap_intern.proofs.CallerLemmas.{read_at, some_read, names_same, same_names}
 use Rattle.intern_terms.specs.Handle.{term_name}
-use Rattle.intern_terms.specs.Store.{arguments, IsBuilt, IsEarlier, terms_of}
+use Rattle.intern_terms.specs.Store.{arguments, IsBuilt, terms_of}
 use Rattle.intern_terms.specs.Walk.{begins_at, items_at, items_of, IsWalk, AreFound, with_name}
 use Rattle.intern_terms.specs.declared.handle.TermRef.{TermRef}
 use Rattle.intern_terms.specs.declared.walk.Open.{Open}
@@ -306,8 +307,11 @@ module _ (s : State (Sliced Symbol TermRef)) (built : IsBuilt s) (found : List N
     declares = has_at read.0.items index argument
         (subst (λ o. slice_get (items_of o) index ≡ Some argument) read.1 at)
 
-    earlier : IsEarlier s (open_name top) (term_name argument)
-    earlier = built (open_name top) (term_name argument) read.0 read.1 declares
+    earlier : IsBefore (term_name argument) (open_name top)
+    earlier = built.falls (open_name top) (term_name argument) read.0 read.1 declares
+
+    stands : IsSome (reads s (term_name argument))
+    stands = built.stands (open_name top) (term_name argument) read.0 read.1 declares
 
     pub deeper_open : AreOpen s found s.next ((rest ++ again ∷ []) ++ deeper ∷ [])
     deeper_open =
@@ -318,8 +322,8 @@ module _ (s : State (Sliced Symbol TermRef)) (built : IsBuilt s) (found : List N
           unfound = here.unfound;
           begun = λ k a from to is. go k a to is (lt_or_le k top.found);
         })) (record {
-          below = earlier.below;
-          there = earlier.there;
+          below = earlier.birth;
+          there = stands;
           unfound = unfound;
           begun = λ k a from to is. absurd (omega arith);
         })
@@ -336,14 +340,14 @@ module _ (s : State (Sliced Symbol TermRef)) (built : IsBuilt s) (found : List N
         reached_push listed s (rest ++ again ∷ []) deeper
         (reached_push listed s rest again parts.0 parts.1)
         (argument_reached listed s (open_name top) (term_name argument) read.0 read.1 declares
-        earlier.there parts.1)
+        stands parts.1)
 
     pub deeper_less : work s found ((rest ++ again ∷ []) ++ deeper ∷ [])
         < work s found (rest ++ top ∷ [])
     deeper_less =
         let now = height_push 0 (rest ++ again ∷ []) deeper in
         let before = height_push 0 rest top in
-        let lower = earlier.below in
+        let lower = earlier.birth in
         rw (now, before) (omega arith)
 
   -- all arguments of the last one were found

@@ -143,9 +143,8 @@ module _ (s : State (Sliced Symbol TermRef)) (built : IsBuilt s) where
   has_tree_below (suc k) n lt is =
       let v = some_read (reads s n) is in
       let forest = has_forest k (has_tree_below k) (arguments v.0) (λ a h.
-      let e = built n a v.0 v.1 h in
-      let below = e.below in
-      (omega arith, e.there)) in
+      let below = (built.falls n a v.0 v.1 h).birth in
+      (omega arith, built.stands n a v.0 v.1 h)) in
       (tree (symbol_name v.0.header) forest.0, (v.0, v.1, refl, forest.1))
 
   pub has_tree : (n : Name) → IsSome (reads s n) → (t : Tree) × UnfoldsTo s n t

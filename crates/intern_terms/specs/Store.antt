@@ -1,17 +1,17 @@
 -- What a store of terms holds, and the words of its contracts.
-use Rattle.std.specs.Prelude.{◌≡◌, ◌<◌, ℕ, Bool, true, ◌&&◌, if◌then◌else◌, List, [], ◌∷◌, map as list_map, Option, Some, None, IsSome}
+use Rattle.std.specs.Prelude.{ℕ, Bool, ◌&&◌, if◌then◌else◌, List, [], ◌∷◌, map as list_map, Option, None}
 use Rattle.std.specs.Cmp.Lexicographic.{pointwise}
 use Rattle.std.specs.FinMap as map
 use Rattle.std.specs.Option.{option_or}
-use Rattle.ra_ap_intern.specs.Names.{has}
 use Rattle.ra_ap_intern.specs.Families.{entries_of, sliced_children}
 use Rattle.ra_ap_intern.specs.Name.{Name}
+use Rattle.ra_ap_intern.specs.Order.{IsBuilt as IsBuiltOf}
 use Rattle.ra_ap_intern.specs.Reach.{Entry}
 use Rattle.ra_ap_intern.specs.Refusal.{Refusal}
 use Rattle.ra_ap_intern.specs.Named.{same_name}
 use Rattle.ra_ap_intern.specs.Sliced.{Sliced}
 use Rattle.ra_ap_intern.specs.Slices.{due_slice, is_new_slice}
-use Rattle.ra_ap_intern.specs.State.{State, IsState, name_in, reads, counted_up, due, full, any_count}
+use Rattle.ra_ap_intern.specs.State.{State, IsState, name_in, counted_up, due, full, any_count}
 use Rattle.ra_ap_intern.specs.Symbols.{at_entry, due_of, given_up, same_named, symbol_name}
 use Rattle.ra_ap_intern.specs.declared.symbol.Symbol.{Symbol}
 use Rattle.intern_terms.specs.Handle.{term_name}
@@ -34,15 +34,9 @@ same_node v w = same_named (symbol_name v.header) (symbol_name w.header)
 abbrev pub names_in : State (Sliced Symbol TermRef) → List Name
 names_in s = list_map (λ e. name_in s e.0) (map.entries s.map)
 
--- an argument reads a term that is earlier than the term of this name
-pub record IsEarlier (s : State (Sliced Symbol TermRef)) (name argument : Name) : Type 0 where
-  pub below : argument.birth < name.birth
-  pub there : IsSome (reads s argument)
-
 -- each argument of each term is an earlier term
 abbrev pub IsBuilt : State (Sliced Symbol TermRef) → Type 0
-IsBuilt s = (name argument : Name) (v : Sliced Symbol TermRef) → reads s name ≡ Some v
-    → has (arguments v) argument ≡ true → IsEarlier s name argument
+IsBuilt s = IsBuiltOf arguments s
 
 -- what holds of every store: no two terms have the same head and the same arguments, and each
 -- argument of a term is an earlier term

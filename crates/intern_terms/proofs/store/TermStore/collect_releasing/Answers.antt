@@ -1,17 +1,17 @@
 use Rattle.std.proofs.Common.{◌∙◌, IsPermutation, IsSome, subst, sym}
 use Rattle.ra_ap_intern.specs.Slices.{named_slices}
 use Rattle.ra_ap_intern.specs.State.{reads}
-use Rattle.ra_ap_intern.proofs.CallerLemmas.{listed_singly}
+use Rattle.ra_ap_intern.proofs.CallerLemmas.{built_kept, listed_singly}
 use Rattle.intern_terms.specs.Handle.{term_name}
-use Rattle.intern_terms.specs.Store.{IsBuilt}
+use Rattle.intern_terms.specs.Store.{arguments, IsBuilt}
 use Rattle.intern_terms.specs.Tree.{UnfoldsTo}
-use Rattle.intern_terms.proofs.Collected.{built_kept, left_tree}
+use Rattle.intern_terms.proofs.Collected.{left_tree}
 use Rattle.intern_terms.proofs.store.TermStore.collect_releasing.Goals as goal
 
 pub invariant_of-self : goal.invariant_of-self
 invariant_of-self g c =
     subst IsBuilt (sym c.sweep.ensures.family)
-    (built_kept _ _ _ c.in_ok-trace.ensures.reached c.self.invariant)
+    (built_kept arguments _ _ _ c.in_ok-trace.ensures.reached c.self.invariant)
 
 pub returns-clause-ok : goal.returns-clause-ok
 returns-clause-ok g c =
