@@ -36,7 +36,7 @@ pub enum Refusal {
 ///
 /// `?` turns it into the [`Refusal`] alone, and lets what comes back go: where that is a handle, its
 /// count stays. Take `back` out where it is still needed.
-#[derive(Debug, Drop)]
+#[derive(Debug, Drop, PartialEq, Eq)]
 pub struct Refused<H> {
     /// The reason.
     pub why: Refusal,

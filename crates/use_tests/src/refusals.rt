@@ -1,5 +1,5 @@
 //! What callers read of refusals.
-use ra_ap_intern::{InternStorage, Limits, Refusal, SymbolTable, Text};
+use ra_ap_intern::{InternStorage, Limits, Refusal, Refused, SymbolTable, Text};
 use std::alloc::Global;
 use std::process::Abort;
 use use_refusals::{Token, handle_and_symbol, handle_of, handle_of_some, handle_of_token};
@@ -21,14 +21,23 @@ fn refusals_tell_what_to_do(rt: HostRuntime) {
     let empty = handle_of_some(&mut words, word(&rt, alloc, "")).expect_err(&rt, "empty");
     let text = format!(in alloc; "{empty}").expect(&rt, "memory");
     assert_eq!(rt; text.as_str(), "the word is empty");
-    let word = word(&rt, alloc, "two");
-    let refused = handle_of_token(&mut words, Token { word, line: 7 }).expect_err(&rt, "used up");
-    let text = format!(in alloc; "{}", refused.why).expect(&rt, "memory");
+    let offered = word(&rt, alloc, "two");
+    let token = Token {
+        word: offered,
+        line: 7,
+    };
+    let refused = handle_of_token(&mut words, token).expect_err(&rt, "used up");
+    let text = format!(in alloc; "{refused}").expect(&rt, "memory");
     assert_eq!(rt;
         text.as_str(),
         "the storage has given all its births; begin another one"
     );
-    assert_eq!(rt; (refused.back.word.as_str(), refused.back.line), ("two", 7));
+    let word = word(&rt, alloc, "two");
+    let expected = Refused {
+        why: Refusal::NumbersUsedUp,
+        back: Token { word, line: 7 },
+    };
+    assert!(rt; refused == expected);
 }
 
 #[test]
