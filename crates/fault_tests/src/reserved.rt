@@ -54,6 +54,7 @@ pub(crate) fn check_reserved(rt: &(impl Print + Eprint), alloc: Global) -> Resul
     texts(rt, alloc)
 }
 
+// Each storage is made in a function of its own, so that none is dropped at another's `?`.
 fn fresh_values(rt: &(impl Print + Eprint), alloc: Global) -> Result<(), Fault> {
     reserve_values(rt, &mut InternStorage::new(alloc, 1))
 }

@@ -239,7 +239,7 @@ fn head(alloc: Global, table: &mut SymbolTable, leaves: usize, place: usize) -> 
     }
 }
 
-// The symbol of a text. Of a text that it knows, the prover would look it up among the presets.
+// The symbol of a text. With the calls of this in it, `head` took the prover far longer.
 fn symbol(table: &mut SymbolTable, text: &str) -> Result<Symbol, Refusal> {
     Symbol::intern(table, text)
 }

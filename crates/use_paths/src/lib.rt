@@ -29,6 +29,7 @@ use std::marker::Model;
 /// A path: its last name, and its parent, if it has one.
 #[derive(Drop, PartialEq, Eq, Hash)]
 pub enum Path {
+    /// A name within a parent, or alone.
     Within {
         parent: OptionalInternedRef<Path>,
         name: SymbolRef,

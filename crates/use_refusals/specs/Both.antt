@@ -7,7 +7,8 @@ use Rattle.ra_ap_intern.specs.State.{State, is_new, interned_name, interned_coun
 use Rattle.ra_ap_intern.specs.Symbols.{due_symbol, is_new_text}
 
 -- the words refused it, and are as they were; or else the table, and the handle is released
-abbrev pub IsOfEither : Refusal → State (List ℕ) → State (List ℕ) → State (List ℕ) → List ℕ → Type 0
+abbrev pub IsOfEither : Refusal → State (List ℕ) → State (List ℕ) → State (List ℕ) → List ℕ
+    → Type 0
 IsOfEither why old new table word =
     let due = due_interning bytes_eq old word (full old.top) in
     (IsWhy due (is_new bytes_eq old word) why × (new ≡ old))
