@@ -9,6 +9,7 @@ use Rattle.ra_ap_intern.specs.Handle.{ref_name}
 use Rattle.ra_ap_intern.specs.Name.{Name}
 use Rattle.ra_ap_intern.specs.Named.{same_name}
 use Rattle.ra_ap_intern.specs.State.{State, IsState, reads, interned, name_of_value}
+use Rattle.ra_ap_intern.specs.Under.{under_name}
 use Rattle.ra_ap_intern.proofs.CallerLemmas.{names_same, some_read, interned_reads_on, found_itself, kept_was_read}
 use Rattle.queries.specs.declared.cache.Memo.{Memo}
 use Rattle.queries.specs.declared.key.Key.{Key}
@@ -16,7 +17,7 @@ use Rattle.queries.specs.declared.key.Key.TheVariants.{Cell, Total}
 use Rattle.queries.specs.declared.place.Place.{Place}
 use Rattle.queries.specs.declared.value.Answer.TheVariants as answer
 use Rattle.queries.specs.declared.value.Value.{Value}
-use Rattle.queries.specs.Cache.{Handle, memo_in, IsMemo, AreMemos, ReadsOn}
+use Rattle.queries.specs.Cache.{Handle, IsMemo, AreMemos, ReadsOn}
 use Rattle.queries.specs.Evaluation.{IsRight}
 use Rattle.queries.specs.Sheet.{Formulas, formula_at, same_place, cell_value, gives}
 
@@ -59,14 +60,14 @@ module _ {S : Type 0} (sheet : Formulas) where
   pub memo_put : (keys : State Key) (revision : ℕ) (old new : HashMap Handle Memo S)
       (handle : Handle) (memo : Memo) → AreMemos sheet keys revision old
       → IsMemo sheet keys revision (ref_name handle) memo
-      → ((h : Handle) → memo_in new (ref_name h)
-      ≡ cond (same_name (ref_name handle) (ref_name h)) (Some memo) (memo_in old (ref_name h)))
+      → ((h : Handle) → under_name new (ref_name h)
+      ≡ cond (same_name (ref_name handle) (ref_name h)) (Some memo) (under_name old (ref_name h)))
       → AreMemos sheet keys revision new
   memo_put keys revision old new handle memo is one put h other at =
       go (same_name (ref_name handle) (ref_name h)) refl (sym (put h) ∙ at)
     where
       go : (t : Bool) → same_name (ref_name handle) (ref_name h) ≡ t
-          → cond t (Some memo) (memo_in old (ref_name h)) ≡ Some other
+          → cond t (Some memo) (under_name old (ref_name h)) ≡ Some other
           → IsMemo sheet keys revision (ref_name h) other
       go true same found =
           subst (λ (m : Memo). IsMemo sheet keys revision (ref_name h) m) (same_Some _ _ found)
@@ -120,8 +121,8 @@ module _ (old new : Formulas) (place : Place)
   pub memos_edited : {S : Type 0} (keys later : State Key) (revision next : ℕ)
       (memos left : HashMap Handle Memo S) → later ≡ keys → next ≡ revision + 1
       → AreMemos old keys revision memos
-      → ((h : Handle) → reads keys (ref_name h) ≡ Some (Cell place) → memo_in left (ref_name h) ≡ None)
-      → ((h : Handle) (memo : Memo) → memo_in left (ref_name h) ≡ Some memo → memo_in memos (ref_name h) ≡ Some memo)
+      → ((h : Handle) → reads keys (ref_name h) ≡ Some (Cell place) → under_name left (ref_name h) ≡ None)
+      → ((h : Handle) (memo : Memo) → under_name left (ref_name h) ≡ Some memo → under_name memos (ref_name h) ≡ Some memo)
       → AreMemos new later next left
   memos_edited keys later revision next memos left same_keys one_more is gone kept h memo at =
       let m = is h memo (kept h memo at) in
@@ -148,14 +149,14 @@ module _ (old new : Formulas) (place : Place)
 pub memos_kept : {S : Type 0} (sheet : Formulas) (keys later : State Key) (revision : ℕ)
     (memos left : HashMap Handle Memo S) (set : Name → Bool) → AreMemos sheet keys revision memos
     → later ≡ kept_named keys set
-    → ((h : Handle) → memo_in left (ref_name h)
-    ≡ cond (is_some (reads later (ref_name h))) (memo_in memos (ref_name h)) None)
+    → ((h : Handle) → under_name left (ref_name h)
+    ≡ cond (is_some (reads later (ref_name h))) (under_name memos (ref_name h)) None)
     → AreMemos sheet later revision left
 memos_kept sheet keys later revision memos left set is kept filtered h memo at =
     go (is_some (reads later (ref_name h))) refl (sym (filtered h) ∙ at)
   where
     go : (t : Bool) → is_some (reads later (ref_name h)) ≡ t
-        → cond t (memo_in memos (ref_name h)) None ≡ Some memo
+        → cond t (under_name memos (ref_name h)) None ≡ Some memo
         → IsMemo sheet later revision (ref_name h) memo
     go true stays found =
         let m = is h memo found in

@@ -1,13 +1,13 @@
 -- What a cache keeps true of its memos.
 use Rattle.std.specs.Prelude.{◌≡◌, ℕ, ◌+◌, ◌-◌, ◌^◌, ◌≤◌, ◌==◌, min, List, [], Option, None, Some, is_some, if◌then◌else◌}
-use Rattle.std.specs.HashMap.{HashMap, get_by}
+use Rattle.std.specs.HashMap.{HashMap}
 use Rattle.ra_ap_intern.specs.Families.{IsCollection, entries_of, kept_named}
 use Rattle.ra_ap_intern.specs.Handle.{ref_name}
 use Rattle.ra_ap_intern.specs.Name.{Name}
-use Rattle.ra_ap_intern.specs.Named.{same_name}
 use Rattle.ra_ap_intern.specs.Names.{has}
 use Rattle.ra_ap_intern.specs.Reach.{Entry, starts_with}
 use Rattle.ra_ap_intern.specs.State.{State, reads}
+use Rattle.ra_ap_intern.specs.Under.{under_name}
 use Rattle.ra_ap_intern.specs.declared.gc.Collected.{Collected}
 use Rattle.ra_ap_intern.specs.declared.kind.Values.{Values}
 use Rattle.ra_ap_intern.specs.declared.storage.Ref.{Ref}
@@ -25,13 +25,9 @@ use Rattle.queries.specs.Sheet.{Formulas, gives}
 abbrev pub Handle : Type 0
 Handle = Ref (Values Key)
 
-module _ {S : Type 0} where
-  -- the memo of a name
-  abbrev pub memo_in : HashMap Handle Memo S → Name → Option Memo
-  memo_in memos name = get_by (λ r. same_name name (ref_name r)) memos
-
+-- the memo of a name
 abbrev pub memo_at : Cache → Name → Option Memo
-memo_at cache name = memo_in cache.memos name
+memo_at cache name = under_name cache.memos name
 
 -- a memo of a query: its value is what the query gives from the values that the memo has read, and
 -- its answer is right if it is of this revision
@@ -45,7 +41,7 @@ pub record IsMemo (sheet : Formulas) (keys : State Key) (revision : ℕ) (name :
 -- each memo is one
 abbrev pub AreMemos : {S : Type 0} → Formulas → State Key → ℕ → HashMap Handle Memo S → Type 0
 AreMemos sheet keys revision memos = (handle : Handle) (memo : Memo)
-    → memo_in memos (ref_name handle) ≡ Some memo
+    → under_name memos (ref_name handle) ≡ Some memo
     → IsMemo sheet keys revision (ref_name handle) memo
 
 abbrev pub IsCache : Formulas → Cache → Type 0

@@ -14,7 +14,13 @@ use Rattle.ra_ap_intern.specs.Name.{Name}
 use Rattle.ra_ap_intern.specs.Named.{same_name}
 use Rattle.ra_ap_intern.specs.Outcome.{OwesBack, Becomes}
 use Rattle.ra_ap_intern.specs.State.{State, IsState, name_in, reads, counts, counted_up, due, zero_count, added, or_added, interned, interned_name, interned_counted, released, birth_of, name_of_value}
-use Rattle.ra_ap_intern.proofs.CallerReads.{read_at, read_below, read_once, reads-added, counts_read, counts-recounted, due_counted, counted_up_reads, interned_reads_given}
+use Rattle.ra_ap_intern.proofs.CallerReads.{read_at, read_below, read_once, reads-added, counts_read, counts-recounted, due_counted, counted_up_reads, interned_reads_given, interned_reads_on, interned_counted_reads_on}
+
+same_members : {X : Type 0} (a b : Option X) → ((x : X) → a ≡ Some x → b ≡ Some x)
+    → ((x : X) → b ≡ Some x → a ≡ Some x) → a ≡ b
+same_members (Some x) b there back = sym (there x refl)
+same_members None (Some y) there back = back y refl
+same_members None None there back = refl
 
 module _ {V : Type 0} (eq : V → V → Bool) where
   -- a value equal to v is read under a name
@@ -166,6 +172,37 @@ module _ {V : Type 0} (eq : V → V → Bool) where
       → reads (interned eq s v).state name ≡ Some w → (v ≡ w) ⊎ (reads s name ≡ Some w)
   interned_or_read s v name w read =
       elim (interned_new_or_read s v name w read) [ inl new ↦ inl new.1 | inr old ↦ inr old ]
+
+  -- ---- what look-ups of other values answer after an interning
+
+  -- the look-up of a value that isn't equal to the interned one finds what it found
+  found_elsewhere : IsEquivalence eq → (s t : State V) (v : V) → IsState eq s → IsState eq t
+      → ((n : Name) (u : V) → reads s n ≡ Some u → reads t n ≡ Some u)
+      → ((n : Name) (u : V) → reads t n ≡ Some u → (v ≡ u) ⊎ (reads s n ≡ Some u)) → (w : V)
+      → eq v w ≡ false → name_of_value eq t w ≡ name_of_value eq s w
+  found_elsewhere laws s t v ok is on back w other = same_members _ _
+      (λ n at.
+      let r = found_reads t w n at in
+      elim (back n r.0 r.1) [
+        | inl same ↦ let no : eq v w ≡ true = laws.symm v w ∙ ap (eq w) same ∙ r.2 in absurd (cc)
+        | inr read ↦ read_found laws s ok w n r.0 read r.2
+      ])
+      (λ n at. let r = found_reads s w n at in read_found laws t is w n r.0 (on n r.0 r.1) r.2)
+
+  pub interned_found_elsewhere : IsEquivalence eq → (s : State V) (v : V) → IsState eq s
+      → IsState eq (interned eq s v).state → (w : V) → eq v w ≡ false
+      → name_of_value eq (interned eq s v).state w ≡ name_of_value eq s w
+  interned_found_elsewhere laws s v ok is =
+      found_elsewhere laws s (interned eq s v).state v ok is (interned_reads_on eq s ok v)
+      (interned_or_read s v)
+
+  pub interned_counted_found_elsewhere : IsEquivalence eq → (s : State V) (v : V) → IsState eq s
+      → IsState eq (interned_counted eq s v) → (w : V) → eq v w ≡ false
+      → name_of_value eq (interned_counted eq s v) w ≡ name_of_value eq s w
+  interned_counted_found_elsewhere laws s v ok is =
+      let i = interned eq s v in
+      found_elsewhere laws s (interned_counted eq s v) v ok is (interned_counted_reads_on eq s ok v)
+      (λ n u read. interned_or_read s v n u (sym (counted_up_reads i.state i.birth n) ∙ read))
 
   added_telling : IsEquivalence eq → (s : State V) (v : V) → IsTelling s
       → name_of_value eq s v ≡ None → IsTelling (added s v)

@@ -1,6 +1,5 @@
 -- Symbols and the texts that they name: what a table names after an interning.
-use Rattle.std.proofs.Common.{◌≡◌, ◌↔◌, ℕ, ◌-◌, ◌^◌, Bool, true, false, cond, List, Option, Some, None, inl, inr, refl, sym, ap, subst, ◌∙◌}
-use Rattle.std.specs.HashMap.{HashMap, get, get_by}
+use Rattle.std.proofs.Common.{◌≡◌, ◌↔◌, ℕ, ◌-◌, ◌^◌, Bool, true, false, List, Option, Some, None, refl, sym, ap, ◌∙◌}
 use Rattle.std.specs.Option.{option_map}
 use Rattle.std.specs.Str.{bytes_eq}
 use Rattle.std.specs.Cmp.Lexicographic.{nat_list_eq_equiv}
@@ -9,15 +8,15 @@ use Rattle.std.proofs.lemmas.Option.{same_Some}
 use Rattle.std.proofs.lemmas.Slice.Eq.{bytes_eq-Decides}
 use Rattle.ra_ap_intern.specs.Presets.{place_of}
 use Rattle.ra_ap_intern.specs.Name.{Name}
-use Rattle.ra_ap_intern.specs.State.{State, IsState, reads, name_of_value, interned, interned_counted}
+use Rattle.ra_ap_intern.specs.State.{State, IsState, reads, name_of_value}
 use Rattle.ra_ap_intern.specs.Symbols.{Named, same_named, source_of, symbol_ref_name, text_of, named_in, named_at, symbol_in, symbol_at, due_symbol, due_symbol_at}
 use Rattle.ra_ap_intern.specs.Symbols.Named.{preset, entry}
 use Rattle.ra_ap_intern.specs.declared.symbol.SymbolRef.{SymbolRef}
 use Rattle.intern_store.proofs.Named.{names_same, same_names}
-use Rattle.ra_ap_intern.proofs.CallerInterning.{found_reads, read_found, interned_counted_reads, interned_or_read}
-use Rattle.ra_ap_intern.proofs.CallerReads.{counted_up_reads, interned_counted_reads_on}
+use Rattle.ra_ap_intern.proofs.CallerInterning.{found_reads, read_found, interned_counted_reads, interned_counted_found_elsewhere}
+use Rattle.ra_ap_intern.proofs.CallerReads.{interned_counted_reads_on}
 use Rattle.ra_ap_intern.proofs.CallerStates.{state_interned_counted}
-use Rattle.ra_ap_intern.proofs.CallerViews.{equality_tested, map_named, map_changed}
+use Rattle.ra_ap_intern.proofs.CallerViews.{equality_tested}
 use Rattle.ra_ap_intern.proofs.Texts.{reads_back as symbol_reads}
 
 -- symbols that are found to name the same do
@@ -46,32 +45,6 @@ pub references_tested : (eq : SymbolRef → SymbolRef → Bool)
 references_tested eq alike =
     equality_tested eq same_named symbol_ref_name alike named_same same_nameds
 
--- a map under symbols is read by what they name, also after a value was put under one or taken away,
--- or where it holds the same in another order
-module _ {M S : Type 0} (eq : SymbolRef → SymbolRef → Bool) (alike : (a b : SymbolRef) → (eq a b ≡ true) ↔ (symbol_ref_name a ≡ symbol_ref_name b)) where
-  pub symbols_named : (m : HashMap SymbolRef M S) (a : SymbolRef)
-      → get eq m a ≡ get_by (λ s. same_named (symbol_ref_name a) (symbol_ref_name s)) m
-  symbols_named = map_named eq same_named symbol_ref_name (references_tested eq alike)
-
-  pub symbols_changed : (old new : HashMap SymbolRef M S) (key : SymbolRef) (value : Option M)
-      → ((q : SymbolRef) → get eq new q ≡ cond (eq key q) value (get eq old q)) → (a : Named)
-      → get_by (λ s. same_named a (symbol_ref_name s)) new
-      ≡ cond (same_named (symbol_ref_name key) a) value (get_by (λ s. same_named a (symbol_ref_name s)) old)
-  symbols_changed old new key value is a =
-      let r = named_by a in
-      subst (λ b. get_by (λ s. same_named b (symbol_ref_name s)) new
-      ≡ cond (same_named (symbol_ref_name key) b) value (get_by (λ s. same_named b (symbol_ref_name s)) old)) r.1
-      (map_changed eq same_named symbol_ref_name (references_tested eq alike) old new key value is r.0)
-
-  pub symbols_same : (old new : HashMap SymbolRef M S) → ((q : SymbolRef) → get eq new q ≡ get eq old q)
-      → (a : Named) → get_by (λ s. same_named a (symbol_ref_name s)) new
-      ≡ get_by (λ s. same_named a (symbol_ref_name s)) old
-  symbols_same old new same a =
-      let r = named_by a in
-      subst (λ b. get_by (λ s. same_named b (symbol_ref_name s)) new
-      ≡ get_by (λ s. same_named b (symbol_ref_name s)) old) r.1
-      (sym (symbols_named new r.0) ∙ same r.0 ∙ symbols_named old r.0)
-
 -- a table stays one where a text is interned that nothing refuses
 pub state_symbol : (s : State (List ℕ)) (text : List ℕ) → IsState bytes_eq s
     → due_symbol s text ≡ None → IsState bytes_eq (symbol_in s text).table
@@ -80,22 +53,6 @@ state_symbol s text ok due = go (place_of text) due
     go : (p : Option ℕ) → due_symbol_at p s text ≡ None → IsState bytes_eq (symbol_at p s text).table
     go (Some place) free = ok
     go None free = state_interned_counted bytes_eq nat_list_eq_equiv s text ok free
-
-same_members : {X : Type 0} (a b : Option X) → ((x : X) → a ≡ Some x → b ≡ Some x)
-    → ((x : X) → b ≡ Some x → a ≡ Some x) → a ≡ b
-same_members (Some x) b there back = sym (there x refl)
-same_members None (Some y) there back = back y refl
-same_members None None there back = refl
-
--- what is read after an interning was read before, where it isn't what was interned
-reads_back : (s : State (List ℕ)) (v w : List ℕ) (n : Name) → bytes_eq v w ≡ false
-    → reads (interned_counted bytes_eq s v) n ≡ Some w → reads s n ≡ Some w
-reads_back s v w n other is =
-    let i = interned bytes_eq s v in
-    elim (interned_or_read bytes_eq s v n w (sym (counted_up_reads i.state i.birth n) ∙ is)) [
-      | inl same ↦ let no = (bytes_eq-Decides v w).1 same in absurd (cc)
-      | inr read ↦ read
-    ]
 
 -- ---- after a text is interned
 
@@ -116,24 +73,13 @@ module _ (s : State (List ℕ)) (name : List ℕ) (ok : IsState bytes_eq s) (fre
       → named_in (symbol_in s name).table text ≡ named_in s text
   named_there text other = go (place_of name) (place_of text) (state_symbol s name ok free)
     where
-      found : IsState bytes_eq (interned_counted bytes_eq s name)
-          → name_of_value bytes_eq (interned_counted bytes_eq s name) text ≡ name_of_value bytes_eq s text
-      found is = same_members _ _
-          (λ n at.
-          let r = found_reads bytes_eq (interned_counted bytes_eq s name) text n at in
-          let differs = ap (bytes_eq name) (sym ((bytes_eq-Decides text r.0).0 r.2)) ∙ other in
-          read_found bytes_eq nat_list_eq_equiv s ok text n r.0
-          (reads_back s name r.0 n differs r.1) r.2)
-          (λ n at.
-          let r = found_reads bytes_eq s text n at in
-          read_found bytes_eq nat_list_eq_equiv (interned_counted bytes_eq s name) is text n r.0
-          (interned_counted_reads_on bytes_eq s ok name n r.0 r.1) r.2)
-
       go : (p q : Option ℕ) → IsState bytes_eq (symbol_at p s name).table
           → named_at q (symbol_at p s name).table text ≡ named_at q s text
       go p (Some place) is = refl
       go (Some place) None is = refl
-      go None None is = ap (option_map entry) (found is)
+      go None None is =
+          ap (option_map entry)
+          (interned_counted_found_elsewhere bytes_eq nat_list_eq_equiv s name ok is text other)
 
 -- a text's symbol reads it
 pub named_reads : (s : State (List ℕ)) (text : List ℕ) (a : Named) → named_in s text ≡ Some a

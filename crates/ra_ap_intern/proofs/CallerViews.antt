@@ -1,15 +1,12 @@
 -- What is known of values that are equal exactly if they are seen as the same, and what a collection
 -- leaves of them.
-use Rattle.std.proofs.Common.{◌≡◌, ◌↔◌, Bool, true, false, ◌&&◌, cond, List, [], ◌∷◌, map, Option, Some, None, IsSome, is_some, Result, Ok, Err, IfOk, OnErr, refl, sym, ap, subst, ◌∙◌}
+use Rattle.std.proofs.Common.{◌≡◌, ◌↔◌, Bool, true, false, ◌&&◌, List, [], ◌∷◌, map, Option, Some, None, IsSome, is_some, Result, Ok, Err, IfOk, OnErr, refl, sym, ap, subst, ◌∙◌}
 use Rattle.std.specs.Cmp.{IsEquivalence}
-use Rattle.std.specs.HashMap.{HashMap, get, get_by}
-use Rattle.std.specs.List.{filter, flat_map}
-use Rattle.std.specs.Map.{lookup}
+use Rattle.std.specs.List.{flat_map}
 use Rattle.std.specs.Option.{option_eq, option_map}
 use Rattle.std.specs.declared.alloc.AllocError.{AllocError}
 use Rattle.std.proofs.lemmas.Bool.{and_parts, and_from}
 use Rattle.std.proofs.lemmas.Option.{same_Some}
-use Rattle.std.proofs.lemmas.Map.Entries.{lookup-filter-keys}
 use Rattle.ra_ap_intern.specs.Families.{IsCollection, entries_of, kept_named}
 use Rattle.ra_ap_intern.specs.Name.{Name}
 use Rattle.ra_ap_intern.specs.Named.{same_name}
@@ -168,29 +165,6 @@ pub handles_tested : {H : Type 0} (eq : H → H → Bool) (name : H → Name)
     → (a b : H) → eq a b ≡ same_name (name a) (name b)
 handles_tested eq name alike =
     equality_tested eq same_name name alike names_same (λ n. same_names n n refl)
-
--- a map under handles is read by what they name
-module _ {H N M S : Type 0} (eq : H → H → Bool) (test : N → N → Bool) (view : H → N) (tested : (a b : H) → eq a b ≡ test (view a) (view b)) where
-  pub map_named : (m : HashMap H M S) (h : H) → get eq m h ≡ get_by (λ r. test (view h) (view r)) m
-  map_named m h = λ i. get_by (λ r. tested h r i) m
-
-  -- after a value was put under a handle, or taken away
-  pub map_changed : (old new : HashMap H M S) (handle : H) (value : Option M)
-      → ((h : H) → get eq new h ≡ cond (eq handle h) value (get eq old h)) → (h : H)
-      → get_by (λ r. test (view h) (view r)) new
-      ≡ cond (test (view handle) (view h)) value (get_by (λ r. test (view h) (view r)) old)
-  map_changed old new handle value is h =
-      sym (map_named new h) ∙ is h ∙ (λ i. cond (tested handle h i) value (map_named old h i))
-
--- after those whose names pass were retained
-pub map_retained : {H N M S : Type 0} (test : N → N → Bool) (view : H → N)
-    → ((n m : N) → test n m ≡ true → n ≡ m) → (passes : N → Bool) (old new : HashMap H M S)
-    → new.entries ≡ filter (λ e. passes (view e.0)) old.entries → (n : N)
-    → get_by (λ r. test n (view r)) new ≡ cond (passes n) (get_by (λ r. test n (view r)) old) None
-map_retained test view same passes old new kept n =
-    ap (lookup (λ r. test n (view r))) kept
-    ∙ lookup-filter-keys (λ r. test n (view r)) (λ r. passes (view r)) (passes n)
-    (λ r is. sym (ap passes (same n (view r) is))) old.entries
 
 -- what a collection keeps of a reached value: those of its parts that are read
 pub part_kept : {V X : Type 0} (view : V → X) (parts : X → List Name) (begins : Name → Bool)

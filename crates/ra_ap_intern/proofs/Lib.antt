@@ -3,6 +3,7 @@ mod Births
 pub mod CallerCollections
 pub mod CallerInterning
 pub mod CallerLemmas
+pub mod CallerMaps
 pub mod CallerOrder
 pub mod CallerReads
 pub mod CallerSlices

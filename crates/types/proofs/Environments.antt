@@ -1,6 +1,6 @@
 -- What environments declare, before and after a change.
 use Rattle.std.proofs.Common.{◌≡◌, ◌↔◌, Bool, true, false, cond, List, [], ◌∷◌, map, Option, Some, Result, IfOk, OnErr, refl, sym, ap, subst, ◌∙◌}
-use Rattle.std.specs.HashMap.{HashMap, get, get_by}
+use Rattle.std.specs.HashMap.{HashMap, get}
 use Rattle.std.specs.Map.{lookup, values_of}
 use Rattle.std.specs.Option.{option_map}
 use Rattle.std.specs.declared.alloc.AllocError.{AllocError}
@@ -13,6 +13,7 @@ use Rattle.ra_ap_intern.specs.Names.{has}
 use Rattle.ra_ap_intern.specs.Reach.{IsReachedSet, starts_with}
 use Rattle.ra_ap_intern.specs.State.{State}
 use Rattle.ra_ap_intern.specs.Symbols.{Named, same_named, symbol_ref_name}
+use Rattle.ra_ap_intern.specs.Under.{under_symbol}
 use Rattle.ra_ap_intern.specs.declared.gc.Collected.{Collected}
 use Rattle.ra_ap_intern.specs.declared.kind.Values.{Values}
 use Rattle.ra_ap_intern.specs.declared.storage.Ref.{Ref}
@@ -88,8 +89,7 @@ pub declared_on : {S : Type 0} (eq : SymbolRef → SymbolRef → Bool)
     → declared_as n a ≡ cond (same_named (symbol_ref_name key) a) (Some (ref_name v)) (declared_as m a)
 declared_on eq alike m n key v put a =
     ap (option_map ref_name) (symbols_changed eq alike m n key (Some v) put a)
-    ∙ through (same_named (symbol_ref_name key) a)
-    (get_by (λ s. same_named a (symbol_ref_name s)) m)
+    ∙ through (same_named (symbol_ref_name key) a) (under_symbol m a)
   where
     through : (t : Bool) (o : Option (Ref (Values TypeNode)))
         → option_map ref_name (cond t (Some v) o) ≡ cond t (Some (ref_name v)) (option_map ref_name o)

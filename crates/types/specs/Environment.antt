@@ -1,10 +1,11 @@
 -- What is declared in an environment.
 use Rattle.std.specs.Prelude.{◌≡◌, false, Option, Some, List, map}
 use Rattle.std.specs.Option.{option_map}
-use Rattle.std.specs.HashMap.{HashMap, get_by, values}
+use Rattle.std.specs.HashMap.{HashMap, values}
 use Rattle.ra_ap_intern.specs.Handle.{ref_name}
 use Rattle.ra_ap_intern.specs.Name.{Name}
-use Rattle.ra_ap_intern.specs.Symbols.{Named, same_named, symbol_ref_name}
+use Rattle.ra_ap_intern.specs.Symbols.{Named, same_named}
+use Rattle.ra_ap_intern.specs.Under.{under_symbol}
 use Rattle.ra_ap_intern.specs.declared.kind.Values.{Values}
 use Rattle.ra_ap_intern.specs.declared.storage.Ref.{Ref}
 use Rattle.ra_ap_intern.specs.declared.symbol.SymbolRef.{SymbolRef}
@@ -15,8 +16,7 @@ use Rattle.types.specs.declared.value.TypeNode.{TypeNode}
 module _ {S : Type 0} where
   -- the type that a name is declared with
   abbrev pub declared_as : HashMap SymbolRef (Ref (Values TypeNode)) S → Named → Option Name
-  declared_as declared name =
-      option_map ref_name (get_by (λ s. same_named name (symbol_ref_name s)) declared)
+  declared_as declared name = option_map ref_name (under_symbol declared name)
 
   -- the types of all names
   abbrev pub declared_types : HashMap SymbolRef (Ref (Values TypeNode)) S → List Name

@@ -7,7 +7,7 @@ ghost use Rattle.ra_ap_intern.specs.Outcome.{Becomes};
 ghost use Rattle.ra_ap_intern.specs.Refusal.TheVariants.{OutOfMemory};
 ghost use Rattle.ra_ap_intern.specs.State.{new_state};
 ghost use Rattle.ra_ap_intern.specs.Symbols.{symbol_in, due_symbol};
-ghost use Rattle.use_names.specs.Scope.{declared};
+ghost use Rattle.ra_ap_intern.specs.Under.{under_text};
 
 use ra_ap_intern::{Refusal, Symbol, SymbolRef, SymbolTable, laws};
 use std::alloc::Global;
@@ -26,7 +26,7 @@ impl<V: Drop> Scope<V> {
     /// A scope with nothing declared.
     pub fn new(alloc: Global, number: u64) -> Scope<V>
         ensures names { result.names ≡ new_state number u64.MAX u64.MAX }
-        ensures values { (text : List ℕ) → declared result.names result.values text ≡ None }
+        ensures values { (text : List ℕ) → under_text result.names result.values text ≡ None }
     {
         Scope {
             names: SymbolTable::new(alloc, number),
@@ -43,11 +43,11 @@ impl<V: Drop> Scope<V> {
         ensures names { Becomes result self.old.names self.new.names
             (symbol_in self.old.names name.now).table }
         ensures declares { OnOk result ((text : List ℕ) →
-            declared self.new.names self.new.values text ≡ (if bytes_eq name.now text
-            then Some value else declared self.old.names self.old.values text)) }
+            under_text self.new.names self.new.values text ≡ (if bytes_eq name.now text
+            then Some value else under_text self.old.names self.old.values text)) }
         ensures stays { OnErr result ((text : List ℕ) →
-            declared self.new.names self.new.values text
-            ≡ declared self.old.names self.old.values text) }
+            under_text self.new.names self.new.values text
+            ≡ under_text self.old.names self.old.values text) }
     {
         laws::symbol_references_are_what_they_name();
         let _number = self.names.number();
@@ -60,7 +60,7 @@ impl<V: Drop> Scope<V> {
 
     /// What was declared last under a name. None where nothing was. It takes no memory.
     pub fn look_up(&self, name: &str) -> Option<&V>
-        ensures { option_copied result ≡ declared self.now.names self.now.values name.now }
+        ensures { option_copied result ≡ under_text self.now.names self.now.values name.now }
     {
         laws::symbol_references_are_what_they_name();
         self.values.get(&self.names.get(name)?)

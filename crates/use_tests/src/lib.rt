@@ -6,6 +6,8 @@ mod hashers;
 #[cfg(test)]
 mod lookups;
 #[cfg(test)]
+mod memos;
+#[cfg(test)]
 mod names;
 #[cfg(test)]
 mod nodes;

@@ -1,0 +1,245 @@
+-- Maps under handles and symbols: what they have under each name, value and text after a change.
+use Rattle.std.proofs.Common.{◌≡◌, ◌↔◌, ℕ, Bool, true, false, cond, List, Result, Ok, Err, OnErr, Option, Some, None, is_some, refl, sym, ap, subst, ◌∙◌}
+use Rattle.std.specs.Cmp.{IsEquivalence}
+use Rattle.std.specs.HashMap.{HashMap, get, get_by}
+use Rattle.std.specs.List.{filter}
+use Rattle.std.specs.Map.{lookup}
+use Rattle.std.specs.Prelude.{option_and_then}
+use Rattle.std.specs.Str.{bytes_eq}
+use Rattle.std.proofs.lemmas.Map.Entries.{lookup-filter-keys}
+use Rattle.std.proofs.lemmas.Slice.Eq.{bytes_eq-Decides}
+use Rattle.ra_ap_intern.specs.Handle.{ref_name}
+use Rattle.ra_ap_intern.specs.Name.{Name}
+use Rattle.ra_ap_intern.specs.Named.{same_name}
+use Rattle.ra_ap_intern.specs.State.{State, IsState, reads, interned, interned_name, interned_counted, name_of_value}
+use Rattle.ra_ap_intern.specs.Symbols.{Named, same_named, symbol_ref_name, named_in, symbol_in, due_symbol}
+use Rattle.ra_ap_intern.specs.Under.{under_name, under_value, under_symbol, under_text}
+use Rattle.ra_ap_intern.specs.declared.storage.Ref.{Ref}
+use Rattle.ra_ap_intern.specs.declared.symbol.SymbolRef.{SymbolRef}
+use Rattle.intern_store.proofs.Named.{names_same, same_names}
+use Rattle.intern_store.proofs.Reading.{interned_reads}
+use Rattle.ra_ap_intern.proofs.CallerInterning.{found_reads, read_found, interned_counted_reads, interned_found_elsewhere, interned_counted_found_elsewhere}
+use Rattle.ra_ap_intern.proofs.CallerSymbols.{named_by, named_same, same_nameds, named_here, named_there, named_once, references_tested}
+use Rattle.ra_ap_intern.proofs.CallerViews.{handles_tested}
+
+-- what holds in any case holds where a call is refused
+pub on_err : {A E : Type 0} (r : Result A E) {P : Type 0} → P → OnErr r P
+on_err (Ok x) p = tt
+on_err (Err e) p = p
+
+-- ---- under handles of any type
+
+-- a map under handles is read by what they name
+module _ {H N M S : Type 0} (eq : H → H → Bool) (test : N → N → Bool) (view : H → N) (tested : (a b : H) → eq a b ≡ test (view a) (view b)) where
+  pub map_named : (m : HashMap H M S) (h : H) → get eq m h ≡ get_by (λ r. test (view h) (view r)) m
+  map_named m h = λ i. get_by (λ r. tested h r i) m
+
+  -- after a value was put under a handle, or taken away
+  pub map_changed : (old new : HashMap H M S) (handle : H) (value : Option M)
+      → ((h : H) → get eq new h ≡ cond (eq handle h) value (get eq old h)) → (h : H)
+      → get_by (λ r. test (view h) (view r)) new
+      ≡ cond (test (view handle) (view h)) value (get_by (λ r. test (view h) (view r)) old)
+  map_changed old new handle value is h =
+      sym (map_named new h) ∙ is h ∙ (λ i. cond (tested handle h i) value (map_named old h i))
+
+  -- where it holds the same in another order
+  pub map_same : (old new : HashMap H M S) → ((h : H) → get eq new h ≡ get eq old h) → (h : H)
+      → get_by (λ r. test (view h) (view r)) new ≡ get_by (λ r. test (view h) (view r)) old
+  map_same old new same h = sym (map_named new h) ∙ same h ∙ map_named old h
+
+-- after those whose names pass were retained
+pub map_retained : {H N M S : Type 0} (test : N → N → Bool) (view : H → N)
+    → ((n m : N) → test n m ≡ true → n ≡ m) → (passes : N → Bool) (old new : HashMap H M S)
+    → new.entries ≡ filter (λ e. passes (view e.0)) old.entries → (n : N)
+    → get_by (λ r. test n (view r)) new ≡ cond (passes n) (get_by (λ r. test n (view r)) old) None
+map_retained test view same passes old new kept n =
+    ap (lookup (λ r. test n (view r))) kept
+    ∙ lookup-filter-keys (λ r. test n (view r)) (λ r. passes (view r)) (passes n)
+    (λ r is. sym (ap passes (same n (view r) is))) old.entries
+
+-- ---- under references, by names
+
+-- each name has a reference
+reference_by : {K : Type 0} (n : Name) → (r : Ref K) × (ref_name r ≡ n)
+reference_by {K} n =
+    let r : Ref K = record {
+      key = record { storage = n.storage; spot = record { birth = n.birth; place = 0 } };
+      marker = record {};
+    } in (r, refl)
+
+module _ {K M S : Type 0} (eq : Ref K → Ref K → Bool) (alike : (a b : Ref K) → (eq a b ≡ true) ↔ (ref_name a ≡ ref_name b)) where
+  pub names_named : (m : HashMap (Ref K) M S) (h : Ref K) → get eq m h ≡ under_name m (ref_name h)
+  names_named = map_named eq same_name ref_name (handles_tested eq ref_name alike)
+
+  -- a value is put under a reference, or taken away
+  pub names_changed : (old new : HashMap (Ref K) M S) (key : Ref K) (value : Option M)
+      → ((q : Ref K) → get eq new q ≡ cond (eq key q) value (get eq old q)) → (n : Name)
+      → under_name new n ≡ cond (same_name (ref_name key) n) value (under_name old n)
+  names_changed old new key value is n =
+      let r = reference_by n in
+      subst (λ m. under_name new m ≡ cond (same_name (ref_name key) m) value (under_name old m)) r.1
+      (map_changed eq same_name ref_name (handles_tested eq ref_name alike) old new key value is r.0)
+
+  -- the map holds the same in another order
+  pub names_alike : (old new : HashMap (Ref K) M S) → ((q : Ref K) → get eq new q ≡ get eq old q)
+      → (n : Name) → under_name new n ≡ under_name old n
+  names_alike old new same n =
+      let r = reference_by n in
+      subst (λ m. under_name new m ≡ under_name old m) r.1
+      (map_same eq same_name ref_name (handles_tested eq ref_name alike) old new same r.0)
+
+-- those whose names pass are retained
+pub names_retained : {K M S : Type 0} (passes : Name → Bool) (old new : HashMap (Ref K) M S)
+    → new.entries ≡ filter (λ e. passes (ref_name e.0)) old.entries → (n : Name)
+    → under_name new n ≡ cond (passes n) (under_name old n) None
+names_retained = map_retained same_name ref_name names_same
+
+-- ---- under references to symbols, by what they name
+
+module _ {M S : Type 0} (eq : SymbolRef → SymbolRef → Bool) (alike : (a b : SymbolRef) → (eq a b ≡ true) ↔ (symbol_ref_name a ≡ symbol_ref_name b)) where
+  pub symbols_named : (m : HashMap SymbolRef M S) (a : SymbolRef)
+      → get eq m a ≡ under_symbol m (symbol_ref_name a)
+  symbols_named = map_named eq same_named symbol_ref_name (references_tested eq alike)
+
+  -- a value is put under a symbol, or taken away
+  pub symbols_changed : (old new : HashMap SymbolRef M S) (key : SymbolRef) (value : Option M)
+      → ((q : SymbolRef) → get eq new q ≡ cond (eq key q) value (get eq old q)) → (a : Named)
+      → under_symbol new a ≡ cond (same_named (symbol_ref_name key) a) value (under_symbol old a)
+  symbols_changed old new key value is a =
+      let r = named_by a in
+      subst (λ b. under_symbol new b
+      ≡ cond (same_named (symbol_ref_name key) b) value (under_symbol old b)) r.1
+      (map_changed eq same_named symbol_ref_name (references_tested eq alike) old new key value is r.0)
+
+  -- the map holds the same in another order
+  pub symbols_same : (old new : HashMap SymbolRef M S) → ((q : SymbolRef) → get eq new q ≡ get eq old q)
+      → (a : Named) → under_symbol new a ≡ under_symbol old a
+  symbols_same old new same a =
+      let r = named_by a in
+      subst (λ b. under_symbol new b ≡ under_symbol old b) r.1
+      (map_same eq same_named symbol_ref_name (references_tested eq alike) old new same r.0)
+
+-- ---- under values and texts, through the look-up that finds their names
+
+-- where the look-up finds one name for what is like x, and for others what it found, and a value is
+-- put under that name
+changed_through : {X A M : Type 0} (like : X → X → Bool) (same : A → A → Bool) (found now : X → Option A)
+    (old new : A → Option M) (x : X) (a : A) (value : Option M)
+    → ((y : X) → like x y ≡ true → now y ≡ Some a)
+    → ((y : X) → like x y ≡ false → now y ≡ found y)
+    → ((y : X) (b : A) → now y ≡ Some b → same a b ≡ true → like x y ≡ true) → same a a ≡ true
+    → ((b : A) → new b ≡ cond (same a b) value (old b)) → (y : X)
+    → option_and_then new (now y) ≡ cond (like x y) value (option_and_then old (found y))
+changed_through {X} {A} like same found now old new x a value here there once itself put y =
+    go (like x y) refl
+  where
+    apart : (b : A) (t : Bool) → now y ≡ Some b → like x y ≡ false → same a b ≡ t → t ≡ false
+    apart b false at differs is = refl
+    apart b true at differs is = let one = once y b at is in absurd (cc)
+
+    other : (o : Option A) → now y ≡ o → like x y ≡ false
+        → option_and_then new o ≡ option_and_then old o
+    other None at differs = refl
+    other (Some b) at differs =
+        put b ∙ ap (λ t. cond t value (old b)) (apart b _ at differs refl)
+
+    go : (t : Bool) → like x y ≡ t
+        → option_and_then new (now y) ≡ cond t value (option_and_then old (found y))
+    go true is =
+        ap (option_and_then new) (here y is) ∙ put a ∙ ap (λ t. cond t value (old a)) itself
+    go false is = ap (option_and_then new) (there y is) ∙ other (found y) (there y is) is
+
+module _ {K V M S : Type 0} (eq : V → V → Bool) (laws : IsEquivalence eq) (test : Ref K → Ref K → Bool) (alike : (a b : Ref K) → (test a b ≡ true) ↔ (ref_name a ≡ ref_name b)) where
+  -- a value is put under the reference of one that is read, and look-ups of others find what they found
+  put_under : (s t : State V) → IsState eq t → (v w : V) (key : Ref K)
+      → reads t (ref_name key) ≡ Some w → eq v w ≡ true
+      → ((u : V) → eq v u ≡ false → name_of_value eq t u ≡ name_of_value eq s u)
+      → (old new : HashMap (Ref K) M S) (value : Option M)
+      → ((q : Ref K) → get test new q ≡ cond (test key q) value (get test old q)) → (u : V)
+      → under_value eq t new u ≡ cond (eq v u) value (under_value eq s old u)
+  put_under s t ok v w key read same there old new value put =
+      changed_through eq same_name (name_of_value eq s) (name_of_value eq t) (under_name old) (under_name new) v
+      (ref_name key) value
+      (λ u is. read_found eq laws t ok u (ref_name key) w read (sym (laws.congr v u w is) ∙ same)) there
+      (λ u n at is.
+      let r = found_reads eq t u n at in
+      let one : Some w ≡ Some r.0 = sym read ∙ ap (reads t) (names_same _ n is) ∙ r.1 in
+      let like : eq v r.0 ≡ true = cc in
+      laws.symm v u ∙ laws.congr u r.0 v r.2 ∙ laws.symm r.0 v ∙ like)
+      (same_names (ref_name key) (ref_name key) refl) (names_changed test alike old new key value put)
+
+  -- a value is put under the reference of one that is interned in collected mode
+  pub value_put : (s : State V) (v : V) → IsState eq s → IsState eq (interned eq s v).state
+      → (key : Ref K) → ref_name key ≡ interned_name eq s v → (old new : HashMap (Ref K) M S)
+      (value : Option M)
+      → ((q : Ref K) → get test new q ≡ cond (test key q) value (get test old q)) → (u : V)
+      → under_value eq (interned eq s v).state new u ≡ cond (eq v u) value (under_value eq s old u)
+  value_put s v ok is key named =
+      let r = interned_reads eq laws s v in
+      let t = (interned eq s v).state in
+      put_under s t is v r.0 key (ap (reads t) named ∙ r.1) r.2
+      (interned_found_elsewhere eq laws s v ok is)
+
+  -- and in counted mode
+  pub value_put_counted : (s : State V) (v : V) → IsState eq s → IsState eq (interned_counted eq s v)
+      → (key : Ref K) → ref_name key ≡ interned_name eq s v → (old new : HashMap (Ref K) M S)
+      (value : Option M)
+      → ((q : Ref K) → get test new q ≡ cond (test key q) value (get test old q)) → (u : V)
+      → under_value eq (interned_counted eq s v) new u ≡ cond (eq v u) value (under_value eq s old u)
+  value_put_counted s v ok is key named =
+      let r = interned_counted_reads eq laws s v in
+      let t = interned_counted eq s v in
+      put_under s t is v r.0 key (ap (reads t) named ∙ r.1) r.2
+      (interned_counted_found_elsewhere eq laws s v ok is)
+
+-- the map holds the same in another order
+pub values_alike : {K V M S : Type 0} (eq : V → V → Bool) (test : Ref K → Ref K → Bool)
+    → ((a b : Ref K) → (test a b ≡ true) ↔ (ref_name a ≡ ref_name b)) → (s : State V)
+    (old new : HashMap (Ref K) M S) → ((q : Ref K) → get test new q ≡ get test old q) → (v : V)
+    → under_value eq s new v ≡ under_value eq s old v
+values_alike eq test alike s old new same v =
+    λ i. option_and_then (λ n. names_alike test alike old new same n i) (name_of_value eq s v)
+
+-- a later state that reads no more than one before, and a map of which what is read then is retained:
+-- what is stored has under it what it had
+pub value_retained : {K V M S : Type 0} (eq : V → V → Bool) → IsEquivalence eq → (s t : State V)
+    → IsState eq s → ((n : Name) (u : V) → reads t n ≡ Some u → reads s n ≡ Some u)
+    → (old new : HashMap (Ref K) M S)
+    → ((n : Name) → under_name new n ≡ cond (is_some (reads t n)) (under_name old n) None)
+    → (v : V) (n : Name) → name_of_value eq t v ≡ Some n
+    → under_value eq t new v ≡ under_value eq s old v
+value_retained eq laws s t ok back old new kept v n at =
+    let r = found_reads eq t v n at in
+    let found = read_found eq laws s ok v n r.0 (back n r.0 r.1) r.2 in
+    ap (option_and_then (under_name new)) at ∙ kept n
+    ∙ ap (λ o. cond (is_some o) (under_name old n) None) r.1
+    ∙ sym (ap (option_and_then (under_name old)) found)
+
+module _ {M S : Type 0} (eq : SymbolRef → SymbolRef → Bool) (alike : (a b : SymbolRef) → (eq a b ≡ true) ↔ (symbol_ref_name a ≡ symbol_ref_name b)) where
+  -- a value is put under the symbol of a text that is interned
+  pub text_put : (s : State (List ℕ)) (text : List ℕ) → IsState bytes_eq s → due_symbol s text ≡ None
+      → (key : SymbolRef) → symbol_ref_name key ≡ (symbol_in s text).symbol
+      → (old new : HashMap SymbolRef M S) (value : Option M)
+      → ((q : SymbolRef) → get eq new q ≡ cond (eq key q) value (get eq old q)) → (other : List ℕ)
+      → under_text (symbol_in s text).table new other
+      ≡ cond (bytes_eq text other) value (under_text s old other)
+  text_put s text ok free key named old new value put =
+      changed_through bytes_eq same_named (named_in s) (named_in (symbol_in s text).table) (under_symbol old)
+      (under_symbol new) text (symbol_in s text).symbol value
+      (λ other is. ap (named_in (symbol_in s text).table) (sym ((bytes_eq-Decides text other).0 is))
+      ∙ named_here s text ok free)
+      (named_there s text ok free)
+      (λ other a at is.
+      (bytes_eq-Decides text other).1
+      (named_once _ text other _ a (named_here s text ok free) at (named_same _ a is)))
+      (same_nameds (symbol_in s text).symbol)
+      (subst
+      (λ b. (a : Named) → under_symbol new a ≡ cond (same_named b a) value (under_symbol old a)) named
+      (symbols_changed eq alike old new key value put))
+
+  -- the map holds the same in another order
+  pub texts_same : (s : State (List ℕ)) (old new : HashMap SymbolRef M S)
+      → ((q : SymbolRef) → get eq new q ≡ get eq old q) → (text : List ℕ)
+      → under_text s new text ≡ under_text s old text
+  texts_same s old new same text =
+      λ i. option_and_then (λ a. symbols_same eq alike old new same a i) (named_in s text)
