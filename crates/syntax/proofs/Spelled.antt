@@ -1,7 +1,7 @@
 -- What pieces spell.
-use Rattle.std.proofs.Common.{◌≡◌, Bool, true, false, cond, List, [], ◌∷◌, ◌++◌, map, reverse, length, ◌==◌, arith, Option, Some, refl, sym, ap, subst, ◌∙◌, append_assoc}
+use Rattle.std.proofs.Common.{◌≡◌, ℕ, ◌+◌, ◌*◌, ◌≤◌, Bool, true, false, cond, List, [], ◌∷◌, ◌++◌, map, reverse, length, ◌==◌, arith, Option, Some, refl, sym, ap, subst, ◌∙◌, add-one, append_assoc}
 use Rattle.std.specs.Option.{option_map}
-use Rattle.std.proofs.lemmas.List.{append-nil, reverse-append, map-append}
+use Rattle.std.proofs.lemmas.List.{append-nil, length-append, reverse-append, map-append}
 use Rattle.intern_terms.specs.Handle.{term_name}
 use Rattle.intern_terms.specs.Tree.{Tree, Trees, tree, no_more, one_more, UnfoldsTo}
 use Rattle.intern_terms.specs.declared.handle.TermRef.{TermRef}
@@ -13,7 +13,7 @@ use Rattle.ra_ap_intern.specs.declared.symbol.SymbolRef.{SymbolRef}
 use Rattle.ra_ap_intern.specs.declared.symbol.symbols.TheConstants as constant
 use Rattle.syntax.specs.Lexeme.{Lexeme, lexeme, call, mark, between, operator_of}
 use Rattle.syntax.specs.Parsing.{Store, Stand}
-use Rattle.syntax.specs.Pieces.{Spell, Prints, comma_pieces}
+use Rattle.syntax.specs.Pieces.{Spell, Lay, Prints, comma_pieces, tokens_among}
 use Rattle.syntax.specs.Printing.{arguments, called_with, two_parts, conditional, local, three_parts, written, tokens_of, tokens_of_each, definition, item_mark, name_or_call, defined_tokens}
 use Rattle.syntax.specs.declared.printer.Piece.{Piece}
 use Rattle.syntax.specs.declared.printer.Piece.TheVariants as piece
@@ -35,18 +35,23 @@ three_called head isnt nor a b c =
     (local a b c) (called_with head a (b ∷ c ∷ [])))) isnt
     ∙ ap (λ x. cond x (local a b c) (called_with head a (b ∷ c ∷ []))) nor
 
+tokens_more : (ps qs : List Piece) → tokens_among qs ≤ tokens_among (ps ++ qs)
+tokens_more [] qs = let same : tokens_among ([] ++ qs) ≡ tokens_among qs = refl in omega arith
+tokens_more (piece.Token t ∷ ps) qs = let more = tokens_more ps qs in omega arith
+tokens_more (piece.Tree n ∷ ps) qs = tokens_more ps qs
+
 module _ (s : Store) where
   pub spelled_sides : (l r : TermRef) (operator : Operator) (t u : Tree)
       → UnfoldsTo s (term_name l) t → UnfoldsTo s (term_name r) u → (head : Named)
       → operator_of head ≡ Some operator → (items : List Piece)
       → items ≡ marked Open ∷ piece.Tree l ∷ piece.Token (token.Infix operator) ∷ piece.Tree r
       ∷ marked Close ∷ []
-      → Spell s items (two_parts head (operator_of head) (tokens_of t) (tokens_of u))
+      → Lay s items (two_parts head (operator_of head) (tokens_of t) (tokens_of u))
   spelled_sides l r operator t u first second head is items whole =
       let P : Option Operator → Type 0 =
-      λ o. Spell s items (two_parts head o (tokens_of t) (tokens_of u)) in
+      λ o. Lay s items (two_parts head o (tokens_of t) (tokens_of u)) in
       let Q : List Piece → Type 0 =
-      λ ps. Spell s ps (two_parts head (Some operator) (tokens_of t) (tokens_of u)) in
+      λ ps. Lay s ps (two_parts head (Some operator) (tokens_of t) (tokens_of u)) in
       let third : List Lexeme = mark Close ∷ [] in
       let later : List Lexeme = tokens_of u ++ third in
       let spelled : Q (marked Open ∷ piece.Tree l ∷ piece.Token (token.Infix operator)
@@ -73,9 +78,9 @@ module _ (s : Store) where
       (items : List Piece)
       → items ≡ marked Open ∷ marked first ∷ piece.Tree a ∷ marked second ∷ piece.Tree b
       ∷ marked third ∷ piece.Tree c ∷ marked Close ∷ []
-      → Spell s items (framed first second third t u v)
+      → Lay s items (framed first second third t u v)
   spelled_three a b c t u v one two three first second third items whole =
-      let Q : List Piece → Type 0 = λ ps. Spell s ps (framed first second third t u v) in
+      let Q : List Piece → Type 0 = λ ps. Lay s ps (framed first second third t u v) in
       let end : List Lexeme = mark Close ∷ [] in
       let last : List Lexeme = tokens_of v ++ end in
       let middle : List Lexeme = tokens_of u ++ (mark third ∷ last) in
@@ -130,7 +135,7 @@ module _ (s : Store) where
       → (items one two three : List Piece)
       → one ≡ piece.Token (token.Call name) ∷ [] → two ≡ one ++ piece.Tree n ∷ []
       → three ≡ two ++ comma_pieces terms → items ≡ three ++ marked Close ∷ []
-      → Spell s items (called_with head (tokens_of t) (tokens_of_each ts))
+      → Lay s items (called_with head (tokens_of t) (tokens_of_each ts))
   spelled_call name head is n terms t ts first stand items one two three e1 e2 e3 e4 =
       let whole : items ≡ piece.Token (token.Call name) ∷ piece.Tree n
       ∷ (comma_pieces terms ++ marked Close ∷ []) =
@@ -138,7 +143,7 @@ module _ (s : Store) where
       (e2 ∙ ap (λ ps. ps ++ piece.Tree n ∷ []) e1)) in
       let rest : List Lexeme = arguments (tokens_of_each ts) in
       let Q : List Piece → Type 0 =
-      λ ps. Spell s ps (called_with head (tokens_of t) (tokens_of_each ts)) in
+      λ ps. Lay s ps (called_with head (tokens_of t) (tokens_of_each ts)) in
       let spelled : Q (piece.Token (token.Call name) ∷ piece.Tree n
       ∷ (comma_pieces terms ++ marked Close ∷ [])) = (
         tokens_of t ++ rest,
@@ -152,9 +157,9 @@ module _ (s : Store) where
       → UnfoldsTo s (term_name b) u → UnfoldsTo s (term_name c) v → (items : List Piece)
       → items ≡ marked Open ∷ marked If ∷ piece.Tree a ∷ marked Then ∷ piece.Tree b
       ∷ marked Else ∷ piece.Tree c ∷ marked Close ∷ []
-      → Spell s items (three_parts head (tokens_of t) (tokens_of u) (tokens_of v))
+      → Lay s items (three_parts head (tokens_of t) (tokens_of u) (tokens_of v))
   spelled_conditional head is a b c t u v one two three items whole =
-      let P : Bool → Type 0 = λ x. Spell s items
+      let P : Bool → Type 0 = λ x. Lay s items
       (cond x (conditional (tokens_of t) (tokens_of u) (tokens_of v))
       (cond (same_named head (symbol_name constant.let_))
       (local (tokens_of t) (tokens_of u) (tokens_of v))
@@ -167,14 +172,14 @@ module _ (s : Store) where
       → UnfoldsTo s (term_name b) u → UnfoldsTo s (term_name c) v → (items : List Piece)
       → items ≡ marked Open ∷ marked Let ∷ piece.Tree a ∷ marked Equals ∷ piece.Tree b
       ∷ marked In ∷ piece.Tree c ∷ marked Close ∷ []
-      → Spell s items (three_parts head (tokens_of t) (tokens_of u) (tokens_of v))
+      → Lay s items (three_parts head (tokens_of t) (tokens_of u) (tokens_of v))
   spelled_local head isnt is a b c t u v one two three items whole =
-      let P : Bool → Type 0 = λ x. Spell s items
+      let P : Bool → Type 0 = λ x. Lay s items
       (cond x (conditional (tokens_of t) (tokens_of u) (tokens_of v))
       (cond (same_named head (symbol_name constant.let_))
       (local (tokens_of t) (tokens_of u) (tokens_of v))
       (called_with head (tokens_of t) (tokens_of u ∷ tokens_of v ∷ [])))) in
-      let Q : Bool → Type 0 = λ x. Spell s items
+      let Q : Bool → Type 0 = λ x. Lay s items
       (cond x (local (tokens_of t) (tokens_of u) (tokens_of v))
       (called_with head (tokens_of t) (tokens_of u ∷ tokens_of v ∷ []))) in
       subst P (sym isnt)
@@ -228,6 +233,31 @@ module _ (s : Store) where
       (tree_head s name head ts is header headed)
       (made ts (tree_arguments s name head ts is parts parted))
 
+  pub lay_spell : (ps : List Piece) (ls : List Lexeme) → Lay s ps ls → Spell s ps ls
+  lay_spell [] ls lays = absurd lays
+  lay_spell (piece.Token t ∷ ps) ls lays = lays
+  lay_spell (piece.Tree n ∷ ps) ls lays = absurd lays
+
+  -- a layout has a token
+  lay_tokens : (ps qs : List Piece) (ls : List Lexeme) → Lay s ps ls
+      → tokens_among qs + 1 ≤ tokens_among (ps ++ qs)
+  lay_tokens [] qs ls lays = absurd lays
+  lay_tokens (piece.Token t ∷ ps) qs ls lays = let more = tokens_more ps qs in omega arith
+  lay_tokens (piece.Tree n ∷ ps) qs ls lays = absurd lays
+
+  -- no more tokens are among the pieces than they spell
+  spelled_tokens : (ps : List Piece) (ls : List Lexeme) → Spell s ps ls
+      → tokens_among ps ≤ length ls
+  spelled_tokens [] ls so = omega arith
+  spelled_tokens (piece.Token t ∷ ps) ls so =
+      let less = spelled_tokens ps so.0 so.2 in
+      let one : length ls ≡ length so.0 + 1 = ap length so.1 ∙ sym (add-one (length so.0)) in
+      omega arith
+  spelled_tokens (piece.Tree n ∷ ps) ls so =
+      let less = spelled_tokens ps so.1 so.4 in
+      let all : length ls ≡ length (tokens_of so.0) + length so.1 =
+      ap length so.3 ∙ length-append (tokens_of so.0) so.1 in omega arith
+
   spell_append : (ps qs : List Piece) (ls ms : List Lexeme) → Spell s ps ls → Spell s qs ms
       → Spell s (ps ++ qs) (ls ++ ms)
   spell_append [] qs ls ms first second =
@@ -269,21 +299,23 @@ module _ (s : Store) where
       subst P is (subst Q (sym whole) spelled)
 
   pub prints_first : (layout pieces : List Piece) (spelled : List Lexeme)
-      → reverse pieces ≡ layout ++ reverse [] → Spell s layout spelled → Prints s [] pieces spelled
+      → reverse pieces ≡ layout ++ reverse [] → Spell s layout spelled
+      → Prints s 0 [] pieces spelled
   prints_first layout pieces spelled is spell = record {
     more = spelled;
     whole = refl;
     spell = subst (λ ps. Spell s ps spelled) (sym (is ∙ append-nil layout)) spell;
+    within = omega arith;
   }
 
   last_first : (pieces all : List Piece) (p : Piece) → all ≡ pieces ++ p ∷ []
       → reverse all ≡ p ∷ reverse pieces
   last_first pieces all p is = ap reverse is ∙ reverse-append pieces (p ∷ [])
 
-  pub prints_token : (tokens next : List Token) (t : Token) (pieces all : List Piece)
+  pub prints_token : (taken : ℕ) (tokens next : List Token) (t : Token) (pieces all : List Piece)
       (spelled : List Lexeme) → all ≡ pieces ++ piece.Token t ∷ [] → next ≡ tokens ++ t ∷ []
-      → Prints s tokens all spelled → Prints s next pieces spelled
-  prints_token tokens next t pieces all spelled is pushed so =
+      → Prints s taken tokens all spelled → Prints s (taken + 1) next pieces spelled
+  prints_token taken tokens next t pieces all spelled is pushed so =
       let spell = subst (λ ps. Spell s ps so.more) (last_first pieces all (piece.Token t) is)
       so.spell in
       record {
@@ -294,14 +326,20 @@ module _ (s : Store) where
             ∙ ap (λ ls. map lexeme tokens ++ ls) (sym spell.1)
             ∙ so.whole;
         spell = spell.2;
+        within =
+            let before = so.within in
+            let among : tokens_among (reverse all) ≡ tokens_among (reverse pieces) + 1 =
+            ap tokens_among (last_first pieces all (piece.Token t) is) in
+            let one : length so.more ≡ length spell.0 + 1 =
+            ap length spell.1 ∙ sym (add-one (length spell.0)) in omega arith;
       }
 
-  pub prints_tree : (tokens : List Token) (n : TermRef) (layout pieces all new : List Piece)
-      (spelled : List Lexeme) → all ≡ pieces ++ piece.Tree n ∷ []
-      → reverse new ≡ layout ++ reverse pieces
-      → ((t : Tree) → UnfoldsTo s (term_name n) t → Spell s layout (tokens_of t))
-      → Prints s tokens all spelled → Prints s tokens new spelled
-  prints_tree tokens n layout pieces all new spelled is pushed laid so =
+  pub prints_tree : (taken : ℕ) (tokens : List Token) (n : TermRef)
+      (layout pieces all new : List Piece) (spelled : List Lexeme)
+      → all ≡ pieces ++ piece.Tree n ∷ [] → reverse new ≡ layout ++ reverse pieces
+      → ((t : Tree) → UnfoldsTo s (term_name n) t → Lay s layout (tokens_of t))
+      → Prints s taken tokens all spelled → Prints s (taken + 1) tokens new spelled
+  prints_tree taken tokens n layout pieces all new spelled is pushed laid so =
       let spell = subst (λ ps. Spell s ps so.more) (last_first pieces all (piece.Tree n) is)
       so.spell in
       record {
@@ -310,12 +348,28 @@ module _ (s : Store) where
         spell = subst (λ ps. Spell s ps so.more) (sym pushed)
             (subst (Spell s (layout ++ reverse pieces)) (sym spell.3)
             (spell_append layout (reverse pieces) (tokens_of spell.0) spell.1
-            (laid spell.0 spell.2) spell.4));
+            (lay_spell layout (tokens_of spell.0) (laid spell.0 spell.2)) spell.4));
+        within =
+            let before = so.within in
+            let among : tokens_among (reverse all) ≡ tokens_among (reverse pieces) =
+            ap tokens_among (last_first pieces all (piece.Tree n) is) in
+            let now : tokens_among (reverse new) ≡ tokens_among (layout ++ reverse pieces) =
+            ap tokens_among pushed in
+            let more = lay_tokens layout (reverse pieces) (tokens_of spell.0) (laid spell.0 spell.2) in
+            omega arith;
       }
 
-  pub prints_last : (tokens : List Token) (pieces : List Piece) (spelled : List Lexeme)
-      → pieces ≡ [] → Prints s tokens pieces spelled → map lexeme tokens ≡ spelled
-  prints_last tokens pieces spelled none so =
+  -- after as many pieces as are allowed, the tokens are at least half as many
+  pub prints_long : (taken most : ℕ) (tokens : List Token) (pieces : List Piece)
+      (spelled : List Lexeme) → most ≤ taken → Prints s taken tokens pieces spelled
+      → most ≤ 2 * length spelled
+  prints_long taken most tokens pieces spelled all so =
+      let within = so.within in
+      let few = spelled_tokens (reverse pieces) so.more so.spell in omega arith
+
+  pub prints_last : (taken : ℕ) (tokens : List Token) (pieces : List Piece) (spelled : List Lexeme)
+      → pieces ≡ [] → Prints s taken tokens pieces spelled → map lexeme tokens ≡ spelled
+  prints_last taken tokens pieces spelled none so =
       let spell = subst (λ ps. Spell s (reverse ps) so.more) none so.spell in
       sym (append-nil (map lexeme tokens)) ∙ ap (λ ls. map lexeme tokens ++ ls) (sym spell)
       ∙ so.whole

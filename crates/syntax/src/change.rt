@@ -1,9 +1,9 @@
 //! What changed from a tree to another.
-ghost use Rattle.std.specs.Prelude.{◌≡◌, ◌≢◌, ◌↔◌, ◌++◌, length, map as list_map, reverse, IfOk, IfSome, IfNone, OnOk};
+ghost use Rattle.std.specs.Prelude.{◌≡◌, ◌≢◌, ◌↔◌, ◌≤◌, ◌++◌, length, map as list_map, reverse, IfOk, IfErr, IfSome, IfNone, OnOk};
 ghost use Rattle.intern_terms.specs.Handle.{term_name};
 ghost use Rattle.intern_terms.specs.Tree.{Tree, tree as tree_of, Trees, UnfoldsTo};
 ghost use Rattle.ra_ap_intern.specs.Symbols.{Named};
-ghost use Rattle.syntax.specs.Changes.{Alike, BringLeast, Changed, HaveParts, swap, olds_of, news_of};
+ghost use Rattle.syntax.specs.Changes.{Alike, BringLeast, Changed, HaveParts, size, swap, olds_of, news_of};
 ghost use Rattle.syntax.specs.Parsing.{Stand};
 
 use crate::fault::Fault;
@@ -11,6 +11,7 @@ use crate::machine::Spot;
 use crate::syntax::Syntax;
 use intern_terms::{TermRef, laws as trees};
 use ra_ap_intern::laws as names;
+use std::alloc::AllocError;
 
 /// A part of a tree, and the index of its spot.
 #[derive(Clone, Copy)]
@@ -36,7 +37,7 @@ pub struct Spots<'a> {
 impl Syntax {
     /// What changed: the smallest parts with another head, or another number of parts. Equal parts
     /// are passed over without a look at their parts. Refused as `TooLong` where more than so many
-    /// parts were looked at.
+    /// parts were looked at, which are no more than the old tree has terms in it.
     pub fn changes(
         &self,
         whole: Change,
@@ -50,6 +51,9 @@ impl Syntax {
         ensures least { (t u : Tree) → UnfoldsTo self.now.terms (term_name whole.old.tree) t →
             UnfoldsTo self.now.terms (term_name whole.new.tree) u →
             IfOk result (λ changes. BringLeast self.now.terms t u (list_map swap changes.items)) }
+        ensures long { (t u : Tree) → UnfoldsTo self.now.terms (term_name whole.old.tree) t →
+            UnfoldsTo self.now.terms (term_name whole.new.tree) u →
+            IfErr result (λ why. why ≡ Fault.TooLong → most ≤ size t) }
     {
         trees::each_term_has_one_tree();
         let mut changes = Vec::new(self.alloc);
@@ -101,7 +105,7 @@ fn push_parts(
     news: &[TermRef],
     spots: Spots<'_>,
     pairs: &mut Vec<Change>,
-) -> Result<(), Fault>
+) -> Result<(), AllocError>
     requires { length olds.now ≡ length news.now }
     ensures olds { OnOk result (olds_of (reverse pairs.new.items)
         ≡ olds.now ++ olds_of (reverse pairs.old.items)) }

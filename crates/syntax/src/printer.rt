@@ -1,11 +1,11 @@
 //! Tokens from trees.
-ghost use Rattle.std.specs.Prelude.{◌≡◌, ◌++◌, ◌∷◌, [], List, map as list_map, reverse, IfOk, OnOk};
+ghost use Rattle.std.specs.Prelude.{◌≡◌, ℕ, ◌+◌, ◌*◌, ◌≤◌, ◌++◌, ◌∷◌, [], List, length, map as list_map, reverse, IfOk, IfErr, OnOk};
 ghost use Rattle.intern_terms.specs.Handle.{term_name};
 ghost use Rattle.intern_terms.specs.Tree.{Tree, Trees, UnfoldsTo};
 ghost use Rattle.ra_ap_intern.specs.Symbols.{symbol_name, same_named};
 ghost use Rattle.syntax.specs.Lexeme.{Lexeme, lexeme, operator_of};
 ghost use Rattle.syntax.specs.Parsing.{Stand};
-ghost use Rattle.syntax.specs.Pieces.{Spell, Prints, comma_pieces};
+ghost use Rattle.syntax.specs.Pieces.{Spell, Lay, Prints, comma_pieces};
 ghost use Rattle.syntax.specs.Printing.{tokens_of, tokens_of_each, item_tokens, written, called_with, two_parts, three_parts, definition, item_mark, name_or_call, defined_tokens, IsItem};
 ghost use Rattle.syntax.specs.declared.printer.Piece.TheVariants.{Token as token_piece};
 ghost use Rattle.syntax.specs.declared.token.Token.TheVariants.{Mark as mark_token};
@@ -27,11 +27,13 @@ pub enum Piece {
 
 impl Syntax {
     /// An expression as tokens: operators, `if` and `let` stand in parentheses, so that it is read
-    /// again without regard to precedence. Refused as `TooLong` where it has more than so many
-    /// pieces.
+    /// again without regard to precedence. Refused as `TooLong` where it takes more than so many
+    /// pieces: one for each token and each tree, fewer than twice as many as tokens.
     pub fn print(&self, tree: TermRef, most: usize) -> Result<Vec<Token>, Fault>
-        ensures { (t : Tree) → UnfoldsTo self.now.terms (term_name tree) t →
+        ensures tokens { (t : Tree) → UnfoldsTo self.now.terms (term_name tree) t →
             IfOk result (λ tokens. list_map lexeme tokens.items ≡ tokens_of t) }
+        ensures long { (t : Tree) → UnfoldsTo self.now.terms (term_name tree) t →
+            IfErr result (λ why. why ≡ Fault.TooLong → most ≤ 2 * length (tokens_of t)) }
     {
         let layout = self.layout(tree)?;
         self.print_pieces(layout, most)
@@ -39,8 +41,10 @@ impl Syntax {
 
     /// An item as tokens.
     pub fn print_item(&self, item: TermRef, most: usize) -> Result<Vec<Token>, Fault>
-        ensures { (t : Tree) → UnfoldsTo self.now.terms (term_name item) t → IsItem t →
+        ensures tokens { (t : Tree) → UnfoldsTo self.now.terms (term_name item) t → IsItem t →
             IfOk result (λ tokens. list_map lexeme tokens.items ≡ item_tokens t) }
+        ensures long { (t : Tree) → UnfoldsTo self.now.terms (term_name item) t → IsItem t →
+            IfErr result (λ why. why ≡ Fault.TooLong → most ≤ 2 * length (item_tokens t)) }
     {
         let layout = self.item_layout(item)?;
         self.print_pieces(layout, most)
@@ -48,8 +52,10 @@ impl Syntax {
 
     /// What an item defines as tokens: a name or a call, also where its head is an operator's.
     pub fn print_defined(&self, defined: TermRef, most: usize) -> Result<Vec<Token>, Fault>
-        ensures { (t : Tree) → UnfoldsTo self.now.terms (term_name defined) t →
+        ensures tokens { (t : Tree) → UnfoldsTo self.now.terms (term_name defined) t →
             IfOk result (λ tokens. list_map lexeme tokens.items ≡ defined_tokens t) }
+        ensures long { (t : Tree) → UnfoldsTo self.now.terms (term_name defined) t →
+            IfErr result (λ why. why ≡ Fault.TooLong → most ≤ 2 * length (defined_tokens t)) }
     {
         let layout = self.defined_layout(defined)?;
         self.print_pieces(layout, most)
@@ -57,8 +63,10 @@ impl Syntax {
 
     // The tokens of pieces.
     fn print_pieces(&self, layout: Vec<Piece>, most: usize) -> Result<Vec<Token>, Fault>
-        ensures { (spelled : List Lexeme) → Spell self.now.terms layout.items spelled →
+        ensures tokens { (spelled : List Lexeme) → Spell self.now.terms layout.items spelled →
             IfOk result (λ tokens. list_map lexeme tokens.items ≡ spelled) }
+        ensures long { (spelled : List Lexeme) → Spell self.now.terms layout.items spelled →
+            IfErr result (λ why. why ≡ Fault.TooLong → most ≤ 2 * length spelled) }
     {
         let mut tokens = Vec::new(self.alloc);
         let mut pieces = Vec::new(self.alloc);
@@ -78,10 +86,10 @@ impl Syntax {
         piece: Piece,
         tokens: &mut Vec<Token>,
         pieces: &mut Vec<Piece>,
-    ) -> Result<(), Fault>
-        ensures { OnOk result ((spelled : List Lexeme) →
-            Prints self.now.terms tokens.old.items (pieces.old.items ++ piece ∷ []) spelled →
-            Prints self.now.terms tokens.new.items pieces.new.items spelled) }
+    ) -> Result<(), AllocError>
+        ensures { OnOk result ((taken : ℕ) (spelled : List Lexeme) →
+            Prints self.now.terms taken tokens.old.items (pieces.old.items ++ piece ∷ []) spelled →
+            Prints self.now.terms (taken + 1) tokens.new.items pieces.new.items spelled) }
     {
         match piece {
             Piece::Token(token) => Ok(tokens.push(token)?),
@@ -90,9 +98,9 @@ impl Syntax {
     }
 
     // A tree as the tokens of its own, and its parts between them.
-    fn layout(&self, tree: TermRef) -> Result<Vec<Piece>, Fault>
+    fn layout(&self, tree: TermRef) -> Result<Vec<Piece>, AllocError>
         ensures { (t : Tree) → UnfoldsTo self.now.terms (term_name tree) t →
-            IfOk result (λ pieces. Spell self.now.terms pieces.items (tokens_of t)) }
+            IfOk result (λ pieces. Lay self.now.terms pieces.items (tokens_of t)) }
     {
         let Some(head) = self.terms.head(tree) else {
             return Ok(Vec::new(self.alloc));
@@ -104,9 +112,9 @@ impl Syntax {
     }
 
     // A head and parts as pieces.
-    fn spell(&self, head: &Symbol, parts: &[TermRef]) -> Result<Vec<Piece>, Fault>
+    fn spell(&self, head: &Symbol, parts: &[TermRef]) -> Result<Vec<Piece>, AllocError>
         ensures { (ts : Trees) → Stand self.now.terms parts.now ts → IfOk result (λ pieces.
-            Spell self.now.terms pieces.items (written (symbol_name head.now) (tokens_of_each ts))) }
+            Lay self.now.terms pieces.items (written (symbol_name head.now) (tokens_of_each ts))) }
     {
         match parts.split_first() {
             None => self.spell_atom(head),
@@ -115,9 +123,9 @@ impl Syntax {
     }
 
     // A head without parts: a name or a number.
-    fn spell_atom(&self, head: &Symbol) -> Result<Vec<Piece>, Fault>
+    fn spell_atom(&self, head: &Symbol) -> Result<Vec<Piece>, AllocError>
         ensures { IfOk result (λ pieces.
-            Spell self.now.terms pieces.items (written (symbol_name head.now) [])) }
+            Lay self.now.terms pieces.items (written (symbol_name head.now) [])) }
     {
         Ok(vec![in self.alloc; Piece::Token(Token::Atom(head.as_ref()))]?)
     }
@@ -128,10 +136,10 @@ impl Syntax {
         head: &Symbol,
         first: TermRef,
         others: &[TermRef],
-    ) -> Result<Vec<Piece>, Fault>
+    ) -> Result<Vec<Piece>, AllocError>
         ensures { (t : Tree) (us : Trees) → UnfoldsTo self.now.terms (term_name first) t →
             Stand self.now.terms others.now us → IfOk result (λ pieces.
-            Spell self.now.terms pieces.items (written (symbol_name head.now)
+            Lay self.now.terms pieces.items (written (symbol_name head.now)
             (tokens_of t ∷ tokens_of_each us))) }
     {
         match others.split_first() {
@@ -148,11 +156,11 @@ impl Syntax {
         second: TermRef,
         others: &[TermRef],
         more: &[TermRef],
-    ) -> Result<Vec<Piece>, Fault>
+    ) -> Result<Vec<Piece>, AllocError>
         requires { others.now ≡ second ∷ more.now }
         ensures { (t u : Tree) (vs : Trees) → UnfoldsTo self.now.terms (term_name first) t →
             UnfoldsTo self.now.terms (term_name second) u → Stand self.now.terms more.now vs →
-            IfOk result (λ pieces. Spell self.now.terms pieces.items
+            IfOk result (λ pieces. Lay self.now.terms pieces.items
             (written (symbol_name head.now) (tokens_of t ∷ tokens_of u ∷ tokens_of_each vs))) }
     {
         match more.split_first() {
@@ -168,10 +176,15 @@ impl Syntax {
     }
 
     // A head and two parts: an operator and its sides, or a call.
-    fn spell_two(&self, head: &Symbol, left: TermRef, right: TermRef) -> Result<Vec<Piece>, Fault>
+    fn spell_two(
+        &self,
+        head: &Symbol,
+        left: TermRef,
+        right: TermRef,
+    ) -> Result<Vec<Piece>, AllocError>
         ensures { (t u : Tree) → UnfoldsTo self.now.terms (term_name left) t →
             UnfoldsTo self.now.terms (term_name right) u → IfOk result (λ pieces.
-            Spell self.now.terms pieces.items (two_parts (symbol_name head.now)
+            Lay self.now.terms pieces.items (two_parts (symbol_name head.now)
             (operator_of (symbol_name head.now)) (tokens_of t) (tokens_of u))) }
     {
         match Operator::of(head) {
@@ -193,11 +206,11 @@ impl Syntax {
         first: TermRef,
         second: TermRef,
         third: TermRef,
-    ) -> Result<Vec<Piece>, Fault>
+    ) -> Result<Vec<Piece>, AllocError>
         ensures { (t u v : Tree) → UnfoldsTo self.now.terms (term_name first) t →
             UnfoldsTo self.now.terms (term_name second) u →
             UnfoldsTo self.now.terms (term_name third) v → IfOk result (λ pieces.
-            Spell self.now.terms pieces.items (three_parts (symbol_name head.now)
+            Lay self.now.terms pieces.items (three_parts (symbol_name head.now)
             (tokens_of t) (tokens_of u) (tokens_of v))) }
     {
         if is_head(head, &sym::then) {
@@ -228,10 +241,15 @@ impl Syntax {
     }
 
     // A call of a head, with commas between its arguments.
-    fn call(&self, head: &Symbol, first: TermRef, others: &[TermRef]) -> Result<Vec<Piece>, Fault>
+    fn call(
+        &self,
+        head: &Symbol,
+        first: TermRef,
+        others: &[TermRef],
+    ) -> Result<Vec<Piece>, AllocError>
         ensures { (t : Tree) (ts : Trees) → UnfoldsTo self.now.terms (term_name first) t →
             Stand self.now.terms others.now ts → IfOk result (λ pieces.
-            Spell self.now.terms pieces.items (called_with (symbol_name head.now) (tokens_of t)
+            Lay self.now.terms pieces.items (called_with (symbol_name head.now) (tokens_of t)
             (tokens_of_each ts))) }
     {
         let mut pieces = Vec::new(self.alloc);
@@ -243,7 +261,7 @@ impl Syntax {
     }
 
     // An item as the tokens of its own, and its two parts between them.
-    fn item_layout(&self, item: TermRef) -> Result<Vec<Piece>, Fault>
+    fn item_layout(&self, item: TermRef) -> Result<Vec<Piece>, AllocError>
         ensures { (t : Tree) → UnfoldsTo self.now.terms (term_name item) t → IsItem t →
             IfOk result (λ pieces. Spell self.now.terms pieces.items (item_tokens t)) }
     {
@@ -262,7 +280,7 @@ impl Syntax {
         head: &Symbol,
         defined: TermRef,
         value: TermRef,
-    ) -> Result<Vec<Piece>, Fault>
+    ) -> Result<Vec<Piece>, AllocError>
         ensures { (t u : Tree) → UnfoldsTo self.now.terms (term_name defined) t →
             UnfoldsTo self.now.terms (term_name value) u → IfOk result (λ pieces.
             Spell self.now.terms pieces.items (definition (symbol_name head.now)
@@ -281,9 +299,9 @@ impl Syntax {
     }
 
     // What an item defines as pieces.
-    fn defined_layout(&self, defined: TermRef) -> Result<Vec<Piece>, Fault>
+    fn defined_layout(&self, defined: TermRef) -> Result<Vec<Piece>, AllocError>
         ensures { (t : Tree) → UnfoldsTo self.now.terms (term_name defined) t →
-            IfOk result (λ pieces. Spell self.now.terms pieces.items (defined_tokens t)) }
+            IfOk result (λ pieces. Lay self.now.terms pieces.items (defined_tokens t)) }
     {
         let Some(head) = self.terms.head(defined) else {
             return Ok(Vec::new(self.alloc));
@@ -295,9 +313,9 @@ impl Syntax {
     }
 
     // A name, or a call of a head over parts.
-    fn spell_defined(&self, head: &Symbol, parts: &[TermRef]) -> Result<Vec<Piece>, Fault>
+    fn spell_defined(&self, head: &Symbol, parts: &[TermRef]) -> Result<Vec<Piece>, AllocError>
         ensures { (ts : Trees) → Stand self.now.terms parts.now ts → IfOk result (λ pieces.
-            Spell self.now.terms pieces.items
+            Lay self.now.terms pieces.items
             (name_or_call (symbol_name head.now) (tokens_of_each ts))) }
     {
         match parts.split_first() {
@@ -366,7 +384,7 @@ fn mark(mark: Mark) -> Piece
 }
 
 // Puts each argument behind a comma.
-fn push_arguments(others: &[TermRef], pieces: &mut Vec<Piece>) -> Result<(), Fault>
+fn push_arguments(others: &[TermRef], pieces: &mut Vec<Piece>) -> Result<(), AllocError>
     ensures { OnOk result (pieces.new.items ≡ pieces.old.items ++ comma_pieces others.now) }
 {
     for term in others {
@@ -377,7 +395,7 @@ fn push_arguments(others: &[TermRef], pieces: &mut Vec<Piece>) -> Result<(), Fau
 }
 
 // Puts pieces on a stack, the first on top.
-fn push_all(layout: Vec<Piece>, pieces: &mut Vec<Piece>) -> Result<(), Fault>
+fn push_all(layout: Vec<Piece>, pieces: &mut Vec<Piece>) -> Result<(), AllocError>
     ensures { OnOk result (reverse pieces.new.items ≡ layout.items ++ reverse pieces.old.items) }
 {
     let mut layout = layout;

@@ -9,5 +9,5 @@ use Rattle.syntax.proofs.syntax.Syntax.changes.Given as goal
 abbrev pub invariant-loop : goal.invariant-loop
 invariant-loop l = (t u : Tree) → UnfoldsTo l.self.terms (term_name l.fn.whole.old.tree) t
     → UnfoldsTo l.self.terms (term_name l.fn.whole.new.tree) u
-    → Leads l.self.terms (olds_of (reverse l.pairs.items)) (news_of (reverse l.pairs.items))
+    → Leads l.self.terms l.counter (olds_of (reverse l.pairs.items)) (news_of (reverse l.pairs.items))
     (map swap l.changes.items) t u

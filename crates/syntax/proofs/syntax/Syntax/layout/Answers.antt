@@ -1,7 +1,7 @@
 use Rattle.std.specs.Prelude.{IfOk}
 use Rattle.intern_terms.specs.Handle.{term_name}
 use Rattle.intern_terms.proofs.CallerTerms.{unread}
-use Rattle.syntax.specs.Pieces.{Spell}
+use Rattle.syntax.specs.Pieces.{Lay}
 use Rattle.syntax.proofs.Spelled.{written_tree}
 use Rattle.syntax.proofs.syntax.Syntax.layout.Goals as goal
 
@@ -14,5 +14,5 @@ pub returns : goal.returns
 returns c t stands =
     written_tree c.args.self.now.terms (term_name c.args.tree) t c.in-Some.head.now
     c.in-Some-args.parts.now c.in-Some.ensures c.in-Some-args.ensures stands
-    (λ ls. IfOk c.spell.result (λ pieces. Spell c.args.self.now.terms pieces.items ls))
+    (λ ls. IfOk c.spell.result (λ pieces. Lay c.args.self.now.terms pieces.items ls))
     c.spell.ensures

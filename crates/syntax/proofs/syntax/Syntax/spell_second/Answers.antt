@@ -5,7 +5,7 @@ use Rattle.intern_terms.specs.Tree.{one_more}
 use Rattle.ra_ap_intern.specs.Symbols.{symbol_name}
 use Rattle.syntax.specs.Lexeme.{Lexeme}
 use Rattle.syntax.specs.Parsing.{Stand}
-use Rattle.syntax.specs.Pieces.{Spell}
+use Rattle.syntax.specs.Pieces.{Lay}
 use Rattle.syntax.specs.Printing.{written, tokens_of}
 use Rattle.syntax.proofs.Spelled.{no_parts, first_part, many_parts}
 use Rattle.syntax.proofs.syntax.Syntax.spell_second.Goals as goal
@@ -13,7 +13,7 @@ use Rattle.syntax.proofs.syntax.Syntax.spell_second.Goals as goal
 pub returns-in-None : goal.returns-in-None
 returns-in-None c t u vs first second stand =
     let P : List (List Lexeme) → Type 0 = λ texts. IfOk c.spell_two.result
-    (λ pieces. Spell c.args.self.now.terms pieces.items
+    (λ pieces. Lay c.args.self.now.terms pieces.items
     (written (symbol_name c.args.head.now) (tokens_of t ∷ tokens_of u ∷ texts))) in
     subst P
     (sym (no_parts c.args.self.now.terms c.args.more.now vs c.in-None.ensures.cases stand))
@@ -22,7 +22,7 @@ returns-in-None c t u vs first second stand =
 pub returns-then-is_empty : goal.returns-then-is_empty
 returns-then-is_empty c t u vs first second stand =
     let P : List (List Lexeme) → Type 0 = λ texts. IfOk c.spell_three.result
-    (λ pieces. Spell c.args.self.now.terms pieces.items
+    (λ pieces. Lay c.args.self.now.terms pieces.items
     (written (symbol_name c.args.head.now) (tokens_of t ∷ tokens_of u ∷ texts))) in
     first_part c.args.self.now.terms c.args.more.now c.in-Some.rest.now c.in-Some.third.now vs
     c.in-Some.ensures.cases.0 stand P (λ v ws third rest.
@@ -34,12 +34,12 @@ returns-then-is_empty c t u vs first second stand =
 pub returns-else-is_empty : goal.returns-else-is_empty
 returns-else-is_empty c t u vs first second stand =
     let P : List (List Lexeme) → Type 0 = λ texts. IfOk c.call.result
-    (λ pieces. Spell c.args.self.now.terms pieces.items
+    (λ pieces. Lay c.args.self.now.terms pieces.items
     (written (symbol_name c.args.head.now) (tokens_of t ∷ tokens_of u ∷ texts))) in
     first_part c.args.self.now.terms c.args.more.now c.in-Some.rest.now c.in-Some.third.now vs
     c.in-Some.ensures.cases.0 stand P (λ v ws third rest.
     let Q : List Lexeme → Type 0 = λ ls. IfOk c.call.result
-    (λ pieces. Spell c.args.self.now.terms pieces.items ls) in
+    (λ pieces. Lay c.args.self.now.terms pieces.items ls) in
     let all : Stand c.args.self.now.terms c.args.others.now (one_more u (one_more v ws)) =
     subst (λ terms. Stand c.args.self.now.terms terms (one_more u (one_more v ws)))
     (sym (c.requires ∙ ap (λ terms. c.args.second ∷ terms) c.in-Some.ensures.cases.0))

@@ -3,7 +3,7 @@ use Rattle.std.specs.Prelude.{IfOk}
 use Rattle.intern_terms.specs.Tree.{no_more, one_more}
 use Rattle.ra_ap_intern.specs.Symbols.{symbol_name}
 use Rattle.syntax.specs.Lexeme.{Lexeme}
-use Rattle.syntax.specs.Pieces.{Spell}
+use Rattle.syntax.specs.Pieces.{Lay}
 use Rattle.syntax.specs.Printing.{tokens_of}
 use Rattle.syntax.specs.declared.printer.Piece.TheVariants as piece
 use Rattle.syntax.proofs.Spelled.{spelled_conditional, spelled_local, three_called}
@@ -35,7 +35,7 @@ returns-in_ok-vec-2 c t u v first second third =
 pub returns-else-is_head-2 : goal.returns-else-is_head-2
 returns-else-is_head-2 c t u v first second third =
     let P : List Lexeme → Type 0 = λ ls. IfOk c.call.result
-    (λ pieces. Spell c.args.self.now.terms pieces.items ls) in
+    (λ pieces. Lay c.args.self.now.terms pieces.items ls) in
     subst P (sym (three_called (symbol_name c.args.head.now)
     (sym c.is_head.ensures ∙ c.if-is_head.false)
     (sym c.is_head-else-is_head.ensures ∙ c.if-is_head-2.false)
