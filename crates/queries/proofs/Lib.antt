@@ -3,4 +3,5 @@ pub mod Formulas
 pub mod Memos
 pub mod Paths
 pub mod Sheets
+pub mod Steps
 pub mod Trees

@@ -1,14 +1,17 @@
 //! The cache: what each query came to, and when that was last known to be right.
-ghost use Rattle.std.specs.Prelude.{◌≡◌, ◌↔◌, ◌⊎◌, ◌∷◌, Bool, true, false, [], map as list_map, Some, None, All, IsErrOf, IfOk, IsOkUnless, OnOk, OnErr, IfSome, IsSome, length, slice_get, option_copied};
+ghost use Rattle.std.specs.Prelude.{◌≡◌, ◌↔◌, ◌⊎◌, ◌∷◌, Bool, true, false, List, [], map as list_map, Some, None, All, IsErrOf, IfOk, IsOkUnless, OnOk, OnErr, IfSome, IsSome, length, slice_get, option_copied, if◌then◌else◌};
 ghost use Rattle.ra_ap_intern.specs.Handle.{ref_name};
 ghost use Rattle.ra_ap_intern.specs.Name.{Name as KeyName};
-ghost use Rattle.ra_ap_intern.specs.State.{reads};
+ghost use Rattle.ra_ap_intern.specs.Named.{same_name};
+ghost use Rattle.ra_ap_intern.specs.State.{IsState, reads, name_of_value};
 ghost use Rattle.queries.specs.Cache.{Handle, memo_at, IsMemo, IsCache, IsCollected, ReadsOn, HasGiven, current_answer, one_computed, one_verified};
 ghost use Rattle.queries.specs.Evaluation.{Evaluates, IsRight, LeadsToCycle};
 ghost use Rattle.queries.specs.Path.{WaitsFor, IsWaiting, IsFrame, IsPath, IsStuck, GoesOn};
 ghost use Rattle.queries.specs.Sheet.{Formulas, formula_at, same_place, gives};
+ghost use Rattle.queries.specs.Steps.{IsNearer, IsSettled, KeepsBegun, same_key, steps_left};
 ghost use Rattle.queries.specs.declared.cache.Memo.{Memo as MemoType};
 ghost use Rattle.queries.specs.declared.key.Key.{Key as KeyType};
+ghost use Rattle.queries.specs.declared.path.Frame.{Frame as FrameType};
 ghost use Rattle.queries.specs.declared.place.Place.{Place as PlaceType};
 
 use crate::fault::Fault;
@@ -18,7 +21,7 @@ use crate::path::{Frame, Path};
 use crate::place::Place;
 use crate::sheet::Sheet;
 use crate::value::{Answer, Value};
-use ra_ap_intern::{GarbageCollector, InternStorage, Interned, Refusal};
+use ra_ap_intern::{GarbageCollector, InternStorage, Interned, Refusal, laws as names};
 use std::alloc::{AllocError, Global};
 use std::collections::HashMap;
 
@@ -139,19 +142,24 @@ impl Cache {
         }
         let mut path = Path::new(self.alloc);
         let mut top = self.open(sheet, root, handle)?;
-        'steps: for _ in 0..u64::MAX {
+        // Each step leaves fewer, so this ends.
+        'steps: loop {
             match self.advance(sheet, &mut path, top)? {
                 Progress::At(frame) => top = frame,
                 Progress::Done(answer) => return Ok(answer),
             }
         }
-        Err(Fault::StepsUsedUp)
     }
 
     // The handle of a query.
     fn handle(&mut self, key: Key) -> Result<KeyRef, Refusal>
         ensures stored { IfOk result (λ handle. reads self.new.keys (ref_name handle) ≡ Some key) }
         ensures on { ReadsOn self.old.keys self.new.keys }
+        ensures keyed { OnOk result (IsState same_key self.new.keys) }
+        ensures found { IfOk result (λ handle.
+            name_of_value same_key self.new.keys key ≡ Some (ref_name handle)) }
+        ensures begun { OnOk result ((frames : List FrameType) →
+            KeepsBegun self.old frames self.new frames) }
         ensures cache { (sheet : Formulas) → IsCache sheet self.old → IsCache sheet self.new }
     {
         laws::keys_are_equal_exactly_if_they_are_the_same();
@@ -172,11 +180,14 @@ impl Cache {
     fn put(&mut self, handle: KeyRef, memo: Memo) -> Result<(), AllocError>
         ensures keys { self.new.keys ≡ self.old.keys }
         ensures counts { self.new.counts ≡ self.old.counts }
+        ensures revision { self.new.revision ≡ self.old.revision }
+        ensures memos { OnOk result ((name : KeyName) → memo_at self.new name
+            ≡ (if same_name (ref_name handle) name then Some memo else memo_at self.old name)) }
         ensures cache { (sheet : Formulas) → IsCache sheet self.old →
             IsMemo sheet self.old.keys self.old.revision (ref_name handle) memo →
             IsCache sheet self.new }
     {
-        laws::handles_are_their_names();
+        names::references_are_names::<Key>();
         self.memos.insert(handle, memo)?;
         Ok(())
     }
@@ -199,6 +210,8 @@ impl Cache {
     fn open(&self, sheet: &Sheet, key: Key, handle: KeyRef) -> Result<Frame, Fault>
         requires { reads self.now.keys (ref_name handle) ≡ Some key }
         ensures key { IfOk result (λ frame. frame.key ≡ key) }
+        ensures handle { IfOk result (λ frame. frame.handle ≡ handle) }
+        ensures values { IfOk result (λ frame. frame.values.items ≡ []) }
         ensures frame { IfOk result (IsFrame sheet.now self.now.keys) }
     {
         Ok(Frame {
@@ -219,6 +232,10 @@ impl Cache {
         ensures goes_on { (root : KeyType) →
             IsPath sheet.now self.old.keys root path.old.frames.items top.key →
             IfOk result (GoesOn sheet.now self.new.keys root path.new.frames.items) }
+        ensures nearer { (root : KeyType) →
+            IsPath sheet.now self.old.keys root path.old.frames.items top.key →
+            IfOk result (IsNearer sheet.now root self.new path.new.frames.items
+            (steps_left sheet.now root self.old (top ∷ path.old.frames.items))) }
     {
         match top.next() {
             Some(key) => self.read(sheet, path, top, key),
@@ -243,6 +260,10 @@ impl Cache {
         ensures goes_on { (root : KeyType) →
             IsPath sheet.now self.old.keys root path.old.frames.items top.key →
             IfOk result (GoesOn sheet.now self.new.keys root path.new.frames.items) }
+        ensures nearer { (root : KeyType) →
+            IsPath sheet.now self.old.keys root path.old.frames.items top.key →
+            IfOk result (IsNearer sheet.now root self.new path.new.frames.items
+            (steps_left sheet.now root self.old (top ∷ path.old.frames.items))) }
     {
         let handle = self.handle(key)?;
         match self.known(path, &top, key, handle) {
@@ -265,6 +286,9 @@ impl Cache {
             IsPath sheet self.old.keys first path.now.frames.items top.key → WaitsFor top key →
             IsRight sheet key answer →
             IfOk result (GoesOn sheet self.new.keys first path.now.frames.items) }
+        ensures nearer { (sheet : Formulas) (root key : KeyType) → WaitsFor top key →
+            IfOk result (IsNearer sheet root self.new path.now.frames.items
+            (steps_left sheet root self.old (top ∷ path.now.frames.items))) }
     {
         match answer {
             Answer::Value(value) => {
@@ -313,7 +337,13 @@ impl Cache {
         ensures goes_on { (root : KeyType) →
             IsPath sheet.now self.old.keys root path.old.frames.items top.key →
             IfOk result (GoesOn sheet.now self.new.keys root path.new.frames.items) }
+        ensures nearer { (root : KeyType) →
+            IsPath sheet.now self.old.keys root path.old.frames.items top.key →
+            IfOk result (IsNearer sheet.now root self.new path.new.frames.items
+            (steps_left sheet.now root self.old (top ∷ path.old.frames.items))) }
     {
+        laws::keys_are_equal_exactly_if_they_are_the_same();
+        let _number = self.keys.number();
         let value = self.settle(sheet, top)?;
         match path.pop() {
             Some(mut waiting) => {
@@ -336,6 +366,7 @@ impl Cache {
             ((HasGiven self.old (ref_name frame.handle) frame.values.items → ⊥) →
             self.new.counts ≡ one_computed self.old.counts) }
         ensures keys { self.new.keys ≡ self.old.keys }
+        ensures settled { OnOk result (IsSettled self.old (ref_name frame.handle) self.new) }
         ensures cache { IsCache sheet.now self.new }
     {
         let value = self.given(sheet, &frame)?;
@@ -361,6 +392,8 @@ impl Cache {
             (HasGiven self.old name frame.now.values.items → ⊥) →
             self.new.counts ≡ one_computed self.old.counts }
         ensures keys { self.new.keys ≡ self.old.keys }
+        ensures memos { self.new.memos ≡ self.old.memos }
+        ensures revision { self.new.revision ≡ self.old.revision }
         ensures cache { IsCache sheet.now self.new }
     {
         if let Some(value) = self.unchanged(frame) {

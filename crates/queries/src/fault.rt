@@ -15,9 +15,6 @@ pub enum Fault {
     /// When a cell is edited after 2^64 - 1 edits.
     #[error("all revisions are used up")]
     RevisionsUsedUp,
-    /// When an evaluation isn't done after 2^64 - 1 steps.
-    #[error("all steps are used up")]
-    StepsUsedUp,
 }
 
 impl From<Refusal> for Fault {

@@ -1,5 +1,7 @@
+use Rattle.std.proofs.Common.{◌∷◌}
 use Rattle.queries.specs.Cache.{IsCache}
 use Rattle.queries.specs.Path.{IsFrame, IsPath}
+use Rattle.queries.specs.Steps.{steps_left}
 use Rattle.queries.proofs.cache.Cache.answer.Given as goal
 
 -- the path leads from the query that was asked for to the one that is computed
@@ -9,3 +11,6 @@ invariant-steps l = record {
   frame : IsFrame l.fn.sheet l.self.keys l.top;
   path : IsPath l.fn.sheet l.self.keys l.fn.root l.path.frames.items l.top.key;
 }
+
+abbrev pub decreases-steps : goal.decreases-steps
+decreases-steps l = steps_left l.fn.sheet l.fn.root l.self (l.top ∷ l.path.frames.items)

@@ -2,11 +2,10 @@ use Rattle.std.proofs.Common.{is_some, refl, subst, rules}
 use Rattle.std.proofs.lemmas.Map.Made.{filter_same_pairs}
 use Rattle.ra_ap_intern.specs.Families.{IsCollection}
 use Rattle.ra_ap_intern.specs.Handle.{ref_name}
-use Rattle.ra_ap_intern.specs.Named.{same_name}
 use Rattle.ra_ap_intern.specs.Names.{has}
 use Rattle.ra_ap_intern.specs.Reach.{starts_with}
 use Rattle.ra_ap_intern.specs.State.{reads}
-use Rattle.ra_ap_intern.proofs.CallerLemmas.{listed_singly, map_retained, names_same}
+use Rattle.ra_ap_intern.proofs.CallerLemmas.{listed_singly, names_retained}
 use Rattle.queries.specs.Cache.{queries_of}
 use Rattle.queries.proofs.Memos.{memos_kept}
 use Rattle.queries.proofs.cache.Cache.collect.Goals as goal
@@ -22,7 +21,7 @@ returns-clause-ok c =
           (listed_singly ref_name c.args.needed.now) kept.1;
       keys = kept.2;
       count = refl;
-      memos = λ h. map_retained same_name ref_name names_same
+      memos = λ h. names_retained
           (λ n. is_some (reads c.collect_from.new.family n)) c.args.self.now.memos c.retain.new.self
           (filter_same_pairs _ (λ e. is_some (reads c.collect_from.new.family (ref_name e.0))) _
           (λ k v b w f' t. search rules) _ _ c.retain.ensures.filtered) (ref_name h);

@@ -1,6 +1,7 @@
 use Rattle.std.proofs.Common.{sym, subst}
 use Rattle.queries.specs.Path.{IsPath}
 use Rattle.queries.proofs.Paths.{path_takes}
+use Rattle.queries.proofs.Steps.{nearer_finish, state_of_keys}
 use Rattle.queries.proofs.cache.Cache.finish.Goals as goal
 
 pub returns-in_ok-take-in-Some-clause-goes_on : goal.returns-in_ok-take-in-Some-clause-goes_on
@@ -11,3 +12,12 @@ returns-in_ok-take-in-Some-clause-goes_on c root path =
     (subst (λ keys. IsPath c.args.sheet.now keys root c.args.path.now.frames.items c.args.top.key)
     (sym c.in_ok-value.ensures.keys) path)
     c.in-Some.ensures c.in_ok-value.ensures.value takes.key takes.handle takes.wants takes.values
+
+pub returns-in_ok-take-in-Some-clause-nearer : goal.returns-in_ok-take-in-Some-clause-nearer
+returns-in_ok-take-in-Some-clause-nearer c root path =
+    let takes = c.in_ok-take-in-Some.ensures in
+    let keys = c.args.self.now.keys in
+    nearer_finish c.args.sheet.now root c.args.self.now c.settle.new.self c.args.top c.in-Some.waiting
+    c.take.new.self c.pop.new.self.frames.items c.args.path.now.frames.items c.in_ok-value.value
+    (state_of_keys _ c.keys_are_equal_exactly_if_they_are_the_same.ensures keys c.number-number.ensures.state)
+    c.in_ok-value.ensures.settled c.in-Some.ensures takes.handle takes.wants takes.values

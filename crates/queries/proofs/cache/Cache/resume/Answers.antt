@@ -2,6 +2,7 @@ use Rattle.std.proofs.Common.{sym, subst}
 use Rattle.queries.specs.Evaluation.{IsRight}
 use Rattle.queries.specs.Path.{IsPath}
 use Rattle.queries.proofs.Paths.{frame_take, stuck_top, stuck_path, stuck_first}
+use Rattle.queries.proofs.Steps.{nearer_take}
 use Rattle.queries.proofs.cache.Cache.resume.Goals as goal
 
 pub returns-in_ok-take-in-Value-clause-goes_on : goal.returns-in_ok-take-in-Value-clause-goes_on
@@ -30,3 +31,9 @@ pub returns-in_ok-give_up-in-Cycle-clause-goes_on : goal.returns-in_ok-give_up-i
 returns-in_ok-give_up-in-Cycle-clause-goes_on c sheet first key frame path waits right =
     let cycle = subst (IsRight sheet key) c.in-Cycle.is right in
     stuck_first sheet _ c.args.top key frame waits first _ path c.in-Cycle.through cycle
+
+pub returns-in_ok-take-in-Value-clause-nearer : goal.returns-in_ok-take-in-Value-clause-nearer
+returns-in_ok-take-in-Value-clause-nearer c sheet root key waits =
+    let takes = c.in_ok-take-in-Value.ensures in
+    nearer_take sheet root c.args.self.now c.args.top c.take.new.self c.args.path.now.frames.items key
+    c.in-Value.value waits takes.handle takes.wants takes.values

@@ -1,6 +1,8 @@
 use Rattle.std.proofs.Common.{refl, sym, subst}
+use Rattle.ra_ap_intern.specs.Handle.{ref_name}
 use Rattle.queries.specs.Path.{IsFrame}
 use Rattle.queries.proofs.Paths.{settled, settled_memo}
+use Rattle.queries.proofs.Steps.{settled_put}
 use Rattle.queries.proofs.cache.Cache.settle.Goals as goal
 
 pub returns-clause-value : goal.returns-clause-value
@@ -21,3 +23,9 @@ returns-clause-cache c =
     (settled_memo c.args.sheet.now _ _ c.args.frame c.in_ok-value.value _
     (subst (λ keys. IsFrame c.args.sheet.now keys c.args.frame) (sym c.in_ok-value.ensures.keys) c.requires.frame)
     c.requires.complete c.in_ok-value.ensures.given refl refl refl)
+
+pub returns-clause-settled : goal.returns-clause-settled
+returns-clause-settled c =
+    let given = c.in_ok-value.ensures in
+    settled_put c.args.self.now c.given.new.self c.put.new.self (ref_name c.args.frame.handle) _ given.keys
+    given.memos given.revision c.put.ensures.keys c.put.ensures.revision c.in_ok-put.ensures.memos refl
