@@ -263,14 +263,19 @@ fn check_lowering(
 
 // A symbol that must be released.
 fn check_owed(rt: &impl Eprint, table: &mut SymbolTable, symbols: &Symbols) -> Result<(), Fault> {
-    takes_none(rt, "OwedSymbol::from, OwedSymbol::as_str");
+    let live = symbols.live.as_ref();
+    takes_none(
+        rt,
+        "OwedSymbol::from, OwedSymbol::as_str, OwedSymbol::as_ref, OwedSymbol::name",
+    );
     let owed = OwedSymbol::from(symbols.live.clone(table)?);
     let is_read = owed.as_str(table) == Some(LIVE);
+    let is_same = owed.as_ref() == live && owed.name() == live.name();
     takes_none(rt, "OwedSymbol::clone, OwedSymbol::release");
     let second = owed.clone(table).map(OwedSymbol::into_symbol);
     of_owed_symbol(owed.release(table))?;
     is_refused(second, Refusal::CountFull)?;
-    ensure(is_read)
+    ensure(is_read && is_same)
 }
 
 fn check_release(rt: &impl Eprint, table: &mut SymbolTable, symbols: Symbols) -> Result<(), Fault> {

@@ -1,7 +1,7 @@
 //! The calls that read a store or a reference. They take no memory.
 use crate::fault::{Fault, ensure};
 use crate::marks::mark;
-use crate::shape::{TERMS, args_of, head_of, name_of};
+use crate::shape::{TERMS, args_of, head_of, is_node, name_of};
 use intern_terms::{TermRef, TermStore};
 use ra_ap_intern::sym;
 
@@ -19,6 +19,8 @@ enum Look {
     GetOf,
     Head,
     Args,
+    Node,
+    Named,
     Name,
     Equal,
     Less,
@@ -55,11 +57,14 @@ fn shows(store: &TermStore, terms: &[TermRef], look: Look) -> bool {
     }
 }
 
-const LOOKUPS: [Marked; 11] = [
+const LOOKUPS: [Marked; 13] = [
     ("takes none: TermStore::number", Look::Number),
     ("takes none: TermStore::len", Look::Len),
     ("takes none: TermStore::is_empty", Look::IsEmpty),
-    ("takes none: TermStore::iter", Look::Iter),
+    (
+        "takes none: TermStore::iter, a loop over a store",
+        Look::Iter,
+    ),
     ("takes none: TermStore::contains", Look::Contains),
     ("takes none: TermStore::check", Look::Check),
     ("takes none: TermStore::count", Look::Count),
@@ -67,6 +72,8 @@ const LOOKUPS: [Marked; 11] = [
     ("takes none: TermStore::get_of", Look::GetOf),
     ("takes none: TermStore::head", Look::Head),
     ("takes none: TermStore::args", Look::Args),
+    ("takes none: TermStore::node", Look::Node),
+    ("takes none: TermStore::named", Look::Named),
 ];
 
 /// Makes the calls that read a store.
@@ -98,6 +105,8 @@ fn answers(store: &TermStore, terms: &[TermRef], term: TermRef, number: usize, l
         Look::GetOf => store.get_of(head_of(number).as_ref(), args) == Some(term),
         Look::Head => store.head(term) == Some(&head_of(number)),
         Look::Args => store.args(term) == Some(args),
+        Look::Node => is_node(store, term, &head_of(number), args),
+        Look::Named => store.named(term.name()) == Ok(term),
         Look::Name => term.name() == name_of(store, number),
         Look::Equal => (terms.first() == Some(&term)) == (number == 0),
         Look::Less => (terms.first() < Some(&term)) == (number > 0),
@@ -106,7 +115,7 @@ fn answers(store: &TermStore, terms: &[TermRef], term: TermRef, number: usize, l
 }
 
 fn lists(store: &TermStore, terms: &[TermRef]) -> bool {
-    for term in store.iter() {
+    for term in store {
         if terms.get(term.name().birth as usize) != Some(&term) {
             return false;
         }
@@ -131,7 +140,7 @@ pub(crate) fn check_references(
     Ok(())
 }
 
-const UNREAD: [Marked; 7] = [
+const UNREAD: [Marked; 9] = [
     ("takes none: TermStore::contains", Look::Contains),
     ("takes none: TermStore::check", Look::Check),
     ("takes none: TermStore::count", Look::Count),
@@ -139,6 +148,8 @@ const UNREAD: [Marked; 7] = [
     ("takes none: TermStore::get_of", Look::GetOf),
     ("takes none: TermStore::head", Look::Head),
     ("takes none: TermStore::args", Look::Args),
+    ("takes none: TermStore::node", Look::Node),
+    ("takes none: TermStore::named", Look::Named),
 ];
 
 /// Makes the calls that read a store, of a term that it hasn't.
@@ -168,6 +179,8 @@ fn shows_nothing(store: &TermStore, term: TermRef, look: Look) -> bool {
         Look::GetOf => store.get_of(sym::fn_.as_ref(), &[term]).is_none(),
         Look::Head => store.head(term).is_none(),
         Look::Args => store.args(term).is_none(),
+        Look::Node => store.node(term).is_none(),
+        Look::Named => store.named(term.name()).is_err(),
         _ => false,
     }
 }

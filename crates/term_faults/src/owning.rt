@@ -1,7 +1,7 @@
 //! The calls on owners of terms. They take no memory.
 use crate::fault::{Fault, ensure};
 use crate::marks::mark;
-use intern_terms::{Term, TermRef, TermStore};
+use intern_terms::{OwedTerm, Term, TermRef, TermStore};
 use ra_ap_intern::{Refusal, Refused};
 
 /// Keeps each term twice, and releases it.
@@ -12,6 +12,7 @@ pub(crate) fn check_owners(
 ) -> Result<(), Fault> {
     for term in terms {
         check_owner(rt, store, *term)?;
+        check_owed(rt, store, *term)?;
     }
     mark(rt, "prepares");
     Ok(())
@@ -27,8 +28,35 @@ fn check_owner(rt: &impl Eprint, store: &mut TermStore, term: TermRef) -> Result
         first.as_ref() == term && second.as_ref() == term,
         "an owner is of another term",
     )?;
+    mark(rt, "takes none: Term::name");
+    ensure(first.name() == term.name(), "an owner has another name")?;
     release(rt, store, first, 2)?;
     release(rt, store, second, 1)
+}
+
+// The same of an owner that must be released.
+fn check_owed(rt: &impl Eprint, store: &mut TermStore, term: TermRef) -> Result<(), Fault> {
+    let owner = store.keep(term)?;
+    mark(
+        rt,
+        "takes none: OwedTerm::from, OwedTerm::as_ref, OwedTerm::name",
+    );
+    let owed = OwedTerm::from(owner);
+    let is_same = owed.as_ref() == term && owed.name() == term.name();
+    mark(rt, "takes none: OwedTerm::clone, OwedTerm::into_term");
+    let second = owed.clone(store).map(OwedTerm::into_term);
+    mark(rt, "takes none: OwedTerm::release");
+    of_owed(owed.release(store))?;
+    ensure(is_same, "an owner that must be released is of another term")?;
+    release(rt, store, second?, 1)
+}
+
+// The answer of a release, whose refusal gives back an owner that may be dropped.
+fn of_owed(answer: Result<(), Refused<OwedTerm>>) -> Result<(), Refused<Term>> {
+    answer.map_err(|refused| Refused {
+        why: refused.why,
+        back: refused.back.into_term(),
+    })
 }
 
 /// Releases an owner of a term that has so many.
@@ -84,7 +112,17 @@ pub(crate) fn is_not_released(
 ) -> Result<Term, Fault> {
     let term = owner.as_ref();
     mark(rt, "takes none: Term::release");
-    match owner.release(store) {
+    let owner = not_released(owner.release(store), term, why)?;
+    mark(rt, "takes none: OwedTerm::release");
+    not_released(of_owed(OwedTerm::from(owner).release(store)), term, why)
+}
+
+fn not_released(
+    answer: Result<(), Refused<Term>>,
+    term: TermRef,
+    why: Refusal,
+) -> Result<Term, Fault> {
+    match answer {
         Ok(()) => Err(Fault("an owner is released that can't be")),
         Err(refused) => owner_back(refused, term, why),
     }

@@ -98,8 +98,8 @@ fn shows(store: &TermStore, terms: &[TermRef], term: TermRef, number: usize) -> 
         && store.get(&head, args) == Some(term)
 }
 
-// Whether the term reads this head with these arguments, in one call.
-fn is_node(store: &TermStore, term: TermRef, head: &Symbol, args: &[TermRef]) -> bool {
+/// Whether the term reads this head with these arguments, in one call.
+pub(crate) fn is_node(store: &TermStore, term: TermRef, head: &Symbol, args: &[TermRef]) -> bool {
     match store.node(term) {
         Some((found, arguments)) => found == head && arguments == args,
         None => false,
