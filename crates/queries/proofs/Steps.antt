@@ -317,7 +317,7 @@ within_last : (fs : List Frame) (f : Frame)
 within_last [] f = refl
 within_last (g ∷ gs) f = let rest = within_last gs f in omega arith
 
-any_last : (p : Frame → Bool) (fs : List Frame) (f : Frame)
+pub any_last : {X : Type 0} (p : X → Bool) (fs : List X) (f : X)
     → list_any p (fs ++ f ∷ []) ≡ list_any p (f ∷ fs)
 any_last p [] f = refl
 any_last p (g ∷ gs) f = go (p g) (p f) (any_last p gs f)

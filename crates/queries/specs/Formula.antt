@@ -1,5 +1,6 @@
 -- What formulas come to.
-use Rattle.std.specs.Prelude.{List, [], ◌∷◌, Option, None, Some, Result, Ok, Err, ℤ, pos, ◌+ℤ◌, ◌-ℤ◌, ◌*ℤ◌, neg_ℤ, int_div, slice_get, if◌then◌else◌}
+use Rattle.std.specs.Prelude.{List, [], ◌∷◌, Option, None, Some, Result, Ok, Err, ℤ, pos, ◌+ℤ◌, ◌-ℤ◌, ◌*ℤ◌, neg_ℤ, int_div, slice_get, if◌then◌else◌, refl}
+use Rattle.std.specs.Coded.{Coded, code_by, coded_list, coded×}
 use Rattle.std.specs.Ordering.{int_eq}
 use Rattle.queries.specs.declared.formula.Operator.{Operator}
 use Rattle.queries.specs.declared.formula.Operator.TheVariants.{Add, Subtract, Multiply, Divide}
@@ -15,6 +16,11 @@ use Rattle.queries.specs.Value.{exact_number, number_of, value_of, and_then}
 pub record Postfix : Type 0 where
   pub reads : List Key
   pub steps : List Step
+
+abbrev pub postfix_code : Coded Key → Coded Step → Coded Postfix
+postfix_code key step =
+    code_by (List Key × List Step) (coded× (coded_list key) (coded_list step))
+    (λ p. (p.reads, p.steps)) (λ p. record { reads = p.0; steps = p.1 }) (λ _. refl)
 
 -- the number of an operation
 abbrev pub applied : Operator → ℤ → ℤ → Result ℤ CellError

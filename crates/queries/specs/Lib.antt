@@ -1,7 +1,9 @@
 pub mod Cache
 pub mod Evaluation
 pub mod Formula
+pub mod Needed
 pub mod Sheet
+pub mod Spreadsheet
 pub mod Steps
 pub mod Tree
 pub mod Value

@@ -3,7 +3,7 @@ ghost use Rattle.std.specs.Prelude.{◌≡◌, ◌↔◌, ◌⊎◌, ◌∷◌, 
 ghost use Rattle.ra_ap_intern.specs.Handle.{ref_name};
 ghost use Rattle.ra_ap_intern.specs.Name.{Name as KeyName};
 ghost use Rattle.ra_ap_intern.specs.Named.{same_name};
-ghost use Rattle.ra_ap_intern.specs.State.{IsState, reads, name_of_value};
+ghost use Rattle.ra_ap_intern.specs.State.{IsState, new_state, reads, name_of_value};
 ghost use Rattle.queries.specs.Cache.{Handle, memo_at, IsMemo, IsCache, IsCollected, ReadsOn, HasGiven, current_answer, one_computed, one_verified};
 ghost use Rattle.queries.specs.Evaluation.{Evaluates, IsRight, LeadsToCycle};
 ghost use Rattle.queries.specs.Path.{WaitsFor, IsWaiting, IsFrame, IsPath, IsStuck, GoesOn};
@@ -82,7 +82,8 @@ enum Progress {
 impl Cache {
     /// Nothing is known.
     pub fn new(alloc: Global) -> Cache
-        ensures { (sheet : Formulas) → IsCache sheet result }
+        ensures keys { result.keys ≡ new_state 1 u64.MAX u64.MAX }
+        ensures cache { (sheet : Formulas) → IsCache sheet result }
     {
         Cache {
             alloc,
@@ -99,6 +100,7 @@ impl Cache {
         ensures cache { OnOk result ((old new : Formulas) → IsCache old self.old →
             ((p : PlaceType) → same_place place p ≡ false → formula_at new p ≡ formula_at old p) →
             IsCache new self.new) }
+        ensures keys { self.new.keys ≡ self.old.keys }
         ensures err { OnErr result (self.new ≡ self.old) }
         ensures used_up { IsErrOf result Fault.RevisionsUsedUp ↔ (self.old.revision ≡ u64.MAX) }
         ensures otherwise { IsOkUnless result Fault.RevisionsUsedUp }
@@ -133,6 +135,7 @@ impl Cache {
     pub fn answer(&mut self, sheet: &Sheet, root: Key) -> Result<Answer, Fault>
         requires { IsCache sheet.now self.old }
         ensures right { IfOk result (IsRight sheet.now root) }
+        ensures on { ReadsOn self.old.keys self.new.keys }
         ensures cache { IsCache sheet.now self.new }
     {
         let handle = self.handle(root)?;
@@ -228,6 +231,7 @@ impl Cache {
         requires frame { IsFrame sheet.now self.old.keys top }
         requires path { (first : KeyType)
             × IsPath sheet.now self.old.keys first path.old.frames.items top.key }
+        ensures on { ReadsOn self.old.keys self.new.keys }
         ensures cache { IsCache sheet.now self.new }
         ensures goes_on { (root : KeyType) →
             IsPath sheet.now self.old.keys root path.old.frames.items top.key →
@@ -256,6 +260,7 @@ impl Cache {
         requires waits { WaitsFor top key }
         requires path { (first : KeyType)
             × IsPath sheet.now self.old.keys first path.old.frames.items top.key }
+        ensures on { ReadsOn self.old.keys self.new.keys }
         ensures cache { IsCache sheet.now self.new }
         ensures goes_on { (root : KeyType) →
             IsPath sheet.now self.old.keys root path.old.frames.items top.key →
@@ -277,6 +282,7 @@ impl Cache {
 
     // The query that waited for this answer goes on with it.
     fn resume(&mut self, path: &Path, mut top: Frame, answer: Answer) -> Result<Progress, Fault>
+        ensures keys { self.new.keys ≡ self.old.keys }
         ensures cache { (sheet : Formulas) (first key : KeyType) → IsCache sheet self.old →
             IsFrame sheet self.old.keys top →
             IsPath sheet self.old.keys first path.now.frames.items top.key → WaitsFor top key →
@@ -333,6 +339,7 @@ impl Cache {
         requires cache { IsCache sheet.now self.old }
         requires frame { IsFrame sheet.now self.old.keys top }
         requires complete { slice_get top.wants.items (length top.values.items) ≡ None }
+        ensures keys { self.new.keys ≡ self.old.keys }
         ensures cache { IsCache sheet.now self.new }
         ensures goes_on { (root : KeyType) →
             IsPath sheet.now self.old.keys root path.old.frames.items top.key →
@@ -424,7 +431,8 @@ impl Cache {
 
     // None of the queries on the path has a value.
     fn give_up(&mut self, path: &Path, top: Frame, through: Key) -> Result<(), AllocError>
-        ensures { (sheet : Formulas) → IsCache sheet self.old →
+        ensures keys { self.new.keys ≡ self.old.keys }
+        ensures cache { (sheet : Formulas) → IsCache sheet self.old →
             IsStuck sheet self.old.keys through top →
             All (IsStuck sheet self.old.keys through) path.now.frames.items →
             IsCache sheet self.new }

@@ -6,6 +6,7 @@ pub mod fault;
 pub mod formula;
 pub mod key;
 pub mod laws;
+mod needed;
 pub mod parser;
 mod path;
 pub mod place;

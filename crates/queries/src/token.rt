@@ -148,33 +148,38 @@ impl<'a> Tokens<'a> {
 
 // The token that a word is.
 fn token_kind(word: &str) -> Result<TokenKind, Problem> {
-    let kind = match word {
-        "" => TokenKind::End,
-        "+" => TokenKind::Operator(Operator::Add),
-        "-" => TokenKind::Operator(Operator::Subtract),
-        "*" => TokenKind::Operator(Operator::Multiply),
-        "/" => TokenKind::Operator(Operator::Divide),
-        "(" => TokenKind::Opening,
-        ")" => TokenKind::Closing,
-        ":" => TokenKind::Colon,
-        "=" => TokenKind::Equals,
-        "SUM" => TokenKind::Function(Function::Sum),
-        "MIN" => TokenKind::Function(Function::Min),
-        "MAX" => TokenKind::Function(Function::Max),
-        "COUNT" => TokenKind::Function(Function::Count),
-        "clear" => TokenKind::Clear,
-        "show" => TokenKind::Show,
-        "all" => TokenKind::All,
-        "stats" => TokenKind::Stats,
-        "collect" => TokenKind::Collect,
-        _ if word.starts_with(|c: char| c.is_ascii_digit()) => {
-            TokenKind::Number(decimal(word, Problem::NumberTooLarge)?)
-        }
-        _ if word.starts_with(|c: char| c.is_ascii_alphabetic()) => TokenKind::Cell(cell(word)?),
-        _ => return Err(Problem::Character),
-    };
-    Ok(kind)
+    if let Some(spelling) = SPELLINGS.iter().find(|spelling| spelling.0 == word) {
+        Ok(spelling.1)
+    } else if word.starts_with(|c: char| c.is_ascii_digit()) {
+        Ok(TokenKind::Number(decimal(word, Problem::NumberTooLarge)?))
+    } else if word.starts_with(|c: char| c.is_ascii_alphabetic()) {
+        Ok(TokenKind::Cell(cell(word)?))
+    } else {
+        Err(Problem::Character)
+    }
 }
+
+// The signs and the words that are no cells, as they are written.
+const SPELLINGS: [(&str, TokenKind); 18] = [
+    ("", TokenKind::End),
+    ("+", TokenKind::Operator(Operator::Add)),
+    ("-", TokenKind::Operator(Operator::Subtract)),
+    ("*", TokenKind::Operator(Operator::Multiply)),
+    ("/", TokenKind::Operator(Operator::Divide)),
+    ("(", TokenKind::Opening),
+    (")", TokenKind::Closing),
+    (":", TokenKind::Colon),
+    ("=", TokenKind::Equals),
+    ("SUM", TokenKind::Function(Function::Sum)),
+    ("MIN", TokenKind::Function(Function::Min)),
+    ("MAX", TokenKind::Function(Function::Max)),
+    ("COUNT", TokenKind::Function(Function::Count)),
+    ("clear", TokenKind::Clear),
+    ("show", TokenKind::Show),
+    ("all", TokenKind::All),
+    ("stats", TokenKind::Stats),
+    ("collect", TokenKind::Collect),
+];
 
 // A number in decimal digits, or the problem where it doesn't fit.
 fn decimal(digits: &str, too_large: Problem) -> Result<i64, Problem> {

@@ -28,7 +28,7 @@ pub enum Piece {
 impl Syntax {
     /// An expression as tokens: operators, `if` and `let` stand in parentheses, so that it is read
     /// again without regard to precedence. Refused as `TooLong` where it takes more than so many
-    /// pieces: one for each token and each tree, fewer than twice as many as tokens.
+    /// pieces: one for each token and each tree, at most twice as many as tokens.
     pub fn print(&self, tree: TermRef, most: usize) -> Result<Vec<Token>, Fault>
         ensures tokens { (t : Tree) → UnfoldsTo self.now.terms (term_name tree) t →
             IfOk result (λ tokens. list_map lexeme tokens.items ≡ tokens_of t) }

@@ -24,26 +24,36 @@ struct Session {
 
 /// What is told of the versions in a text.
 pub fn answer_all(alloc: Global, text: &str) -> Result<String, Fault> {
-    let mut session = Session {
-        syntax: Syntax::new(alloc),
-        before: Program {
-            items: Vec::new(alloc),
-            spots: Vec::new(alloc),
-        },
-        number: 0,
-        out: String::new(alloc),
-    };
-    let mut first: u64 = 1;
     let lines: Vec<&str> = text.lines().collect(alloc)?;
-    for version in lines.split(|line| line.trim_end() == RULE) {
-        session.tell(version, first)?;
-        first = first.saturating_add(version.len() as u64).saturating_add(1);
-    }
+    let mut session = Session::new(alloc);
+    session.tell_all(&lines)?;
     let Session { out, .. } = session;
     Ok(out)
 }
 
 impl Session {
+    fn new(alloc: Global) -> Session {
+        Session {
+            syntax: Syntax::new(alloc),
+            before: Program {
+                items: Vec::new(alloc),
+                spots: Vec::new(alloc),
+            },
+            number: 0,
+            out: String::new(alloc),
+        }
+    }
+
+    // Tells the versions in these lines.
+    fn tell_all(&mut self, lines: &[&str]) -> Result<(), Fault> {
+        let mut first: u64 = 1;
+        for version in lines.split(|line| line.trim_end() == RULE) {
+            self.tell(version, first)?;
+            first = first.saturating_add(version.len() as u64).saturating_add(1);
+        }
+        Ok(())
+    }
+
     // Tells the version of these lines, of which the first has this number. One with an error is
     // passed over with its trees, and the next is compared with the one before it.
     fn tell(&mut self, lines: &[&str], first: u64) -> Result<(), Fault> {

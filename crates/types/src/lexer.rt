@@ -29,31 +29,38 @@ pub fn next_token(names: &mut SymbolTable, words: &mut Words) -> Result<(Token, 
 
 // The token that a word is.
 fn token_of(names: &mut SymbolTable, word: &str) -> Result<Token, Refusal> {
-    Ok(match word {
-        "" => Token::End,
-        "let" => Token::Let,
-        "rec" => Token::Rec,
-        "in" => Token::In,
-        "if" => Token::If,
-        "then" => Token::Then,
-        "else" => Token::Else,
-        "fun" => Token::Function,
-        "true" | "false" => Token::Boolean,
-        "->" => Token::Arrow,
-        "(" => Token::Open,
-        ")" => Token::Close,
-        "," => Token::Comma,
-        ";" => Token::Semicolon,
-        "=" => Token::Equals,
-        "==" => Token::Operator(Operator::Equal),
-        "+" => Token::Operator(Operator::Add),
-        "-" => Token::Operator(Operator::Subtract),
-        "*" => Token::Operator(Operator::Multiply),
-        "<" => Token::Operator(Operator::Less),
-        _ if word.starts_with(|c: char| c.is_alphabetic() || c == '_') => {
-            Token::Name(names.get_or_intern(word)?)
-        }
-        _ if word.bytes().all(|byte| byte.is_ascii_digit()) => Token::Integer,
-        _ => Token::Bad,
-    })
+    if let Some(spelling) = SPELLINGS.iter().find(|spelling| spelling.0 == word) {
+        Ok(spelling.1)
+    } else if word.starts_with(|c: char| c.is_alphabetic() || c == '_') {
+        Ok(Token::Name(names.get_or_intern(word)?))
+    } else if word.bytes().all(|byte| byte.is_ascii_digit()) {
+        Ok(Token::Integer)
+    } else {
+        Ok(Token::Bad)
+    }
 }
+
+// The keywords and signs, as they are written.
+const SPELLINGS: [(&str, Token); 21] = [
+    ("", Token::End),
+    ("let", Token::Let),
+    ("rec", Token::Rec),
+    ("in", Token::In),
+    ("if", Token::If),
+    ("then", Token::Then),
+    ("else", Token::Else),
+    ("fun", Token::Function),
+    ("true", Token::Boolean),
+    ("false", Token::Boolean),
+    ("->", Token::Arrow),
+    ("(", Token::Open),
+    (")", Token::Close),
+    (",", Token::Comma),
+    (";", Token::Semicolon),
+    ("=", Token::Equals),
+    ("==", Token::Operator(Operator::Equal)),
+    ("+", Token::Operator(Operator::Add)),
+    ("-", Token::Operator(Operator::Subtract)),
+    ("*", Token::Operator(Operator::Multiply)),
+    ("<", Token::Operator(Operator::Less)),
+];

@@ -3,6 +3,7 @@ use Rattle.queries.specs.Path.{IsPath}
 use Rattle.queries.proofs.Paths.{frame_on, path_on, path_push}
 use Rattle.std.proofs.lemmas.Result.{IfOk-weaker}
 use Rattle.ra_ap_intern.specs.Handle.{ref_name}
+use Rattle.ra_ap_intern.specs.State.{reads}
 use Rattle.queries.specs.Sheet.{reads_of}
 use Rattle.queries.specs.Steps.{is_begun}
 use Rattle.queries.proofs.Steps.{nearer_open, nearer_still, nearer_stored, next_reachable, not_begun}
@@ -32,6 +33,10 @@ returns-in-Some-clause-cache c =
     let frame = frame_on sheet _ _ on c.args.top c.requires.frame in
     c.resume.ensures.cache sheet first c.args.key is frame path c.requires.waits
     (c.in-Some.ensures.right sheet first is frame path)
+
+pub returns-in-Some-clause-on : goal.returns-in-Some-clause-on
+returns-in-Some-clause-on c name key at =
+    ap (λ keys. reads keys name) c.resume.ensures.keys ∙ c.in_ok-handle.ensures.on name key at
 
 pub returns-in-Some-clause-goes_on : goal.returns-in-Some-clause-goes_on
 returns-in-Some-clause-goes_on c root at =

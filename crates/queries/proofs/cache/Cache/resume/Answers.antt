@@ -16,14 +16,14 @@ returns-in_ok-take-in-Value-clause-goes_on c sheet first key frame path waits ri
 pub returns-in_err-give_up-in-Cycle-clause-cache : goal.returns-in_err-give_up-in-Cycle-clause-cache
 returns-in_err-give_up-in-Cycle-clause-cache c sheet first key is frame path waits right =
     let cycle = subst (IsRight sheet key) c.in-Cycle.is right in
-    c.give_up.ensures sheet is
+    c.give_up.ensures.cache sheet is
     (stuck_top sheet _ c.args.top key frame waits first _ path c.in-Cycle.through cycle)
     (stuck_path sheet _ c.args.top key frame waits first _ path c.in-Cycle.through cycle)
 
 pub returns-in_ok-give_up-in-Cycle-clause-cache : goal.returns-in_ok-give_up-in-Cycle-clause-cache
 returns-in_ok-give_up-in-Cycle-clause-cache c sheet first key is frame path waits right =
     let cycle = subst (IsRight sheet key) c.in-Cycle.is right in
-    c.give_up.ensures sheet is
+    c.give_up.ensures.cache sheet is
     (stuck_top sheet _ c.args.top key frame waits first _ path c.in-Cycle.through cycle)
     (stuck_path sheet _ c.args.top key frame waits first _ path c.in-Cycle.through cycle)
 

@@ -1,0 +1,30 @@
+-- What a spreadsheet has, and what a collection leaves of it.
+use Rattle.std.specs.Prelude.{◌≡◌, ◌↔◌, ◌⊎◌, ℕ, ◌+◌, true, Some, refl}
+use Rattle.std.specs.Coded.{Coded, code_by, coded×}
+use Rattle.std.specs.FinMap as map
+use Rattle.ra_ap_intern.specs.Name.{Name}
+use Rattle.ra_ap_intern.specs.Reach.{starts}
+use Rattle.ra_ap_intern.specs.State.{State, state_code, reads}
+use Rattle.queries.specs.declared.key.Key.{Key}
+use Rattle.queries.specs.Cache.{queries_of}
+use Rattle.queries.specs.Needed.{IsNeeded}
+use Rattle.queries.specs.Sheet.{Formulas}
+
+-- the formulas, and the queries that have handles
+pub record Book : Type 0 where
+  pub sheet : Formulas
+  pub keys : State Key
+
+abbrev pub book_code : Coded Formulas → Coded Key → Coded Book
+book_code sheet key =
+    code_by (Formulas × State Key) (coded× sheet (state_code key)) (λ b. (b.sheet, b.keys))
+    (λ p. record { sheet = p.0; keys = p.1 }) (λ _. refl)
+
+-- what a collection leaves: the queries that are needed, and those that are counted, under their
+-- names; and how many have gone
+pub record IsCleared (old new : Book) (gone : ℕ) : Type 0 where
+  pub sheet : new.sheet ≡ old.sheet
+  pub kept : (name : Name) (key : Key) → (reads new.keys name ≡ Some key)
+      ↔ ((reads old.keys name ≡ Some key)
+      × (IsNeeded old.sheet old.keys key ⊎ (starts (queries_of old.keys) name ≡ true)))
+  pub count : gone + map.len new.keys.map ≡ map.len old.keys.map
