@@ -19,7 +19,7 @@ use Rattle.ra_ap_intern.specs.Reach.{children_in, children_of, is_entry, starts,
 use Rattle.ra_ap_intern.specs.State.{State, IsState, entry_at, reads, name_of_value}
 use Rattle.ra_ap_intern.specs.StorageLaws.{as_entry, entries_kept, entry_named}
 use Rattle.ra_ap_intern.specs.declared.gc.Collected.{Collected}
-use Rattle.ra_ap_intern.proofs.CallerLemmas.{counted_kept, entry_read, found_reads, kept_reads, kept_was_read, names_same, root_kept, same_names}
+use Rattle.ra_ap_intern.proofs.CallerLemmas.{counted_kept, entry_read, found_reads, names_same, root_kept, same_names}
 use Rattle.queries.specs.Cache.{queries_of}
 use Rattle.queries.specs.Needed.{AreNeeded, HasHandle, IsFormulaCell, IsNeeded, LeadsTo, TakesReads}
 use Rattle.queries.specs.Sheet.{Formulas, reads_of}
@@ -321,25 +321,21 @@ module _ (sheet : Formulas) (old new : State Key) (listed names : List Name) (to
       → IsCleared (record { sheet = sheet; keys = old }) (record { sheet = sheet; keys = new }) gone
   cleared gone same = record {
     sheet = refl;
-    kept = λ name key. (
-      λ read.
-          let was = kept_was_read old (has names) name key (ap (λ s. reads s name) (sym left) ∙ read) in (
-            was.1,
-            elim (or_cases (starts (queries_of old) name) _ (begun name was.0)) [
-              | inl counted ↦ inr counted
-              | inr root ↦
-                  let of = (needed name).0 (and_parts (is_entry (queries_of old) name) _ root).1 in
-                  inl (subst (IsNeeded sheet old) (same_Some _ _ (sym of.1 ∙ was.1)) of.2)
-            ],
-          ),
-      λ h. ap (λ s. reads s name) left
-          ∙ kept_reads old (has names) name (elim h.1 [
-            | inl need ↦
-                root_kept listed (queries_of old) names is.reached name
-                ((needed name).1 (key, h.0, need)) (entry_read (λ k. []) old name ∙ ap is_some h.0)
-            | inr counted ↦ counted_kept listed (queries_of old) names is.reached name counted
-          ])
-          ∙ h.0,
+    names = names;
+    keys = left;
+    needed = λ name key read. (
+      λ in'. elim (or_cases (starts (queries_of old) name) _ (begun name in')) [
+        | inl counted ↦ inr counted
+        | inr root ↦
+            let of = (needed name).0 (and_parts (is_entry (queries_of old) name) _ root).1 in
+            inl (subst (IsNeeded sheet old) (same_Some _ _ (sym of.1 ∙ read)) of.2)
+      ],
+      λ why. elim why [
+        | inl need ↦
+            root_kept listed (queries_of old) names is.reached name ((needed name).1 (key, read, need))
+            (entry_read (λ k. []) old name ∙ ap is_some read)
+        | inr counted ↦ counted_kept listed (queries_of old) names is.reached name counted
+      ],
     );
     count =
         (λ i. same i + sym (size new) i) ∙ ap (λ es. told.removed + length es)

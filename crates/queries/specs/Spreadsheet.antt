@@ -1,8 +1,10 @@
 -- What a spreadsheet has, and what a collection leaves of it.
-use Rattle.std.specs.Prelude.{◌≡◌, ◌↔◌, ◌⊎◌, ℕ, ◌+◌, true, Some, refl}
+use Rattle.std.specs.Prelude.{◌≡◌, ◌↔◌, ◌⊎◌, ℕ, ◌+◌, true, List, Some, refl}
 use Rattle.std.specs.Coded.{Coded, code_by, coded×}
 use Rattle.std.specs.FinMap as map
+use Rattle.ra_ap_intern.specs.Families.{kept_named}
 use Rattle.ra_ap_intern.specs.Name.{Name}
+use Rattle.ra_ap_intern.specs.Names.{has}
 use Rattle.ra_ap_intern.specs.Reach.{starts}
 use Rattle.ra_ap_intern.specs.State.{State, state_code, reads}
 use Rattle.queries.specs.declared.key.Key.{Key}
@@ -24,7 +26,8 @@ book_code sheet key =
 -- names; and how many have gone
 pub record IsCleared (old new : Book) (gone : ℕ) : Type 0 where
   pub sheet : new.sheet ≡ old.sheet
-  pub kept : (name : Name) (key : Key) → (reads new.keys name ≡ Some key)
-      ↔ ((reads old.keys name ≡ Some key)
-      × (IsNeeded old.sheet old.keys key ⊎ (starts (queries_of old.keys) name ≡ true)))
+  pub names : List Name
+  pub keys : new.keys ≡ kept_named old.keys (has names)
+  pub needed : (name : Name) (key : Key) → reads old.keys name ≡ Some key → (has names name ≡ true)
+      ↔ (IsNeeded old.sheet old.keys key ⊎ (starts (queries_of old.keys) name ≡ true))
   pub count : gone + map.len new.keys.map ≡ map.len old.keys.map
