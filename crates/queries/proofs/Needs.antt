@@ -260,9 +260,6 @@ abbrev pub HasNames : State Key → List Key → List Name → Type 0
 HasNames keys queries names = (name : Name) → (has names name ≡ true)
     ↔ ((key : Key) × (reads keys name ≡ Some key) × Contains queries key)
 
-pub no_names : (keys : State Key) → HasNames keys [] []
-no_names keys name = (λ is. absurd (cc), λ of. absurd (omega (arith, of.2.1)))
-
 module _ (keys : State Key) (all : List Key) (i : ℕ) (key : Key) (at : slice_get all i ≡ Some key) (names : List Name) (before : HasNames keys (take i all) names) where
   -- a query that has a handle
   pub names_more : (n : Name) → reads keys n ≡ Some key

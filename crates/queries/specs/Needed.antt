@@ -9,9 +9,11 @@ use Rattle.queries.specs.declared.key.Key.TheVariants.{Cell}
 use Rattle.queries.specs.declared.place.Place.{Place}
 use Rattle.queries.specs.Sheet.{Formulas, formula_at, reads_of}
 
+-- a query is stored
 abbrev pub HasHandle : State Key → Key → Type 0
 HasHandle keys key = (name : Name) × (reads keys name ≡ Some key)
 
+-- a cell has a formula
 abbrev pub IsFormulaCell : Formulas → Key → Type 0
 IsFormulaCell sheet key = (place : Place) × (key ≡ Cell place) × IsSome (formula_at sheet place)
 

@@ -118,11 +118,11 @@ impl Spreadsheet {
 
     /// Removes the queries that no cell with a formula needs, and tells how many. Where there is
     /// no memory, nothing changes.
-    pub fn collect(&mut self) -> Result<usize, Fault>
+    pub fn collect(&mut self) -> Result<usize, AllocError>
         ensures ok { IfOk result (IsCleared self.old self.new) }
         ensures err { OnErr result (self.new ≡ self.old) }
     {
         let needed = needed_handles(self.alloc, &self.sheet, &self.cache.keys)?;
-        Ok(self.cache.collect(needed.as_slice())?)
+        self.cache.collect(needed.as_slice())
     }
 }

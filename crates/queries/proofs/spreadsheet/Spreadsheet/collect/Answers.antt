@@ -3,6 +3,7 @@ use Rattle.ra_ap_intern.specs.Handle.{ref_name}
 use Rattle.queries.specs.Needed.{AreNeeded}
 use Rattle.queries.specs.Spreadsheet.{IsCleared}
 use Rattle.queries.proofs.Needs.{cleared}
+use Rattle.queries.proofs.Sheets.{if_ok}
 use Rattle.queries.proofs.spreadsheet.Spreadsheet.collect.Goals as goal
 
 pub returns-clause-ok : goal.returns-clause-ok
@@ -10,9 +11,9 @@ returns-clause-ok c =
     let sheet = c.self.inside.sheet in
     let old = c.self.inside.cache.keys in
     let new = c.collect.new.self.keys in
-    let gone = c.in_ok-collect.field-0 in
-    let kept = c.in_ok-collect.ensures.ok in
     let needed = subst (λ handles. AreNeeded sheet old (map ref_name handles))
     (sym c.as_slice.ensures.value) c.in_ok-needed.ensures in
+    if_ok _ _ (λ gone kept.
     subst (λ b. IsCleared b (record { sheet = sheet; keys = new }) gone) c.self.view_is
-    (cleared sheet old new _ kept.names kept.told kept.reached kept.keys needed gone kept.count)
+    (cleared sheet old new _ kept.names kept.told kept.reached kept.keys needed gone kept.count))
+    c.collect.result c.collect.ensures.ok
