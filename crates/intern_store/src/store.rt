@@ -18,13 +18,26 @@ use std::marker::Model;
 /// state, how it hashes, and the room for more.
 ///
 /// Each refusal and each count is decided here, once for every kind of storage.
-#[derive(Drop)]
 pub struct Store<E: Entries> {
     number: u64,
     next: u64,
     top: u64,
     numbers: u64,
     table: E,
+}
+
+// Written out, so that a store is dropped by one call. A derived drop is checked anew at each way out
+// of each function that has one, down to the last part of the table.
+impl<E: Entries + Drop> Drop for Store<E> {
+    fn drop(self) {
+        let Store {
+            number: _,
+            next: _,
+            top: _,
+            numbers: _,
+            table: _,
+        } = self;
+    }
 }
 
 impl<E: Entries> Model for Store<E> {

@@ -55,10 +55,16 @@ pub struct Collected {
 /// entries, vacant ones too, and never recurses. Beside the family it takes about 11 bytes an entry,
 /// or 28 where places were used again, and 3 or 20 a vacant place, all of it before the first mark
 /// call.
-#[derive(Drop)]
 pub struct GarbageCollector {
     alloc: Global,
     marks: Marks,
+}
+
+// Written out, so that a collector is dropped by one call, as a store is.
+impl Drop for GarbageCollector {
+    fn drop(self) {
+        let GarbageCollector { alloc: _, marks: _ } = self;
+    }
 }
 
 impl Model for GarbageCollector {

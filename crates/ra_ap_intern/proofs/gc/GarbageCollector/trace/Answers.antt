@@ -13,7 +13,7 @@ returns g c =
     let all = g.F.Family.entries c.args.family.now in
     let listed = g.R.GcInternedVisit.children c.args.roots.now in
     let learnt = c.in_ok-learn.ensures.ok in
-    let marked = c.forget_calls.ensures ∙ ap untold (c.self-2.view_is ∙ c.visit_with.ensures) in
+    let marked = c.forget_calls.ensures ∙ ap untold (c.self.view_is ∙ c.visit_with.ensures) in
     c.followed.ensures listed
     (subst (IsTrace (starts_with listed all) all) (sym marked) (calls_begin all listed c.learn.new.self learnt))
     (ap (λ (m : Marks). len m.registered) marked ∙ ap len (each-registered false mark mark_places c.learn.new.self listed)
