@@ -7,6 +7,7 @@ pub use Rattle.intern_terms.proofs.Trees.{tree_on, forest_on}
 -- the names of a list of trees, one by one
 pub use Rattle.intern_terms.proofs.Trees.{forest_first, forest_none}
 -- a list of references has as many trees, and two lists in one have the trees of both
-pub use Rattle.intern_terms.proofs.Trees.{forest_length, forest_append, joined}
+pub use Rattle.intern_terms.proofs.Trees.{forest_length, forest_append}
+pub use Rattle.intern_terms.specs.Tree.{joined}
 -- what a name reads is what its tree is made of, and where it reads nothing it has none
 pub use Rattle.intern_terms.proofs.Trees.{tree_head, tree_arguments, unread}

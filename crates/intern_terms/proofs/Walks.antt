@@ -12,12 +12,11 @@ use Rattle.ra_ap_intern.specs.Named.{same_name}
 use Rattle.ra_ap_intern.specs.Sliced.{Sliced}
 use Rattle.ra_ap_intern.specs.State.{State, reads}
 use Rattle.ra_ap_intern.specs.declared.symbol.Symbol.{Symbol}
-use Rattle.ra_ap_intern.proofs.CallerLemmas.{some_read, entry_read, children_read, names_same, same_names}
+use Rattle.ra_ap_intern.proofs.CallerLemmas.{has_first, some_read, entry_read, children_read, names_same, same_names}
 use Rattle.intern_terms.specs.Handle.{term_name}
 use Rattle.intern_terms.specs.Store.{arguments, declared_by, terms_of}
 use Rattle.intern_terms.specs.Walk.{begins_at, InOrder, IsWalk, with_name}
 use Rattle.intern_terms.specs.declared.handle.TermRef.{TermRef}
-use Rattle.intern_terms.proofs.Names.{has_first}
 
 pub true_or_false : (t : Bool) → (t ≡ true) ⊎ (t ≡ false)
 true_or_false true = inl refl

@@ -417,7 +417,7 @@ module _ {V : Type 0} (children : V → List Name) where
   module _ (begins : Name → Bool) (s : State V) (names : List Name)
       (is : IsReachedSet begins (entries_of children s) names) where
     -- a child that is read is kept with what declares it
-    declared_kept : (name child : Name) (v : V) → has names name ≡ true → reads s name ≡ Some v
+    pub declared_kept : (name child : Name) (v : V) → has names name ≡ true → reads s name ≡ Some v
         → has (children v) child ≡ true → IsSome (reads s child) → has names child ≡ true
     declared_kept name child v kept read declared there =
         child_kept begins (entries_of children s) names is name child kept

@@ -9,6 +9,7 @@ pub mod CallerReads
 pub mod CallerSlices
 pub mod CallerStates
 pub mod CallerSymbols
+pub mod CallerTrees
 pub mod CallerViews
 mod Collections
 mod Entries

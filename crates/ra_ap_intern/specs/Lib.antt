@@ -8,6 +8,7 @@ pub mod Reserved
 pub mod Slices
 pub mod StorageLaws
 pub mod Symbols
+pub mod Tree
 pub mod Under
 pub mod Visitors
 pub use Rattle.intern_marks.specs.Learning

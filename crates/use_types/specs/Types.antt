@@ -12,10 +12,17 @@ use Rattle.use_types.specs.declared.value.TypeNode.TheOpen.{TypeNode-F}
 use Rattle.ra_ap_intern.specs.declared.kind.Values.{Values}
 use Rattle.ra_ap_intern.specs.declared.storage.Ref.{Ref}
 
--- a type over others: a name, or the functions between two
-pub data Shape : Type 0 where
-  named : Named → Shape
-  function : Name → Name → Shape
+-- what a type is: its name, if it has one, and its parts
+abbrev pub Shape : Type 0
+Shape = Option Named × List Name
+
+-- a type with a name
+abbrev pub named : Named → Shape
+named name = (Some name, [])
+
+-- the functions from one type to another
+abbrev pub function : Name → Name → Shape
+function from to = (None, from ∷ to ∷ [])
 
 abbrev pub open_shape : TypeNode-F TypeNode → Shape
 open_shape (TypeNode-F.Named name) = named (symbol_ref_name name)
@@ -28,13 +35,9 @@ shape t = open_shape (out-TypeNode t)
 abbrev pub shape_at : State TypeNode → Name → Option Shape
 shape_at s name = option_map shape (reads s name)
 
--- what a type declares: the names of its parts
-abbrev pub parts_in : Shape → List Name
-parts_in (named name) = []
-parts_in (function from to) = from ∷ to ∷ []
-
+-- what a type declares: its parts
 abbrev pub declared_by : TypeNode → List Name
-declared_by t = parts_in (shape t)
+declared_by t = (shape t).1
 
 -- a store's types, as a collection sees them
 abbrev pub types_of : State TypeNode → List Entry

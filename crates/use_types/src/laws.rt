@@ -8,7 +8,7 @@ ghost use Rattle.ra_ap_intern.specs.Reach.{IsReachedSet};
 ghost use Rattle.ra_ap_intern.specs.State.{State, IsState, interned};
 ghost use Rattle.ra_ap_intern.specs.declared.kind.Values.{Values as ValueKind};
 ghost use Rattle.ra_ap_intern.specs.declared.storage.Ref.{Ref as Reference};
-ghost use Rattle.use_types.specs.Tree.{Tree, UnfoldsTo};
+ghost use Rattle.use_types.specs.Tree.{TypeTree, UnfoldsTo};
 ghost use Rattle.use_types.specs.Types.{Shape, shape, shape_at, types_of};
 ghost use Rattle.use_types.specs.declared.value.TypeNode.{TypeNode as Node};
 
@@ -38,7 +38,7 @@ pub fn handles_tell_types()
 /// leaves.
 pub fn handles_tell_trees()
     ensures { (s : State Node) → IsState ⟦<TypeNode as PartialEq>⟧.eq s →
-        (a b : Reference (ValueKind Node)) (t u : Tree) →
+        (a b : Reference (ValueKind Node)) (t u : TypeTree) →
         UnfoldsTo s (ref_name a) t → UnfoldsTo s (ref_name b) u →
         (⟦<TypeRef as PartialEq>⟧.eq a b ≡ true) ↔ (t ≡ u) }
 {
@@ -49,9 +49,9 @@ pub fn handles_tell_trees()
 /// A tree stays where types are made, and where a collection leaves its type.
 pub fn trees_stay()
     ensures made { let eq = ⟦<TypeNode as PartialEq>⟧.eq in
-        (s : State Node) → IsState eq s → (v : Node) (n : TypeName) (t : Tree) →
+        (s : State Node) → IsState eq s → (v : Node) (n : TypeName) (t : TypeTree) →
         UnfoldsTo s n t → UnfoldsTo (interned eq s v).state n t }
     ensures collected { (s : State Node) (begins : TypeName → Bool) (names : List TypeName) →
-        IsReachedSet begins (types_of s) names → (n : TypeName) (t : Tree) →
+        IsReachedSet begins (types_of s) names → (n : TypeName) (t : TypeTree) →
         has names n ≡ true → UnfoldsTo s n t → UnfoldsTo (kept_named s (has names)) n t }
 {}

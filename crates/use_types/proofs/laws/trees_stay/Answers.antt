@@ -1,8 +1,8 @@
-use Rattle.use_types.proofs.Trees.{tree_made, tree_kept}
+use Rattle.ra_ap_intern.proofs.CallerLemmas.{tree_interned, tree_kept}
 use Rattle.use_types.proofs.laws.trees_stay.Goals as goal
 
 pub returns-clause-made : goal.returns-clause-made
-returns-clause-made c s ok v n t = tree_made _ s ok v t n
+returns-clause-made c s ok v n t = tree_interned _ _ _ s ok v t n
 
 pub returns-clause-collected : goal.returns-clause-collected
-returns-clause-collected c s begins names is n t = tree_kept begins s names is t n
+returns-clause-collected c s begins names is n t = tree_kept _ _ begins s names is t n

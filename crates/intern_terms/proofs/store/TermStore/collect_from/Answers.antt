@@ -14,4 +14,4 @@ returns-clause-ok g c = rw (← c.self.view_is) c.collect_from.ensures.ok
 pub returns-clause-trees : goal.returns-clause-trees
 returns-clause-trees g c =
     rw (← c.self.view_is) (tree_collected _ _ _ c.collect_from.result
-    (c.collect_from.ensures.ok, c.collect_from.ensures.err) c.self.invariant)
+    (c.collect_from.ensures.ok, c.collect_from.ensures.err))

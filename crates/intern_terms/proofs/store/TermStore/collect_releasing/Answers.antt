@@ -36,5 +36,5 @@ returns-clause-trees g c =
     let now = sym c.sweep.ensures.family in
     rw (← c.self.view_is) (λ name t left unfolds.
     subst (λ s. UnfoldsTo s name t) now
-    (left_tree _ _ _ c.in_ok-trace.ensures.reached c.self.invariant t name
+    (left_tree _ _ _ c.in_ok-trace.ensures.reached t name
     (subst (λ s. IsSome (reads s name)) c.sweep.ensures.family left) unfolds))
