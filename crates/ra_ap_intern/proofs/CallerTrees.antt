@@ -63,8 +63,8 @@ module _ {V X : Type 0} (children : V → List Name) (see : V → X) where
     forest_none [] all = refl
     forest_none (a ∷ names) all = absurd all
 
-  -- a tree has one name, where values are equal exactly if the same is seen of them and they have the
-  -- same children
+  -- a tree has one name, where values are equal exactly if the same is seen of them and they have
+  -- the same children
   module _ (eq : V → V → Bool)
       (alike : (v w : V) → (eq v w ≡ true) ↔ ((see v ≡ see w) × (children v ≡ children w)))
       (s : State V) (ok : IsState eq s) where
@@ -97,7 +97,8 @@ module _ {V X : Type 0} (children : V → List Name) (see : V → X) where
   -- all that is read has a tree
   module _ (s : State V) (built : IsBuilt children s) where
     has_forest : (k : ℕ)
-        → ((n : Name) → n.birth < k → IsSome (reads s n) → (t : Tree X) × UnfoldsTo children see s n t)
+        → ((n : Name) → n.birth < k → IsSome (reads s n)
+        → (t : Tree X) × UnfoldsTo children see s n t)
         → (ns : List Name) → ((a : Name) → has ns a ≡ true → (a.birth < k) × IsSome (reads s a))
         → (ts : Trees X) × AllUnfold children see s ns ts
     has_forest k each [] there = (no_more, tt)
@@ -120,38 +121,19 @@ module _ {V X : Type 0} (children : V → List Name) (see : V → X) where
     pub has_tree : (n : Name) → IsSome (reads s n) → (t : Tree X) × UnfoldsTo children see s n t
     has_tree n is = has_tree_below (suc n.birth) n (omega arith) is
 
-  -- the trees of a set of names that has, with a name, its children, stay where their reads do
-  module _ (s t : State V) (set : Name → Bool)
-      (reads_on : (n : Name) (v : V) → set n ≡ true → reads s n ≡ Some v → reads t n ≡ Some v)
-      (closed : (n a : Name) (v : V) → set n ≡ true → reads s n ≡ Some v
-      → has (children v) a ≡ true → set a ≡ true) where
-    mutual
-      pub tree_stays : (x : Tree X) (n : Name) → set n ≡ true → UnfoldsTo children see s n x
-          → UnfoldsTo children see t n x
-      tree_stays (tree h ts) n is a = (
-        a.0,
-        reads_on n a.0 is a.1,
-        a.2,
-        forest_stays ts (children a.0) (λ b. closed n b a.0 is a.1) a.3,
-      )
-
-      pub forest_stays : (ts : Trees X) (ns : List Name)
-          → ((a : Name) → has ns a ≡ true → set a ≡ true) → AllUnfold children see s ns ts
-          → AllUnfold children see t ns ts
-      forest_stays no_more [] is a = tt
-      forest_stays no_more (n ∷ ns) is a = absurd a
-      forest_stays (one_more x xs) [] is a = absurd a
-      forest_stays (one_more x xs) (n ∷ ns) is a = (
-        tree_stays x n (is n (has_first n ns)) a.0,
-        forest_stays xs ns (λ b h. is b (has_later n b ns h)) a.1,
-      )
-
   -- a tree stays where the reads do
-  pub tree_on : (s t : State V)
-      → ((n : Name) (v : V) → reads s n ≡ Some v → reads t n ≡ Some v)
-      → (x : Tree X) (n : Name) → UnfoldsTo children see s n x → UnfoldsTo children see t n x
-  tree_on s t reads_on x n =
-      tree_stays s t (λ _. true) (λ m v is. reads_on m v) (λ m a v is read has. refl) x n refl
+  module _ (s t : State V) (on : (n : Name) (v : V) → reads s n ≡ Some v → reads t n ≡ Some v) where
+    mutual
+      pub tree_on : (x : Tree X) (n : Name) → UnfoldsTo children see s n x
+          → UnfoldsTo children see t n x
+      tree_on (tree x ts) n a = (a.0, on n a.0 a.1, a.2, all_on ts (children a.0) a.3)
+
+      all_on : (ts : Trees X) (ns : List Name) → AllUnfold children see s ns ts
+          → AllUnfold children see t ns ts
+      all_on no_more [] a = tt
+      all_on no_more (n ∷ ns) a = absurd a
+      all_on (one_more x xs) [] a = absurd a
+      all_on (one_more x xs) (n ∷ ns) a = (tree_on x n a.0, all_on xs ns a.1)
 
   -- and so do lists of trees, where each tree does
   pub forest_on : (s t : State V)
@@ -200,7 +182,7 @@ module _ {V X : Type 0} (children : V → List Name) (see : V → X) where
         forest_kept ts (children a.0) (λ m. declared_kept children begins s names is n m a.0 kept a.1) a.3,
       )
 
-      pub forest_kept : (ts : Trees X) (ns : List Name)
+      forest_kept : (ts : Trees X) (ns : List Name)
           → ((m : Name) → has ns m ≡ true → IsSome (reads s m) → has names m ≡ true)
           → AllUnfold children see s ns ts
           → AllUnfold children see (kept_named s (has names)) ns ts
