@@ -1,5 +1,5 @@
 use Rattle.ra_ap_intern.proofs.CallerLemmas.{names_tell_views}
-use Rattle.use_types.proofs.laws.handles_tell_types.Goals as goal
+use Rattle.use_types.proofs.handles_tell_types.Goals as goal
 
 pub returns : goal.returns
 returns c s ok a b x y first second =

@@ -5,7 +5,7 @@ use Rattle.ra_ap_intern.specs.State.{State}
 use Rattle.ra_ap_intern.specs.Symbols.{Named}
 use Rattle.ra_ap_intern.specs.Tree.{Tree, UnfoldsTo as UnfoldsInto}
 use Rattle.use_types.specs.Types.{declared_by, shape}
-use Rattle.use_types.specs.declared.value.TypeNode.{TypeNode}
+use Rattle.use_types.specs.declared.TypeNode.{TypeNode}
 
 abbrev pub TypeTree : Type 0
 TypeTree = Tree (Option Named)

@@ -2,14 +2,13 @@ use Rattle.std.proofs.Common.{refl}
 use Rattle.ra_ap_intern.specs.Families.{kept_named}
 use Rattle.ra_ap_intern.specs.Handle.{ref_name}
 use Rattle.ra_ap_intern.proofs.CallerLemmas.{listed_singly, collected_reads}
-use Rattle.use_types.proofs.store.Types.collect.Goals as goal
+use Rattle.use_types.proofs.collect.Goals as goal
 
 pub returns-clause-ok : goal.returns-clause-ok
-returns-clause-ok c =
-    rw (← c.self.view_is, ← listed_singly ref_name c.args.roots.now) c.collect_from.ensures.ok
+returns-clause-ok c = rw (← listed_singly ref_name c.args.roots.now) c.collect_from.ensures.ok
 
 pub returns-clause-stays : goal.returns-clause-stays
 returns-clause-stays c =
-    rw (← c.self.view_is, ← listed_singly ref_name c.args.roots.now)
+    rw (← listed_singly ref_name c.args.roots.now)
     (collected_reads (λ s. s) kept_named (λ s set. refl) _ _ _ _ c.collect_from.result
     (c.collect_from.ensures.ok, c.collect_from.ensures.err))

@@ -1,7 +1,7 @@
 use Rattle.std.proofs.Common.{rules}
-use Rattle.use_types.specs.declared.value.TypeNode.TheVariants.{Named, Function', outs-Named, outs-Function'}
+use Rattle.use_types.specs.declared.TypeNode.TheVariants.{Named, Function', outs-Named, outs-Function'}
 use Rattle.ra_ap_intern.proofs.CallerLemmas.{names_same_both, same_names_both}
-use Rattle.use_types.proofs.laws.types_are_their_shapes.Goals as goal
+use Rattle.use_types.proofs.types_are_their_shapes.Goals as goal
 
 pub returns : goal.returns
 returns c (Named a) (Named b) =

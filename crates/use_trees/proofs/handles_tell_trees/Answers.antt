@@ -1,6 +1,6 @@
 use Rattle.std.proofs.Common.{ap}
 use Rattle.ra_ap_intern.proofs.CallerLemmas.{names_tell_trees}
-use Rattle.use_types.proofs.laws.handles_tell_trees.Goals as goal
+use Rattle.use_trees.proofs.handles_tell_trees.Goals as goal
 
 pub returns : goal.returns
 returns c s ok a b t u first second =
