@@ -1,13 +1,11 @@
 -- What paths are, and what a store of them spells.
-use Rattle.std.specs.Prelude.{Bool, List, Option}
-use Rattle.std.specs.Option.{option_or}
+use Rattle.std.specs.Prelude.{List, Option}
 use Rattle.ra_ap_intern.specs.Families.{entries_of}
 use Rattle.ra_ap_intern.specs.Handle.{name_if}
 use Rattle.ra_ap_intern.specs.Name.{Name}
-use Rattle.ra_ap_intern.specs.Order.{due_parent, line}
+use Rattle.ra_ap_intern.specs.Order.{line}
 use Rattle.ra_ap_intern.specs.Reach.{Entry}
-use Rattle.ra_ap_intern.specs.Refusal.{Refusal}
-use Rattle.ra_ap_intern.specs.State.{State, due_interning, any_count}
+use Rattle.ra_ap_intern.specs.State.{State}
 use Rattle.ra_ap_intern.specs.Symbols.{Named, symbol_ref_name}
 use Rattle.ra_ap_intern.specs.Visitors.{of_name}
 use Rattle.use_paths.specs.declared.Path.{Path, out-Path}
@@ -37,7 +35,3 @@ paths_of s = entries_of declared_by s
 -- the names of a path, the last first: none, where it or one above it can't be read
 abbrev pub spelled : State Path → Name → Option (List Named)
 spelled s n = line parent_of last_of s n
-
--- the refusal of a call that stores a path, before want of memory
-abbrev pub due_path : (Path → Path → Bool) → State Path → Path → Option Refusal
-due_path eq s path = option_or (due_parent s (parent_of path)) (due_interning eq s path any_count)

@@ -2,7 +2,8 @@
 use ra_ap_intern::{OptionalInternedRef, Refusal, SymbolRef, SymbolTable};
 use std::alloc::Global;
 use std::process::Abort;
-use use_paths::{PathRef, Paths};
+use use_parents::Paths;
+use use_paths::PathRef;
 
 // The names of what is stored below.
 #[derive(Drop)]
@@ -45,8 +46,6 @@ fn equal_paths_are_one(rt: HostRuntime) {
     assert!(rt; paths.within(ops.into(), names.add) == Ok(add));
     assert!(rt; paths.within(core.into(), names.add).expect(&rt, "memory") != add);
     assert!(rt; add != sub);
-    assert!(rt; paths.parent(add) == Some(ops) && paths.parent(sub) == Some(ops));
-    assert!(rt; paths.parent(core).is_none());
     assert!(rt; is_spelled(&rt, &paths, core, &[names.core]));
     assert!(rt; is_spelled(&rt, &paths, add, &[names.add, names.ops, names.core]));
     assert!(rt; is_spelled(&rt, &paths, sub, &[names.sub, names.ops, names.core]));
@@ -58,7 +57,8 @@ fn a_root_keeps_what_is_above_it(rt: HostRuntime) {
     let told = paths.collect(&[add]).expect(&rt, "memory");
     assert_eq!(rt; (told.visits, told.removed), (3, 1));
     assert!(rt; is_spelled(&rt, &paths, add, &[names.add, names.ops, names.core]));
-    assert!(rt; paths.parent(ops) == Some(core));
+    assert!(rt; is_spelled(&rt, &paths, ops, &[names.ops, names.core]));
+    assert!(rt; is_spelled(&rt, &paths, core, &[names.core]));
     assert!(rt; paths.spelled(sub).expect(&rt, "memory").is_none());
     assert!(rt; paths.within(sub.into(), names.add) == Err(Refusal::Gone));
     assert!(rt; paths.within(ops.into(), names.sub).expect(&rt, "memory") != sub);

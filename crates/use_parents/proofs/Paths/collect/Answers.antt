@@ -2,7 +2,7 @@ use Rattle.ra_ap_intern.specs.Handle.{ref_name}
 use Rattle.ra_ap_intern.proofs.CallerLemmas.{built_collected, line_collected, listed_singly}
 use Rattle.use_paths.specs.Paths.{declared_by, parent_of, last_of}
 use Rattle.use_paths.proofs.Opened.{declares}
-use Rattle.use_paths.proofs.Paths.collect.Goals as goal
+use Rattle.use_parents.proofs.Paths.collect.Goals as goal
 
 pub invariant_of-self : goal.invariant_of-self
 invariant_of-self c =

@@ -6,7 +6,7 @@ use Rattle.ra_ap_intern.proofs.CallerLemmas.{built_interned, interned_reads_on, 
 use Rattle.use_paths.specs.Paths.{declared_by, parent_of, last_of}
 use Rattle.use_paths.specs.declared.Path.TheVariants.{Within}
 use Rattle.use_paths.proofs.Opened.{parent_is}
-use Rattle.use_paths.proofs.Paths.within.Goals as goal
+use Rattle.use_parents.proofs.Paths.within.Goals as goal
 
 pub invariant_of-self-2 : goal.invariant_of-self-2
 invariant_of-self-2 c =
