@@ -65,6 +65,18 @@ pub struct Term {
     pub(crate) owned: InternedSlice<Terms>,
 }
 
+// So does one that is kept.
+impl GcInternedVisit for Term {
+    ghost use Rattle.std.specs.Prelude.{[], ◌∷◌};
+    ghost use Rattle.intern_terms.specs.Handle.{owned_name};
+
+    ghost children = { λ t. owned_name t ∷ [] };
+
+    fn visit_with(&self, gc: &mut GarbageCollector) {
+        self.owned.visit_with(gc);
+    }
+}
+
 impl fmt::Debug for TermRef {
     fn fmt<W: fmt::Write>(&self, f: &mut fmt::Formatter<W>) -> fmt::Result {
         write!(f, "TermRef({})", self.name())

@@ -8,7 +8,7 @@ ghost use Rattle.intern_terms.specs.Tree.{Tree as TermTree, UnfoldsTo};
 
 use crate::handle::{Term, TermRef};
 use crate::store::TermStore;
-use ra_ap_intern::{Name, Refusal, Refused};
+use ra_ap_intern::{GarbageCollector, GcInternedVisit, Name, Refusal, Refused};
 use std::fmt;
 use std::hash::BuildHasher;
 
@@ -20,6 +20,18 @@ use std::hash::BuildHasher;
 #[derive(PartialEq, Eq, PartialOrd, Ord, Hash)]
 pub struct OwedTerm {
     term: Term,
+}
+
+// It declares the term.
+impl GcInternedVisit for OwedTerm {
+    ghost use Rattle.std.specs.Prelude.{[], ◌∷◌};
+    ghost use Rattle.intern_terms.specs.Handle.{owned_name, owned_term};
+
+    ghost children = { λ t. owned_name (owned_term t) ∷ [] };
+
+    fn visit_with(&self, gc: &mut GarbageCollector) {
+        self.term.visit_with(gc);
+    }
 }
 
 impl fmt::Debug for OwedTerm {

@@ -1,14 +1,19 @@
--- What references declare, and what is made of visitors.
+-- What handles declare, and what is made of visitors.
 use Rattle.std.specs.Prelude.{List, [], ◌∷◌, ◌++◌, Option, Some, None}
 use Rattle.std.specs.HashMap.{HashMap}
 use Rattle.std.specs.List.{flat_map}
 use Rattle.intern_store.specs.declared.names.Name.{Name}
-use Rattle.ra_ap_intern.specs.Handle.{ref_name}
+use Rattle.ra_ap_intern.specs.Handle.{name_of, ref_name}
+use Rattle.ra_ap_intern.specs.declared.storage.Owned.{Owned}
 use Rattle.ra_ap_intern.specs.declared.storage.Ref.{Ref}
 
 -- a reference declares the name of its entry
 abbrev pub own_name : {K : Type 0} → Ref K → List Name
 own_name reference = ref_name reference ∷ []
+
+-- and so does an owned handle
+abbrev pub owned_name : {K : Type 0} → Owned K → List Name
+owned_name handle = name_of handle ∷ []
 
 -- an optional reference declares the name that it has
 abbrev pub of_name : Option Name → List Name

@@ -243,9 +243,9 @@ impl GarbageCollector {
         Ok(self.followed(family).sweep(family))
     }
 
-    /// Does the same, and begins paths also at what a visitor declares: a reference, or an option, a
-    /// pair, an array, a vector, or a slice of such. Owned handles are counted, so that paths begin at
-    /// their entries anyway.
+    /// Does the same, and begins paths also at what a visitor declares: a handle of any kind, or an
+    /// option, a pair, an array, a vector, a slice or a hash map of such. Paths begin at the entry of
+    /// an owned handle anyway, as long as it is counted.
     pub fn collect_from<F: Family, R: GcInternedVisit>(
         mut self,
         family: &mut F,

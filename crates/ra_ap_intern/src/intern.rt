@@ -50,8 +50,8 @@ impl<T: Internable, B: BuildHasher> InternStorage<T, B> {
         self.find(obj)
     }
 
-    /// A reference to the entry whose value this is equivalent to, as a `&str` is to a `String`:
-    /// nothing has to be built to look it up. None where there is none. It takes no memory.
+    /// A reference to the entry whose value this is equivalent to: a type of your own, that hashes as
+    /// the value does, looks it up with nothing built. None where there is none. It takes no memory.
     pub fn find<Q: Equivalent<T>>(&self, query: Q) -> Option<InternedRef<T>>
         ensures { option_map ref_name result ≡ name_where (Q.equivalent query) self.now }
     {

@@ -40,6 +40,7 @@ use std::cmp::Eq;
 use std::hash::Hash;
 
 /// Names of entries of one storage are equal exactly if the values that they read are.
+#[tactic(auto, using(crate::proofs::CallerReads::read_once))]
 pub fn names_tell_values<T: Eq>()
     ensures { (s : State T) → IsState T.eq s → (n m : Name) (v w : T) →
         reads s n ≡ Some v → reads s m ≡ Some w → (n ≡ m) ↔ (T.eq v w ≡ true) }
@@ -272,13 +273,15 @@ pub fn owed_symbols_are_what_they_name()
         ⟦<OwedSymbol as Hash>⟧.hash_input a ≡ ⟦<OwedSymbol as Hash>⟧.hash_input b }
 {}
 
-/// Symbols, and references to them, are ordered as what they name: presets by their places, and
-/// then entries by their names.
+/// Symbols, references to them, and symbols that must be released are ordered as what they name:
+/// presets by their places, and then entries by their names.
 pub fn symbols_are_ordered_as_what_they_name()
     ensures symbols { (a b : Sym) →
         ⟦<Symbol as Ord>⟧.cmp a b ≡ named_cmp (symbol_name a) (symbol_name b) }
     ensures references { (a b : SymRef) →
         ⟦<SymbolRef as Ord>⟧.cmp a b ≡ named_cmp (symbol_ref_name a) (symbol_ref_name b) }
+    ensures owed { (a b : OwedSym) → ⟦<OwedSymbol as Ord>⟧.cmp a b
+        ≡ named_cmp (symbol_name (symbol_of a)) (symbol_name (symbol_of b)) }
 {}
 
 /// The symbol of a text reads the text.

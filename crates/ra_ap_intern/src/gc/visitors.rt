@@ -1,11 +1,11 @@
-//! What references declare, and what is made of them does: the visitor of a struct is a line a
-//! field.
+//! What handles declare, and what is made of them does: the visitor of a struct is a line a field.
 //!
 //! Where there is more than one such line, the proof of the visitor is told of the marks of two
 //! lists: `#[tactic(auto, using(ra_ap_intern::proofs::Visitors::marks_append))]`.
 use super::GarbageCollector;
 use super::visit::GcInternedVisit;
-use crate::storage::Ref;
+use crate::owed::Owed;
+use crate::storage::{Owned, Ref};
 use std::cmp::Eq;
 use std::collections::HashMap;
 use std::hash::{BuildHasher, Hash};
@@ -18,6 +18,29 @@ impl<K> GcInternedVisit for Ref<K> {
 
     fn visit_with(&self, gc: &mut GarbageCollector) {
         let _was_new = gc.marks.mark(self.key);
+    }
+}
+
+// So does an owned handle.
+impl<K> GcInternedVisit for Owned<K> {
+    ghost use Rattle.ra_ap_intern.specs.Visitors.{owned_name};
+
+    ghost children = { owned_name };
+
+    fn visit_with(&self, gc: &mut GarbageCollector) {
+        self.reference.visit_with(gc);
+    }
+}
+
+// And one that must be released.
+impl<K> GcInternedVisit for Owed<K> {
+    ghost use Rattle.ra_ap_intern.specs.Handle.{handle_of};
+    ghost use Rattle.ra_ap_intern.specs.Visitors.{owned_name};
+
+    ghost children = { λ owed. owned_name (handle_of owed) };
+
+    fn visit_with(&self, gc: &mut GarbageCollector) {
+        self.as_ref().visit_with(gc);
     }
 }
 
