@@ -36,11 +36,9 @@ fn equal_terms_are_stored_once(rt: HostRuntime) {
     let text = terms.written(first, &names, 100).expect(&rt, "memory");
     assert_eq!(rt; text.as_str(), "f(x, y)");
 
-    // A kept term stays with its arguments, which a walk gives before it.
+    // A kept term stays with its arguments.
     let kept = terms.keep(first).expect(&rt, "an owner");
     assert_eq!(rt; terms.collect().expect(&rt, "memory").removed, 0);
-    let walk = terms.walk(&[first]).expect(&rt, "memory");
-    assert!(rt; walk.as_slice() == [x, y, first].as_slice());
 
     // Once it is released, the next collection removes all three, and gives up their heads.
     assert!(rt; kept.release(&mut terms).is_ok());
