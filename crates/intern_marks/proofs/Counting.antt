@@ -1,5 +1,5 @@
 -- How many names are reached.
-use Rattle.std.proofs.Common.{◌≡◌, ◌≤◌, Bool, true, ◌&&◌, ◌||◌, cond, List, [], ◌∷◌, ◌++◌, map, length, Option, Some, None, IsSome, is_some, refl, sym, ◌∙◌, ap, subst, inl, inr, arith, length-append}
+use Rattle.std.proofs.Common.{◌≡◌, ◌≤◌, Bool, true, ◌&&◌, ◌||◌, cond, List, [], ◌∷◌, ◌++◌, map, length, Option, Some, IsSome, is_some, refl, sym, ◌∙◌, ap, subst, inl, inr, arith, length-append}
 use Rattle.std.specs.List.{IsDistinct}
 use Rattle.std.specs.Map.{lookup}
 use Rattle.std.proofs.lemmas.Bool.{cases_Bool}
@@ -9,7 +9,7 @@ use Rattle.std.proofs.lemmas.Map.Steps.{length-le_from_keys}
 use Rattle.intern_store.specs.declared.names.Name.{Name}
 use Rattle.intern_store.specs.Named.{same_name}
 use Rattle.intern_marks.specs.Names.{has}
-use Rattle.intern_marks.specs.Reach.{Entry, entry_of, is_entry, counted_entry, starts_with, IsPath, IsReachedSet}
+use Rattle.intern_marks.specs.Reach.{Entry, entry_of, is_entry, counted_entry, starts_with, IsPath}
 use Rattle.intern_marks.proofs.Names.{same_name_is_equivalence, has_cases}
 
 -- an entry with its name
@@ -43,19 +43,10 @@ all_named family names once each many x there =
     ]
 
 begins_entry : (o : Option Entry) (b : Bool) → (counted_entry o || (is_some o && b)) ≡ true → is_some o ≡ true
-begins_entry None b h = h
-begins_entry (Some e) b h = refl
+begins_entry o b h = grind arith
 
 -- a path ends at an entry
 pub reached_entry : (listed : List Name) (family : List Entry) (before : List Name) (x : Name)
     → IsPath (starts_with listed family) family before x → is_entry family x ≡ true
 reached_entry listed family [] x path = begins_entry (entry_of family x) (has listed x) path
 reached_entry listed family (parent ∷ before) x path = path.0
-
--- where as many names are reached as there are entries, each entry's is
-pub all_reached : (listed : List Name) (family : List Entry) (names : List Name)
-    → IsReachedSet (starts_with listed family) family names → length family ≤ length names
-    → (x : Name) → is_entry family x ≡ true → has names x ≡ true
-all_reached listed family names is many x there =
-    all_named family names is.once
-    (λ y among. let r = (is.reached y).0 among in reached_entry listed family r.0 y r.1) many x there

@@ -1,12 +1,11 @@
 -- What is marked is registered, and marked once: what keeps it so.
-use Rattle.std.proofs.Common.{◌≡◌, ◌≤◌, Bool, true, false, cond, List, [], ◌∷◌, ◌++◌, length, Option, Some, None, is_some, refl, sym, ap, ◌∙◌, inl, inr, arith}
+use Rattle.std.proofs.Common.{◌≡◌, ◌≤◌, Bool, true, false, cond, List, [], ◌∷◌, ◌++◌, length, None, is_some, sym, ap, ◌∙◌, inl, inr, arith}
 use Rattle.std.specs.FinMap.{FinMap, get, insert, empty, len, keys, entries, contains_key, contains_key-keys, len-entries}
 use Rattle.std.specs.List.{IsDistinct, list_any}
 use Rattle.std.proofs.lemmas.Bool.{false_from_ne_true, false≢true}
 use Rattle.std.proofs.lemmas.List.{length-map}
 use Rattle.std.proofs.lemmas.Map.Keys.{IsDistinct-push}
 use Rattle.std.proofs.lemmas.Map.Made.{length-le_from_is_member}
-use Rattle.intern_store.specs.Named.{same_name}
 use Rattle.intern_store.specs.declared.names.Name.{Name}
 use Rattle.intern_marks.specs.Marks.{IsSound}
 use Rattle.intern_marks.specs.Names.{has, name_cmp}
@@ -36,23 +35,12 @@ module _ (m : FinMap name_cmp Bool) (marked : List Name) (sound : IsSound m mark
       once = IsDistinct-push same_name_is_equivalence marked x sound.once new;
     }
 
-    inserted : (counted : Bool) (y : Name) → contains_key (insert m x counted) y ≡ is_some (cond (same_name y x) (Some counted) (get m y))
-    inserted counted y = ap is_some (get-inserted m x counted y)
-
     pub sound_registered : (counted : Bool) → IsSound (insert m x counted) marked
-    sound_registered counted = record {
-      known = λ y among. inserted counted y ∙ either (same_name y x) (get m y) (sound.known y among);
-      once = sound.once;
-    }
-      where
-        either : (b : Bool) (o : Option Bool) → is_some o ≡ true → is_some (cond b (Some counted) o) ≡ true
-        either true o there = refl
-        either false o there = there
+    sound_registered counted = record { known = λ y among. let there = sound.known y among in grind (arith, there, get-inserted); once = sound.once }
 
 -- a name is registered that wasn't, and is marked or not
 pub sound_added : (m : FinMap name_cmp Bool) (marked : List Name) (x : Name) (counted b : Bool) → get m x ≡ None → IsSound m marked
     → IsSound (insert m x counted) (cond b (marked ++ x ∷ []) marked)
 sound_added m marked x counted true unknown sound =
-    sound_more (insert m x counted) marked (sound_registered m marked sound x counted) x
-    (inserted m marked sound x counted x ∙ ap (λ b. is_some (cond b (Some counted) (get m x))) (same_as_itself x)) (unmarked m marked sound x unknown)
+    sound_more (insert m x counted) marked (sound_registered m marked sound x counted) x (grind (arith, get-inserted, same_as_itself)) (unmarked m marked sound x unknown)
 sound_added m marked x counted false unknown sound = sound_registered m marked sound x counted

@@ -1,15 +1,15 @@
 -- What a mark call and the placing of a root do.
-use Rattle.std.proofs.Common.{ℕ, ◌≡◌, ◌+◌, ◌-◌, ◌^◌, ◌≤◌, min, take, length, Bool, true, false, not, cond, ◌&&◌, ◌||◌, List, [], ◌∷◌, ◌++◌, Option, Some, None, refl, sym, ◌∙◌, ap, inl, inr, arith, length-append}
+use Rattle.std.proofs.Common.{ℕ, ◌≡◌, ◌+◌, ◌-◌, ◌^◌, ◌≤◌, min, take, length, Bool, true, false, not, cond, ◌&&◌, ◌||◌, List, [], ◌∷◌, ◌++◌, Some, refl, sym, ◌∙◌, ap, arith, length-append}
 use Rattle.std.specs.List.{IsDistinct, fold}
 use Rattle.std.specs.FinMap.{FinMap, get}
 use Rattle.std.proofs.Math.Bool.{or-false}
-use Rattle.std.proofs.lemmas.Bool.{cases_Bool, or_left}
+use Rattle.std.proofs.lemmas.Bool.{or_left}
 use Rattle.std.proofs.lemmas.List.{take-append-le}
 use Rattle.std.proofs.lemmas.Map.Keys.{IsDistinct-push}
 use Rattle.intern_store.specs.declared.names.Name.{Name}
 use Rattle.intern_store.specs.Named.{same_name}
 use Rattle.intern_marks.specs.Names.{has, name_cmp}
-use Rattle.intern_marks.specs.Marks.{Marks, may_be, placed, tick, mark, marks, untold, root, roots}
+use Rattle.intern_marks.specs.Marks.{Marks, may_be, placed, mark, marks, untold, root, roots}
 use Rattle.intern_store.proofs.Named.{names_same}
 use Rattle.intern_marks.proofs.Names.{same_name_is_equivalence, has_append}
 
@@ -17,40 +17,15 @@ use Rattle.intern_marks.proofs.Names.{same_name_is_equivalence, has_append}
 abbrev pub listed : Bool → List Name → Name → List Name
 listed may names n = cond (may && not (has names n)) (names ++ n ∷ []) names
 
-and-true : (b : Bool) → (b || false) ≡ (b && true)
-and-true true = refl
-and-true false = refl
-
-and-false : (a b : Bool) → a ≡ (a || (b && false))
-and-false true b = refl
-and-false false true = refl
-and-false false false = refl
-
 -- the list with a name behind it, or not
 pub grown_has : (b : Bool) (names : List Name) (n x : Name) → has (cond b (names ++ n ∷ []) names) x ≡ (has names x || (same_name x n && b))
-grown_has true names n x = has_append names (n ∷ []) x ∙ ap (λ b. has names x || b) (and-true (same_name x n))
-grown_has false names n x = and-false (has names x) (same_name x n)
-
-already : (a s : Bool) → (s ≡ true → a ≡ true) → a ≡ (a || (s && true))
-already true s is = refl
-already false true is = is refl
-already false false is = refl
+grown_has b names n x = grind (arith, has_append)
 
 pub listed_has : (may : Bool) (names : List Name) (n x : Name) → has (listed may names n) x ≡ (has names x || (same_name x n && may))
-listed_has false names n x = and-false (has names x) (same_name x n)
-listed_has true names n x = elim (cases_Bool (has names n)) [
-  | inl old ↦ ap (λ b. has (cond (not b) (names ++ n ∷ []) names) x) old
-      ∙ already (has names x) (same_name x n) (λ same. ap (has names) (names_same x n same) ∙ old)
-  | inr new ↦ ap (λ b. has (cond (not b) (names ++ n ∷ []) names) x) new ∙ grown_has true names n x
-]
+listed_has may names n x = grind (arith, grown_has, names_same)
 
 pub listed_once : (may : Bool) (names : List Name) (n : Name) → IsDistinct same_name names → IsDistinct same_name (listed may names n)
-listed_once false names n once = once
-listed_once true names n once = go (has names n) refl
-  where
-    go : (b : Bool) → has names n ≡ b → IsDistinct same_name (cond (not b) (names ++ n ∷ []) names)
-    go true old = once
-    go false new = IsDistinct-push same_name_is_equivalence names n once new
+listed_once may names n once = let push = IsDistinct-push same_name_is_equivalence names n once in grind (arith, push)
 
 -- what was listed stays in front
 pub listed_front : (b : Bool) (names : List Name) (n : Name) (k : ℕ) → k ≤ length names
@@ -74,12 +49,7 @@ root_places = record { registered = λ m n. refl; visits = λ m n. refl; marked 
 
 -- one name more in the list that is asked
 more : (a b c s k l : Bool) → c ≡ (a || (s && k)) → (s ≡ true → k ≡ l) → (c || (b && l)) ≡ (a || ((s || b) && l))
-more true b c s k l is same = ap (λ c. c || (b && l)) is
-more false b c false k l is same = ap (λ c. c || (b && l)) is
-more false b c true true true is same = ap (λ c. c || (b && true)) is
-more false b c true false false is same = ap (λ c. c || (b && false)) is ∙ sym (and-false false b)
-more false b c true true false is same = let no = same refl in cc
-more false b c true false true is same = let no = same refl in cc
+more a b c s k l is same = grind arith
 
 module _ (b : Bool) (step : Marks → Name → Marks) (places : IsPlacing b step) where
   pub each-registered : (m : Marks) (ns : List Name) → (fold step m ns).registered ≡ m.registered
@@ -111,18 +81,10 @@ module _ (b : Bool) (step : Marks → Name → Marks) (places : IsPlacing b step
       let rest = each-front (step m n) ns k (rw (places.marked m n) front.0) in
       (rest.0, rest.1 ∙ ap (take k) (places.marked m n) ∙ front.1)
 
-mark-calls : (m : Marks) (n : Name) → (mark m n).calls ≡ tick m.calls
-mark-calls m n = refl
-
-ticked : (a b top : ℕ) → a ≤ top → min (min (a + 1) top + b) top ≡ min (a + (b + 1)) top
-ticked a b top h = omega arith
-
 -- the tally rises by one a call, up to the greatest u64
 pub marks-calls : (m : Marks) (ns : List Name) → m.calls ≤ 2 ^ 64 - 1 → (marks m ns).calls ≡ min (m.calls + length ns) (2 ^ 64 - 1)
 marks-calls m [] h = omega arith
-marks-calls m (n ∷ ns) h =
-    let fits : (mark m n).calls ≤ 2 ^ 64 - 1 = omega arith in
-    marks-calls (mark m n) ns fits ∙ ticked m.calls (length ns) (2 ^ 64 - 1) h ∙ omega arith
+marks-calls m (n ∷ ns) h = omega (arith, marks-calls (mark m n) ns (omega arith))
 
 -- roots are no mark calls
 pub roots-calls : (m : Marks) (ns : List Name) → (roots m ns).calls ≡ m.calls
@@ -134,13 +96,6 @@ roots-calls m (n ∷ ns) = roots-calls (root m n) ns
 abbrev AreMarked : Marks → Type 0
 AreMarked m = (x : Name) → get m.registered x ≡ Some true → has m.marked x ≡ true
 
-next_either : (o : Option Bool) (is : Bool) → (o ≡ Some true → is ≡ true)
-    → (may_be false o && not is) ≡ (may_be true o && not is)
-next_either None is there = refl
-next_either (Some false) is there = refl
-next_either (Some true) true there = refl
-next_either (Some true) false there = let no = there refl in absurd (cc)
-
 still_marked : (m : Marks) (n : Name) → AreMarked m → AreMarked (mark m n)
 still_marked m n there x counted =
     ap (λ l. has l x) (mark_places.marked m n) ∙ listed_has (may_be false (get m.registered n)) m.marked n x
@@ -148,9 +103,7 @@ still_marked m n there x counted =
 
 mark_as_root : (m : Marks) (n : Name) → AreMarked m → untold (mark m n) ≡ root (untold m) n
 unfolding placed
-mark_as_root m n there =
-    ap (λ b. record m { marked = cond b (m.marked ++ n ∷ []) m.marked; calls = 0 })
-    (next_either (get m.registered n) (has m.marked n) (there n))
+mark_as_root m n there = grind (arith, there n)
 
 pub marks_as_roots : (m : Marks) (ns : List Name) → AreMarked m → untold (marks m ns) ≡ roots (untold m) ns
 marks_as_roots m [] there = refl

@@ -1,11 +1,8 @@
 -- What ties a collector's fields together, and what its calls do to that.
-use Rattle.std.proofs.Common.{◌≡◌, ◌≢◌, inl, inr, ℕ, ◌+◌, ◌-◌, ◌<◌, ◌≤◌, ◌^◌, Bool, true, false, not, cond, ◌&&◌, ◌||◌, List, [], ◌∷◌, ◌++◌, length, set, Some, None, is_some, refl, sym, ap, ◌∙◌, subst, arith, length-append}
+use Rattle.std.proofs.Common.{◌≡◌, ◌≢◌, inl, inr, ℕ, ◌+◌, ◌-◌, ◌<◌, ◌≤◌, ◌^◌, Bool, false, not, cond, ◌&&◌, ◌||◌, List, [], ◌∷◌, ◌++◌, length, Some, None, is_some, refl, sym, ap, ◌∙◌, subst, arith, length-append}
 use Rattle.std.specs.Option.{option_map}
 use Rattle.std.specs.FinMap.{FinMap, get, insert, empty, len, len-empty, len-insert}
-use Rattle.std.proofs.lemmas.List.{length-set}
-use Rattle.std.proofs.lemmas.Bool.{cases_eq, false_from_ne_true, false≢true}
-use Rattle.std.proofs.Math.Bool.{or-false}
-use Rattle.std.proofs.lemmas.Option.{none-some}
+use Rattle.std.proofs.lemmas.Bool.{false≢true}
 use Rattle.intern_store.specs.declared.names.Name.{Name}
 use Rattle.intern_marks.specs.Names.{has, name_cmp}
 use Rattle.intern_marks.specs.Marks.{Marks, may_be, is_next, placed, IsSound}
@@ -16,26 +13,30 @@ use Rattle.intern_marks.specs.Tied.{IsNowhere, IsLed, IsTied}
 use Rattle.intern_marks.specs.declared.flags.Flags.{Flags}
 use Rattle.intern_marks.specs.declared.found.Table.{Table}
 use Rattle.intern_marks.specs.declared.slots.Slots.{Slots}
-use Rattle.intern_store.proofs.Named.{names_same, same_names}
-use Rattle.intern_marks.proofs.Names.{name_cmp_total}
+use Rattle.intern_store.proofs.Named.{names_same}
+use Rattle.intern_marks.proofs.Names.{name_cmp_total, same_as_itself}
 use Rattle.intern_marks.proofs.Sound.{nothing_sound, unmarked, sound_more, sound_added, fewer as few}
-use Rattle.intern_marks.proofs.Steps.{grown_has}
-use Rattle.intern_marks.proofs.Slotted.{names_same_below, names_there, names_nowhere, named, names_gap, names_push, IsWritten, at_below, at_past, written_here, written_else, written_cases, mark_written}
+use Rattle.intern_marks.proofs.Steps.{grown_has, listed_front}
+use Rattle.intern_marks.proofs.Slotted.{names_same_below, names_there, names_nowhere, names_gap, names_push, IsWritten, at_below, at_past, written_here, written_else, written_cases, written_apart, written_name, written_adds}
 
 pub nothing_names : (s : Slots) → slot_count s ≡ 0 → names_in s ≡ empty
 unfolding names_below
 nothing_names s none = ap (names_below (registered_at s)) none
 
+-- a table that isn't filled leads nowhere
+pub unfilled : (s : Slots) (t : Table) → t.is_filled ≡ false → IsLed s t
+unfilled s t not_yet filled = absurd (false≢true (sym not_yet ∙ filled))
+
 -- nothing is registered
 pub nothing_tied : (s : Slots) (t : Table) (marked : List Name) (capacity : ℕ) → slot_count s ≡ 0 → s.parts.items ≡ [] → t.is_filled ≡ false → marked ≡ [] → IsTied s t 0 marked 0 capacity
 nothing_tied s t marked capacity none parts empty_table unmarked = record {
-  follow = subst (λ parts. Follow 0 parts (slot_count s)) (sym parts) (sym none);
+  follow = rw parts (sym none);
   apart = λ i j q r one two same. let below = at_below s i q one in absurd (omega arith);
-  led = λ filled. absurd (false≢true (sym empty_table ∙ filled));
+  led = unfilled s t empty_table;
   told = omega arith;
   sized = sym (ap len (nothing_names s none) ∙ len-empty name_cmp Bool);
   flagged = λ i x f at. let below = at_below s i _ at in absurd (omega arith);
-  sound = subst (λ l. IsSound (names_in s) l) (sym unmarked) (subst (λ m. IsSound m []) (sym (nothing_names s none)) nothing_sound);
+  sound = rw (unmarked, nothing_names s none) nothing_sound;
   within = omega arith;
   room = omega arith;
 }
@@ -65,7 +66,7 @@ module _ {s : Slots} {t : Table} {size : ℕ} {marked : List Name} {visits capac
   nowhere_unmarked x none = unmarked (names_in s) marked tied.sound x (nowhere_unknown x none)
 
   pub fewer : length marked ≤ size
-  fewer = let most = few (names_in s) marked tied.sound in let sized = tied.sized in omega arith
+  fewer = omega (arith, few (names_in s) marked tied.sound, tied.sized)
 
   -- what is decided of a name
   pub next_found : (b : Bool) (calls : ℕ) (i : ℕ) (x : Name) (f : Flags) → IsAt s i x f
@@ -76,18 +77,28 @@ module _ {s : Slots} {t : Table} {size : ℕ} {marked : List Name} {visits capac
       → is_next b (seen (names_in s) marked visits calls) x ≡ false
   next_nowhere b calls x none = ap (λ o. may_be b o && not (has marked x)) (nowhere_unknown x none)
 
-  -- once a slot is written with a name that isn't marked, which no other slot has, the flags tell what is marked with it
-  written_flagged : (next : Slots) (i : ℕ) (x : Name) (f : Flags) → IsWritten (registered_at s) (registered_at next) i (record { name = x; flags = f })
-      → has marked x ≡ false → ((j : ℕ) (q : Registered) → j ≢ i → registered_at s j ≡ Some q → x ≡ q.name → ⊥)
-      → (j : ℕ) (y : Name) (g : Flags) → IsAt next j y g → has (cond f.is_marked (marked ++ x ∷ []) marked) y ≡ g.is_marked
-  written_flagged next i x f written bare apart j y g at = grown_has f.is_marked marked x y ∙ elim (written_cases (registered_at s) (registered_at next) i _ written j _ at) [
-    | inl now ↦
-        let same : y ≡ x = ap (λ (r : Registered). r.name) now.1 in
-        (λ k. (ap (has marked) same ∙ bare) k || (same_names y x same k && f.is_marked)) ∙ sym (ap (λ (r : Registered). r.flags.is_marked) now.1)
-    | inr old ↦
-        ap (λ b. has marked y || (b && f.is_marked)) (false_from_ne_true _ (λ same. apart j _ old.0 old.1 (sym (names_same y x same))))
-        ∙ or-false (has marked y) ∙ tied.flagged j y g old.1
-  ]
+  -- a slot is written with a name that isn't marked, and that no other slot has
+  module _ (next : Slots) (i : ℕ) (x : Name) (f : Flags) (written : IsWritten (registered_at s) (registered_at next) i (record { name = x; flags = f })) where
+    abbrev pub grown : List Name
+    grown = cond f.is_marked (marked ++ x ∷ []) marked
+
+    pub written_tied : has marked x ≡ false → ((j : ℕ) (q : Registered) → j ≢ i → registered_at s j ≡ Some q → x ≡ q.name → ⊥) → (u : Table) (total more : ℕ)
+        → Follow 0 next.parts.items (slot_count next) → IsLed next u → slot_count next < 2 ^ 48 → total ≡ len (names_in next) → IsSound (names_in next) grown → total ≤ more
+        → IsTied next u total grown visits more
+    written_tied new alone u total more follow led told sized sound room = record {
+      follow = follow;
+      apart = written_apart (registered_at s) (registered_at next) i _ written tied.apart alone;
+      led = led;
+      told = told;
+      sized = sized;
+      flagged = λ j y g at. elim (written_cases (registered_at s) (registered_at next) i _ written j _ at) [
+        | inl now ↦ grind (arith, now, new, grown_has, same_as_itself)
+        | inr old ↦ let flagged = tied.flagged j y g old.1 in let apart = alone j _ old.0 old.1 in grind (arith, flagged, apart, grown_has, names_same)
+      ];
+      sound = sound;
+      within = (listed_front f.is_marked marked x visits tied.within).0;
+      room = room;
+    }
 
   -- a name in a slot is marked that wasn't
   module _ (i : ℕ) (x : Name) (f : Flags) (here : IsAt s i x f) (bare : f.is_marked ≡ false) where
@@ -98,59 +109,19 @@ module _ {s : Slots} {t : Table} {size : ℕ} {marked : List Name} {visits capac
     more_sound = sound_more (names_in s) marked tied.sound x (ap is_some (found_known i x f here)) new
 
     pub room_left : length marked < capacity
-    room_left =
-        let most = few (names_in s) (marked ++ x ∷ []) more_sound in
-        let more = length-append marked (x ∷ []) in
-        let sized = tied.sized in
-        let room = tied.room in
-        omega arith
+    room_left = omega (arith, few (names_in s) (marked ++ x ∷ []) more_sound, length-append marked (x ∷ []), tied.sized, tied.room)
 
-    module _ (next : Slots) (parts : next.parts.items ≡ s.parts.items) (row : next.in_row ≡ s.in_row) (births : next.births.items ≡ s.births.items)
-        (flags : next.flags.items ≡ set s.flags.items i (Some (with_mark f))) where
-      abbrev with : Registered
-      with = record { name = x; flags = with_mark f }
-
-      written : (j : ℕ) → registered_at next j ≡ cond (Rattle.std.proofs.Common.nat_eq j i) (Some with) (registered_at s j)
-      written = mark_written s next i (record { name = x; flags = f }) here parts row births flags
-
-      count : slot_count next ≡ slot_count s
-      count = ap length flags ∙ length-set s.flags.items i (Some (with_mark f))
-
-      same_slot : (j : ℕ) → j < slot_count s → (m : FinMap name_cmp Bool) → with_slot (registered_at next j) m ≡ with_slot (registered_at s j) m
-      same_slot j below m = elim (cases_eq j i) [
-        | inl is ↦ ap (λ o. with_slot o m) (ap (registered_at next) is ∙ written_here (registered_at s) (registered_at next) i with written)
-            ∙ sym (ap (λ o. with_slot o m) (ap (registered_at s) is ∙ here))
-        | inr other ↦ ap (λ o. with_slot o m) (written_else (registered_at s) (registered_at next) i with written j other)
-      ]
-
+    module _ (next : Slots) (written : IsWritten (registered_at s) (registered_at next) i (record { name = x; flags = with_mark f })) (count : slot_count next ≡ slot_count s) where
       pub names_kept : names_in next ≡ names_in s
-      names_kept = ap (names_below (registered_at next)) count ∙ names_same_below (registered_at next) (registered_at s) (slot_count s) same_slot
+      names_kept =
+          ap (names_below (registered_at next)) count
+          ∙ names_same_below (registered_at next) (registered_at s) (slot_count s) (λ j _. written_adds (registered_at s) (registered_at next) i _ written _ here refl refl j)
 
-      -- what was in a slot, under its name
-      was : (j : ℕ) (q : Registered) → registered_at next j ≡ Some q → (p : Registered) × (registered_at s j ≡ Some p) × (p.name ≡ q.name)
-      was j q at = elim (written_cases (registered_at s) (registered_at next) i with written j q at) [
-        | inl now ↦ (record { name = x; flags = f }, ap (registered_at s) now.0 ∙ here, ap (λ (r : Registered). r.name) (sym now.1))
-        | inr old ↦ (q, old.1, refl)
-      ]
-
-      pub marked_tied : (u : Table) → IsLed s u → IsTied next u size (marked ++ x ∷ []) visits capacity
-      marked_tied u led = record {
-        follow = subst (λ n. Follow 0 next.parts.items n) (sym count) (subst (λ parts. Follow 0 parts (slot_count s)) (sym parts) tied.follow);
-        apart = λ j k q p one two same.
-            let a = was j q one in
-            let b = was k p two in
-            tied.apart j k a.0 b.0 a.1 b.1 (a.2 ∙ same ∙ sym b.2);
-        led = λ filled j y at.
-            let r = named (registered_at next j) y at in
-            let a = was j r.0 r.1 in
-            led filled j y (ap (option_map (λ (r : Registered). r.name)) a.1 ∙ ap Some (a.2 ∙ r.2));
-        told = let told = tied.told in let count = count in omega arith;
-        sized = tied.sized ∙ ap len (sym names_kept);
-        flagged = written_flagged next i x (with_mark f) written new (λ j q other at same. other (tied.apart j i q _ at here (sym same)));
-        sound = subst (λ m. IsSound m (marked ++ x ∷ [])) (sym names_kept) more_sound;
-        within = let more = length-append marked (x ∷ []) in let within = tied.within in omega arith;
-        room = tied.room;
-      }
+      pub marked_tied : (u : Table) → next.parts.items ≡ s.parts.items → IsLed s u → IsTied next u size (marked ++ x ∷ []) visits capacity
+      marked_tied u parts led =
+          written_tied next i x (with_mark f) written new (λ j q other at same. other (tied.apart j i q _ at here (sym same))) u size capacity (rw (parts, count) tied.follow)
+          (λ filled j y at. led filled j y (sym (written_name (registered_at s) (registered_at next) i _ written _ here refl j) ∙ at))
+          (rw count tied.told) (tied.sized ∙ ap len (sym names_kept)) (rw names_kept more_sound) tied.room
 
   -- slots that have the same in them
   module _ (next : Slots) (same : (i : ℕ) → registered_at next i ≡ registered_at s i) (count : slot_count next ≡ slot_count s) where
@@ -189,42 +160,10 @@ module _ {s : Slots} {t : Table} {size : ℕ} {marked : List Name} {visits capac
         ∙ ap (λ m. insert m x f.is_counted) lower
 
     not_there : (j : ℕ) (r : Registered) → registered_at s j ≡ Some r → x ≡ r.name → ⊥
-    not_there j r at same =
-        let there = found_known j r.name r.flags at in
-        let none = ap (get (names_in s)) (sym same) ∙ unknown in
-        let no = sym none ∙ there in none-some _ no
+    not_there j r at same = let there = found_known j r.name r.flags at in grind (arith, there, unknown, same)
 
-    not_marked : has marked x ≡ false
-    not_marked = unmarked (names_in s) marked tied.sound x unknown
-
-    abbrev pub grown : List Name
-    grown = cond f.is_marked (marked ++ x ∷ []) marked
-
-    grown_longer : length marked ≤ length grown
-    grown_longer = go f.is_marked
-      where
-        go : (b : Bool) → length marked ≤ length (cond b (marked ++ x ∷ []) marked)
-        go true = omega (arith, length-append marked (x ∷ []))
-        go false = omega arith
-
-    pub added_tied : (u : Table) (more : ℕ) → u.is_filled ≡ false → Follow 0 next.parts.items (i + 1) → i + 1 < 2 ^ 48 → size + 1 ≤ more → IsTied next u (size + 1) grown visits more
-    added_tied u more empty_table follow small fits = record {
-      follow = subst (Follow 0 next.parts.items) (sym count) follow;
-      apart = λ j k q r one two same. elim (written_cases (registered_at s) (registered_at next) i it written j q one) [
-        | inl a ↦ elim (written_cases (registered_at s) (registered_at next) i it written k r two) [
-          | inl b ↦ a.0 ∙ sym b.0
-          | inr b ↦ absurd (not_there k r b.1 (ap (λ (r : Registered). r.name) (sym a.1) ∙ same))
-        ]
-        | inr a ↦ elim (written_cases (registered_at s) (registered_at next) i it written k r two) [
-          | inl b ↦ absurd (not_there j q a.1 (sym (same ∙ ap (λ (r : Registered). r.name) b.1)))
-          | inr b ↦ tied.apart j k q r a.1 b.1 same
-        ]
-      ];
-      led = λ filled. absurd (false≢true (sym empty_table ∙ filled));
-      told = omega arith;
-      sized = ap (λ n. n + 1) tied.sized ∙ sym (ap len names_added ∙ len-insert name_cmp_total (names_in s) x f.is_counted ∙ ap (λ o. cond (is_some o) (len (names_in s)) (len (names_in s) + 1)) unknown);
-      flagged = written_flagged next i x f written not_marked (λ j q _. not_there j q);
-      sound = subst (λ m. IsSound m grown) (sym names_added) (sound_added (names_in s) marked x f.is_counted f.is_marked unknown tied.sound);
-      within = let within = tied.within in let longer = grown_longer in omega arith;
-      room = fits;
-    }
+    pub added_tied : (u : Table) (more : ℕ) → IsLed next u → Follow 0 next.parts.items (i + 1) → i + 1 < 2 ^ 48 → size + 1 ≤ more → IsTied next u (size + 1) (grown next i x f written) visits more
+    added_tied u more led follow small fits =
+        written_tied next i x f written (unmarked (names_in s) marked tied.sound x unknown) (λ j q _. not_there j q) u (size + 1) more (rw count follow) led (rw count small)
+        (ap (λ n. n + 1) tied.sized ∙ sym (ap len names_added ∙ len-insert name_cmp_total (names_in s) x f.is_counted ∙ ap (λ o. cond (is_some o) (len (names_in s)) (len (names_in s) + 1)) unknown))
+        (rw names_added (sound_added (names_in s) marked x f.is_counted f.is_marked unknown tied.sound)) fits

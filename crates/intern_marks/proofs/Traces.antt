@@ -1,5 +1,5 @@
 -- A trace goes on with each visit, and at its end the marked names are the reached ones.
-use Rattle.std.proofs.Common.{ℕ, ◌≡◌, ◌+◌, ◌-◌, ◌^◌, ◌≤◌, min, take, Bool, true, false, not, ◌&&◌, ◌||◌, List, [], ◌∷◌, ◌++◌, length, Option, Some, None, is_some, refl, sym, ◌∙◌, ap, subst, inl, inr, arith}
+use Rattle.std.proofs.Common.{ℕ, ◌≡◌, ◌+◌, ◌-◌, ◌^◌, ◌≤◌, min, take, Bool, true, false, ◌&&◌, ◌||◌, List, [], ◌∷◌, ◌++◌, length, Option, Some, None, is_some, sym, ◌∙◌, ap, subst, inl, inr, arith}
 use Rattle.std.specs.List.{sum_by, slice_get}
 use Rattle.std.specs.Option.{option_map, option_or}
 use Rattle.std.specs.FinMap.{FinMap, get, empty, get-empty}
@@ -22,16 +22,13 @@ use Rattle.intern_marks.proofs.Steps.{mark_places, root_places, each-registered,
 
 -- an entry that isn't counted is registered as free, and only such an entry
 there_if_free : (e : Option Entry) → may_be false (option_map (λ (e : Entry). is_counted e.count) e) ≡ true → is_some e ≡ true
-there_if_free None h = cc
-there_if_free (Some e) h = refl
+there_if_free e h = grind arith
 
 free_if_there : (e : Option Entry) → is_some e ≡ true → counted_entry e ≡ false → may_be false (option_map (λ (e : Entry). is_counted e.count) e) ≡ true
-free_if_there None there h = cc
-free_if_there (Some e) there h = ap not h
+free_if_there e there h = grind arith
 
 there_as : (e : Option Entry) → may_be true (option_map (λ (e : Entry). is_counted e.count) e) ≡ is_some e
-there_as None = refl
-there_as (Some e) = refl
+there_as e = grind arith
 
 module _ (begins : Name → Bool) (family : List Entry) (m : Marks) (t : IsTrace begins family m) where
   module _ (done : length m.marked ≤ m.visits) where
@@ -117,8 +114,7 @@ module _ (begins : Name → Bool) (family : List Entry) (m : Marks) (t : IsTrace
     }
 
 pub or_nothing : {X : Type 0} (o p : Option X) → p ≡ None → option_or o p ≡ o
-or_nothing None p none = none
-or_nothing (Some x) p none = refl
+or_nothing o p none = grind arith
 
 -- once the listed entries are placed beside the counted ones, a trace has begun
 module _ (family : List Entry) (listed : List Name) (m : Marks) (is : Learns true family (fresh empty) m) where
@@ -149,13 +145,9 @@ module _ (family : List Entry) (listed : List Name) (m : Marks) (is : Learns tru
   }
 
   counted_marked : (x : Name) → get m.registered x ≡ Some true → has m.marked x ≡ true
-  counted_marked x counted = is.marked x ∙ go (entry_of family x) (sym (known x) ∙ counted)
-    where
-      go : (e : Option Entry) → option_map (λ (e : Entry). is_counted e.count) e ≡ Some true → counted_entry e ≡ true
-      go None h = absurd (cc)
-      go (Some e) h = cc
+  counted_marked x counted = grind (arith, is.marked x, known x, counted)
 
-  -- so does it where they are marked by mark calls that are forgotten
+-- so does it where they are marked by mark calls that are forgotten
   pub calls_begin : IsTrace (starts_with listed family) family (untold (marks m listed))
   calls_begin =
       let begun : untold (marks m listed) ≡ roots m listed =
@@ -164,13 +156,10 @@ module _ (family : List Entry) (listed : List Name) (m : Marks) (is : Learns tru
 
 -- a list of roots without entries begins no path
 pub starts_with_none : (family : List Entry) (listed : List Name) → ((x : Name) → has listed x ≡ true → is_entry family x ≡ false) → starts_with listed family ≡ starts family
-starts_with_none family listed out = λ i x. same (starts family x) (is_entry family x) (has listed x) (out x) i
+starts_with_none family listed out = λ i x. same x i
   where
-    same : (a b c : Bool) → (c ≡ true → b ≡ false) → (a || (b && c)) ≡ a
-    same true b c h = refl
-    same false false c h = refl
-    same false true true h = h refl
-    same false true false h = refl
+    same : (x : Name) → starts_with listed family x ≡ starts family x
+    same x = grind (arith, out x)
 
 -- a collection with listed roots begins at the counted entries too
 pub counted_begin : (family : List Entry) (listed : List Name) (x : Name) → starts family x ≡ true → starts_with listed family x ≡ true

@@ -87,6 +87,7 @@ fn find_in_row(slots: &Slots, name: Name) -> Option<Found>
 }
 
 // Finds a name by a look at all slots.
+#[tactic(auto, using(crate::proofs::Slotted::at_below))]
 fn scan_for(slots: &Slots, name: Name) -> Option<Found>
     ensures found { IfSome result (λ f. IsFound slots.now name f) }
     ensures none { IfNone result (IsNowhere slots.now name) }
@@ -102,6 +103,7 @@ fn scan_for(slots: &Slots, name: Name) -> Option<Found>
 }
 
 // Makes buckets lead to each name's slot, and says whether there was room for that.
+#[tactic(auto, using(crate::proofs::Slotted::name_below))]
 fn fill_buckets(slots: &Slots, buckets: &mut Buckets) -> bool
     requires { slot_count slots.now < 2 ^ 48 }
     ensures room { HasRoom buckets.new → IsTrue result }
@@ -130,6 +132,7 @@ pub(crate) fn fill(slots: &Slots, table: &mut Table)
 }
 
 // The name of a key, where it is in the slot of its place in a part.
+#[tactic(auto, using(crate::proofs::Parted::part_found, crate::proofs::Parted::part_number, crate::proofs::Slotted::told_at))]
 fn hinted(slots: &Slots, part: Option<Part>, key: EntryKey) -> Option<Found>
     requires follow { Follow 0 slots.now.parts.items (slot_count slots.now) }
     requires part { part ≡ part_of slots.now.parts.items key.storage }
@@ -147,6 +150,7 @@ fn hinted(slots: &Slots, part: Option<Part>, key: EntryKey) -> Option<Found>
 
 // Finds a name wherever it is.
 #[cold]
+#[tactic(auto, using(crate::proofs::Slotted::at_below))]
 fn search_all(slots: &Slots, table: &Table, name: Name) -> Option<Found>
     requires follow { Follow 0 slots.now.parts.items (slot_count slots.now) }
     requires led { IsLed slots.now table.now }

@@ -31,6 +31,7 @@ pub fn at_its_end_a_trace_has_visited_what_is_reached()
 {}
 
 /// Roots that name no entry begin no path.
+#[tactic(auto, using(crate::proofs::Traces::starts_with_none))]
 pub fn roots_without_entries_begin_nothing()
     ensures { (family : List Entry) (listed : List Name) →
         ((x : Name) → has listed x ≡ true → is_entry family x ≡ false) →
@@ -54,6 +55,7 @@ pub fn what_is_reached_is_the_least_closed_set()
 
 /// What is reached is reached again once the rest is gone, from the same roots, so a second
 /// collection keeps all that the first has left.
+#[tactic(auto, using(crate::proofs::Reaching::filter_twice))]
 pub fn a_second_collection_keeps_all()
     ensures reached { (family : List Entry) (listed names : List Name) →
         IsReachedSet (starts_with listed family) family names →

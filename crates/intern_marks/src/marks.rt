@@ -198,6 +198,7 @@ impl Marks {
 
     /// Marks a name where it is registered, isn't counted and isn't marked, and says so by
     /// `Continue`. It takes no memory.
+    #[tactic(auto, unfolding(crate::specs::Marks::placed))]
     pub fn mark(&mut self, key: EntryKey) -> ControlFlow<()>
         ensures state { self.new ≡ mark self.old (key_name key) }
         ensures answer { result

@@ -1,15 +1,16 @@
-use Rattle.std.proofs.Common.{◌≡◌, ℕ, ◌+◌, ◌≤◌, Bool, true, false, cond, List, [], ◌∷◌, ◌++◌, None, vec_capacity, refl, sym, ap, ◌∙◌, subst, arith}
+use Rattle.std.proofs.Common.{◌≡◌, ℕ, ◌+◌, ◌≤◌, Bool, true, false, cond, List, [], ◌∷◌, ◌++◌, None, Some, vec_capacity, refl, sym, ap, ◌∙◌, arith}
 use Rattle.std.specs.FinMap.{FinMap, get, insert}
 use Rattle.intern_store.specs.Named.{key_name}
 use Rattle.intern_store.specs.declared.names.Name.{Name}
 use Rattle.intern_marks.specs.Names.{name_cmp}
 use Rattle.intern_marks.specs.Marks.{Marks, added}
-use Rattle.intern_marks.specs.Slotted.{names_in, names_at}
+use Rattle.intern_marks.specs.Slotted.{registered_at, names_in, names_at}
+use Rattle.intern_marks.specs.declared.flags.Registered.{Registered}
 use Rattle.intern_marks.specs.Tied.{IsKept, IsLed}
 use Rattle.intern_marks.specs.declared.found.Table.{Table}
-use Rattle.intern_marks.specs.declared.slots.Slots.{Slots}
-use Rattle.intern_marks.proofs.Tied.{seen, same_names_in, names_added}
-use Rattle.intern_marks.proofs.Kept.{fewer_slots, same_kept, same_marked, added_kept, added_marked}
+use Rattle.intern_marks.proofs.Tied.{seen, unfilled, same_names_in, names_added, added_tied}
+use Rattle.intern_marks.proofs.Slotted.{at_past}
+use Rattle.intern_marks.proofs.Kept.{fewer_slots, same_kept, same_marked, names_grown, kept_grown}
 use Rattle.intern_marks.proofs.marks.Marks.add.Goals as goal
 use Rattle.intern_marks.proofs.marks.Marks.add.Goals.{After-make_room, After-put}
 
@@ -24,10 +25,6 @@ roomy c u led =
     same_kept c.self.invariant c.make_room.new.self c.make_room.ensures.same c.make_room.ensures.count
     (c.make_room.ensures.follow c.self.invariant.tied.follow) u led
 
--- a table that isn't filled leads nowhere
-unfilled : (s : Slots) (u : Table) → u.is_filled ≡ false → IsLed s u
-unfilled s u none filled = let no = sym none ∙ filled in absurd (cc)
-
 pub invariant_of-self : goal.invariant_of-self
 invariant_of-self c = roomy (goal.at.invariant_of-self c).After-make_room c.self.inside.table c.self.invariant.tied.led
 
@@ -37,11 +34,8 @@ invariant_of-self-in_err-make_room c =
 
 pub invariant_of-self-in_err-reserve : goal.invariant_of-self-in_err-reserve
 invariant_of-self-in_err-reserve c =
-    let a = c.self.inside in
     let u = c.make_room-2.new.self in
-    subst (λ l. IsKept c.make_room.new.self u a.size l a.visits (vec_capacity c.reserve.new.self)) (sym c.in_err-reserve.ensures.items)
-    (subst (λ n. IsKept c.make_room.new.self u a.size a.marked.items a.visits n) (sym c.in_err-reserve.ensures.err)
-    (roomy (goal.at.invariant_of-self-in_err-reserve c).After-make_room u (unfilled a.slots u c.make_room-2.ensures)))
+    rw (c.in_err-reserve.ensures.items, c.in_err-reserve.ensures.err) (roomy (goal.at.invariant_of-self-in_err-reserve c).After-make_room u (unfilled c.self.inside.slots u c.make_room-2.ensures))
 
 -- the entry is put
 module _ (c : After-put) where
@@ -64,13 +58,8 @@ module _ (c : After-put) where
   abbrev grown : Bool → List ℕ
   grown b = cond b (items ++ c.in_ok-slot.slot ∷ []) items
 
-  put_kept : (more : ℕ) → c.self.inside.size + 1 ≤ more
-      → IsKept c.put.new.self c.make_room-2.new.self (c.self.inside.size + 1) (grown c.args.flags.is_marked) c.self.inside.visits more
-  put_kept more fits =
-      let e = c.in_ok-slot.ensures in
-      added_kept kept
-      c.in_ok-slot.slot (key_name c.args.key) c.args.flags unknown e.behind c.put.new.self c.put.ensures.put c.put.ensures.count
-      c.make_room-2.new.self more c.make_room-2.ensures c.put.ensures.follow e.told fits
+  was_vacant : (q : Registered) → registered_at c.make_room.new.self c.in_ok-slot.slot ≡ Some q → q.name ≡ key_name c.args.key
+  was_vacant q is = let none = sym (at_past c.make_room.new.self c.in_ok-slot.slot c.in_ok-slot.ensures.behind) ∙ is in absurd (cc)
 
   put_names : names_in c.put.new.self ≡ insert (names_in c.self.inside.slots) (key_name c.args.key) c.args.flags.is_counted
   put_names =
@@ -81,9 +70,7 @@ module _ (c : After-put) where
 
   put_marked : (b : Bool) → let old = names_at c.self.inside.slots items in names_at c.put.new.self (grown b) ≡ cond b (old ++ key_name c.args.key ∷ []) old
   put_marked b =
-      let e = c.in_ok-slot.ensures in
-      added_marked kept
-      c.in_ok-slot.slot (key_name c.args.key) c.args.flags unknown e.behind c.put.new.self c.put.ensures.put c.put.ensures.count b
+      names_grown c.make_room.new.self c.put.new.self c.in_ok-slot.slot _ c.put.ensures.put was_vacant items kept.taken b
       ∙ ap (λ (l : List Name). cond b (l ++ key_name c.args.key ∷ []) l)
       (same_marked c.self.invariant c.make_room.new.self c.make_room.ensures.same c.make_room.ensures.count)
 
@@ -94,8 +81,12 @@ module _ (c : After-put) where
   put_invariant : (l : List ℕ) (more : ℕ) → l ≡ grown c.args.flags.is_marked → more ≡ vec_capacity c.reserve.new.self
       → IsKept c.put.new.self c.make_room-2.new.self (c.self.inside.size + 1) l c.self.inside.visits more
   put_invariant l more is room =
-      subst (λ l. IsKept c.put.new.self c.make_room-2.new.self (c.self.inside.size + 1) l c.self.inside.visits more) (sym is)
-      (put_kept more (let fits = fits in omega arith))
+      let e = c.in_ok-slot.ensures in
+      let u = c.make_room-2.new.self in
+      rw is
+      (kept_grown c.make_room.new.self c.put.new.self c.in_ok-slot.slot _ c.put.ensures.put was_vacant items kept.taken c.args.flags.is_marked u (c.self.inside.size + 1) c.self.inside.visits more
+      (added_tied kept.tied c.in_ok-slot.slot (key_name c.args.key) c.args.flags unknown e.behind c.put.new.self c.put.ensures.put c.put.ensures.count
+      u more (unfilled c.put.new.self u c.make_room-2.ensures) c.put.ensures.follow e.told (omega (arith, fits, room))))
 
   put_view : (l : List ℕ) → l ≡ grown c.args.flags.is_marked
       → seen (names_in c.put.new.self) (names_at c.put.new.self l) c.self.inside.visits c.self.inside.calls ≡ added c.args.self.now (key_name c.args.key) c.args.flags.is_counted c.args.flags.is_marked
@@ -110,9 +101,7 @@ module _ (c : After-put) where
   leaves_it it = c.in_ok-reserve.ensures.items ∙ sym (ap grown it)
 
 pub push_reserved-requires : goal.push_reserved-requires
-push_reserved-requires c =
-    let a = c.self.inside in
-    omega (arith, fewer_slots a.marked c.self.invariant, c.len.ensures, c.in_ok-reserve.ensures.ok, c.in_ok-reserve.ensures.len)
+push_reserved-requires c = omega (arith, fits (goal.at.push_reserved-requires c).After-put, fewer_slots c.self.inside.marked c.self.invariant, c.in_ok-reserve.ensures.len)
 
 pub invariant_of-self-then-flags : goal.invariant_of-self-then-flags
 invariant_of-self-then-flags c =

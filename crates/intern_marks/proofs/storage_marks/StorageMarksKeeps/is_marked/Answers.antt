@@ -4,13 +4,7 @@ use Rattle.intern_marks.specs.StorageMarks.{Swept}
 use Rattle.intern_marks.proofs.Tied.{nowhere_unmarked}
 use Rattle.intern_marks.proofs.storage_marks.StorageMarksKeeps.is_marked.Goals as goal
 
-pub returns-in-Some : goal.returns-in-Some
-returns-in-Some c =
-    sym (ap (λ (s : Swept). has s.marked (record { storage = s.number; birth = c.args.spot.birth })) (sym c.self.view_is)
-    ∙ c.self.invariant.tied.flagged c.in-Some.found.slot _ c.in-Some.found.flags c.in-Some.ensures.found)
-
 pub returns-in-None : goal.returns-in-None
 returns-in-None c =
-    let i = c.self.invariant in
     sym (ap (λ (s : Swept). has s.marked (record { storage = s.number; birth = c.args.spot.birth })) (sym c.self.view_is)
-    ∙ nowhere_unmarked i.tied _ c.in-None.ensures.none)
+    ∙ nowhere_unmarked c.self.invariant.tied _ c.in-None.ensures.none)
