@@ -147,7 +147,7 @@ module _ (family : List Entry) (listed : List Name) (m : Marks) (is : Learns tru
   counted_marked : (x : Name) → get m.registered x ≡ Some true → has m.marked x ≡ true
   counted_marked x counted = grind (arith, is.marked x, known x, counted)
 
--- so does it where they are marked by mark calls that are forgotten
+  -- so does it where they are marked by mark calls that are forgotten
   pub calls_begin : IsTrace (starts_with listed family) family (untold (marks m listed))
   calls_begin =
       let begun : untold (marks m listed) ≡ roots m listed =
