@@ -161,6 +161,7 @@ impl Slots {
 
     // The last part, which is that of the key's storage: it begins where it isn't, in row with the
     // key. Where there is no memory, nothing has changed.
+    #[tactic(auto, using(crate::proofs::Parted::begun_same, crate::proofs::Parted::begun_follow, crate::proofs::Parted::begun_last))]
     fn begin(&mut self, key: EntryKey) -> Result<Part, AllocError>
         ensures same { (i : ℕ) → registered_at self.new i ≡ registered_at self.old i }
         ensures count { slot_count self.new ≡ slot_count self.old }
