@@ -252,6 +252,7 @@ impl Slots {
 
     /// Fills a slot of the last part behind all others with an entry of its storage. Those between
     /// are vacant.
+    #[tactic(auto, using(crate::proofs::Slotted::put_at, crate::proofs::Slotted::put_written))]
     pub(crate) fn put(&mut self, slot: usize, key: EntryKey, flags: Flags)
         requires next { IsNext self.old (key_name key) slot }
         requires behind { slot_count self.old ≤ slot }
