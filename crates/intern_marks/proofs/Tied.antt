@@ -45,10 +45,6 @@ nothing_tied s t marked capacity none parts empty_table unmarked = record {
 abbrev pub seen : FinMap name_cmp Bool → List Name → ℕ → ℕ → Marks
 seen registered marked visits calls = record { registered = registered; marked = marked; visits = visits; calls = calls }
 
-pub placed-calls : (b : Bool) (m : Marks) (x : Name) → (placed b m x).calls ≡ m.calls
-unfolding placed
-placed-calls b m x = refl
-
 -- a name that is placed, as it was decided
 pub placed_as : (b : Bool) (m : Marks) (x : Name) (t : Bool) → is_next b m x ≡ t → record m { marked = cond t (m.marked ++ x ∷ []) m.marked } ≡ placed b m x
 unfolding placed
