@@ -85,9 +85,6 @@ module _ (at bt : ℕ → Option Registered) (i : ℕ) (r : Registered) (write :
   pub written_else : (j : ℕ) → j ≢ i → bt j ≡ at j
   written_else j other = grind (arith, nat_tests)
 
-  pub written_cases : (j : ℕ) (q : Registered) → bt j ≡ Some q → ((j ≡ i) × (q ≡ r)) ⊎ ((j ≢ i) × (at j ≡ Some q))
-  written_cases j q is = grind (arith, nat_tests)
-
   -- slots stay apart where the name is new
   pub written_apart : AreApart at → ((j : ℕ) (q : Registered) → j ≢ i → at j ≡ Some q → r.name ≡ q.name → ⊥) → AreApart bt
   written_apart apart other j k q p one two same = grind (arith, nat_tests)

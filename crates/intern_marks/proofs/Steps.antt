@@ -30,8 +30,7 @@ listed_once may names n once = let push = IsDistinct-push same_name_is_equivalen
 -- what was listed stays in front
 pub listed_front : (b : Bool) (names : List Name) (n : Name) (k : ℕ) → k ≤ length names
     → (k ≤ length (cond b (names ++ n ∷ []) names)) × (take k (cond b (names ++ n ∷ []) names) ≡ take k names)
-listed_front true names n k within = (omega (arith, length-append names (n ∷ [])), take-append-le k names (n ∷ []) within)
-listed_front false names n k within = (within, refl)
+listed_front b names n k within = grind (arith, take-append-le, length-append)
 
 -- a step that lists a name where it may be marked
 pub record IsPlacing (b : Bool) (step : Marks → Name → Marks) : Type 0 where
@@ -91,8 +90,8 @@ abbrev AreMarked : Marks → Type 0
 AreMarked m = (x : Name) → get m.registered x ≡ Some true → has m.marked x ≡ true
 
 still_marked : (m : Marks) (n : Name) → AreMarked m → AreMarked (mark m n)
-still_marked m n there x counted =
-    let marked = ap (λ l. has l x) (mark_places.marked m n) ∙ listed_has (may_be false (get m.registered n)) m.marked n x in grind (arith, marked, there x, mark_places.registered m n)
+unfolding placed
+still_marked m n there x counted = grind (arith, there x, has_append)
 
 mark_as_root : (m : Marks) (n : Name) → AreMarked m → untold (mark m n) ≡ root (untold m) n
 unfolding placed
