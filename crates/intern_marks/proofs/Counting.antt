@@ -42,11 +42,8 @@ all_named family names once each many x there =
           absurd (omega arith)
     ]
 
-begins_entry : (o : Option Entry) (b : Bool) → (counted_entry o || (is_some o && b)) ≡ true → is_some o ≡ true
-begins_entry o b h = grind arith
-
 -- a path ends at an entry
 pub reached_entry : (listed : List Name) (family : List Entry) (before : List Name) (x : Name)
     → IsPath (starts_with listed family) family before x → is_entry family x ≡ true
-reached_entry listed family [] x path = begins_entry (entry_of family x) (has listed x) path
+reached_entry listed family [] x path = grind (arith, path)
 reached_entry listed family (parent ∷ before) x path = path.0

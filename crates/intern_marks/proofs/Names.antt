@@ -1,5 +1,5 @@
 -- Equality of names, their order, and what is in a list of names.
-use Rattle.std.proofs.Common.{◌≡◌, true, cond, ◌&&◌, ◌||◌, List, [], ◌∷◌, ◌++◌, Some, refl, sym, ◌∙◌, ap, ◌⊎◌, inl, inr}
+use Rattle.std.proofs.Common.{◌≡◌, true, cond, ◌&&◌, ◌||◌, List, [], ◌∷◌, ◌++◌, Some, refl, sym, ◌∙◌, ap, ◌⊎◌, arith}
 use Rattle.std.specs.Cmp.{IsEquivalence, IsTotalOrder, nat_cmp_total, then_total, on_total, tied_then}
 use Rattle.std.specs.Ordering.{nat_cmp, eq_by_cmp, is_eq}
 use Rattle.std.specs.FinMap.{FinMap, IsAntisymmetric, get, insert, get-insert}
@@ -26,10 +26,7 @@ pub has_append : (xs ys : List Name) (n : Name) → has (xs ++ ys) n ≡ (has xs
 has_append xs ys n = list_any-append _ xs ys
 
 pub has_cases : (xs : List Name) (m n : Name) → has (xs ++ m ∷ []) n ≡ true → (has xs n ≡ true) ⊎ (n ≡ m)
-has_cases xs m n h = elim (or_cases _ _ (sym (has_append xs (m ∷ []) n) ∙ h)) [
-  | inl old ↦ inl old
-  | inr new ↦ elim (or_cases _ _ new) [ inl is ↦ inr (names_same n m is) | inr end ↦ cc ]
-]
+has_cases xs m n h = grind (arith, has_append, names_same)
 
 pub name_cmp_total : IsTotalOrder name_cmp
 name_cmp_total = then_total (on_total (λ (n : Name). n.storage) nat_cmp_total) (on_total (λ (n : Name). n.birth) nat_cmp_total)

@@ -13,7 +13,7 @@ use Rattle.intern_marks.specs.declared.flags.Registered.{Registered}
 use Rattle.intern_marks.specs.declared.flags.Flags.{Flags}
 use Rattle.intern_marks.specs.declared.part.Part.{Part}
 use Rattle.intern_marks.specs.declared.slots.Slots.{Slots}
-use Rattle.intern_marks.proofs.Parted.{extended_at, extended_before}
+use Rattle.intern_marks.proofs.Parted.{extended_follow, extended_at, extended_before}
 use Rattle.intern_store.proofs.Named.{names_same}
 use Rattle.intern_marks.proofs.Names.{same_as_itself, get-inserted}
 
@@ -85,9 +85,6 @@ module _ (at bt : ℕ → Option Registered) (i : ℕ) (r : Registered) (write :
   pub written_else : (j : ℕ) → j ≢ i → bt j ≡ at j
   written_else j other = grind (arith, nat_tests)
 
-  pub written_cases : (j : ℕ) (q : Registered) → bt j ≡ Some q → ((j ≡ i) × (q ≡ r)) ⊎ ((j ≢ i) × (at j ≡ Some q))
-  written_cases j q is = grind (arith, nat_tests)
-
   -- slots stay apart where the name is new
   pub written_apart : AreApart at → ((j : ℕ) (q : Registered) → j ≢ i → at j ≡ Some q → r.name ≡ q.name → ⊥) → AreApart bt
   written_apart apart other j k q p one two same = grind (arith, nat_tests)
@@ -109,7 +106,10 @@ mark_written s next i r is parts row births flags j = grind (arith, nat_tests, g
 pub put_at : {A : Type 0} (xs : List A) (gap : ℕ) (y d : A) (i n : ℕ) → length xs + gap ≡ n → get_or (xs ++ (replicate gap d ++ y ∷ [])) i d ≡ cond (nat_eq i n) y (get_or xs i d)
 put_at xs gap y d i n is = grind (arith, nat_tests, common_steps)
 
--- a slot that is filled behind all others
+-- a slot that is filled behind all others: its part goes on
+pub next_follow : (s : Slots) (x : Name) (i : ℕ) (more : List Part) → IsNext s x i → slot_count s ≤ i → Follow 0 s.parts.items (slot_count s) → more ≡ extended s.parts.items (i + 1) → Follow 0 more (i + 1)
+next_follow s x i more next behind follow is = rw is (extended_follow s.parts.items 0 (slot_count s) (i + 1) next.0 follow next.1 (omega arith))
+
 pub put_written : (s : Slots) (more : List Part) (births : List ℕ) (flags : List (Option Flags)) (slot g : ℕ) (x : Name) (f : Flags) → length s.flags.items + g ≡ slot
     → Follow 0 s.parts.items (slot_count s) → IsNext s x slot
     → more ≡ extended s.parts.items (slot + 1)

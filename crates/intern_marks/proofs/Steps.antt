@@ -30,8 +30,7 @@ listed_once may names n once = let push = IsDistinct-push same_name_is_equivalen
 -- what was listed stays in front
 pub listed_front : (b : Bool) (names : List Name) (n : Name) (k : ℕ) → k ≤ length names
     → (k ≤ length (cond b (names ++ n ∷ []) names)) × (take k (cond b (names ++ n ∷ []) names) ≡ take k names)
-listed_front true names n k within = (omega (arith, length-append names (n ∷ [])), take-append-le k names (n ∷ []) within)
-listed_front false names n k within = (within, refl)
+listed_front b names n k within = grind (arith, take-append-le, length-append)
 
 -- a step that lists a name where it may be marked
 pub record IsPlacing (b : Bool) (step : Marks → Name → Marks) : Type 0 where
@@ -47,10 +46,6 @@ pub root_places : IsPlacing true root
 unfolding placed
 root_places = record { registered = λ m n. refl; visits = λ m n. refl; marked = λ m n. refl }
 
--- one name more in the list that is asked
-more : (a b c s k l : Bool) → c ≡ (a || (s && k)) → (s ≡ true → k ≡ l) → (c || (b && l)) ≡ (a || ((s || b) && l))
-more a b c s k l is same = grind arith
-
 module _ (b : Bool) (step : Marks → Name → Marks) (places : IsPlacing b step) where
   pub each-registered : (m : Marks) (ns : List Name) → (fold step m ns).registered ≡ m.registered
   each-registered m [] = refl
@@ -64,11 +59,9 @@ module _ (b : Bool) (step : Marks → Name → Marks) (places : IsPlacing b step
   pub each-has : (m : Marks) (ns : List Name) (x : Name) → has (fold step m ns).marked x ≡ (has m.marked x || (has ns x && may_be b (get m.registered x)))
   each-has m [] x = sym (or-false (has m.marked x))
   each-has m (n ∷ ns) x =
-      each-has (step m n) ns x
-      ∙ ap (λ (r : FinMap name_cmp Bool). has (step m n).marked x || (has ns x && may_be b (get r x))) (places.registered m n)
-      ∙ more (has m.marked x) (has ns x) (has (step m n).marked x) (same_name x n) (may_be b (get m.registered n)) (may_be b (get m.registered x))
-      (ap (λ l. has l x) (places.marked m n) ∙ listed_has (may_be b (get m.registered n)) m.marked n x)
-      (λ same. ap (λ y. may_be b (get m.registered y)) (sym (names_same x n same)))
+      let rest = each-has (step m n) ns x in
+      let marked = ap (λ l. has l x) (places.marked m n) ∙ listed_has (may_be b (get m.registered n)) m.marked n x in
+      grind (arith, rest, marked, places.registered m n, names_same)
 
   pub each-once : (m : Marks) (ns : List Name) → IsDistinct same_name m.marked → IsDistinct same_name (fold step m ns).marked
   each-once m [] once = once
@@ -97,9 +90,8 @@ abbrev AreMarked : Marks → Type 0
 AreMarked m = (x : Name) → get m.registered x ≡ Some true → has m.marked x ≡ true
 
 still_marked : (m : Marks) (n : Name) → AreMarked m → AreMarked (mark m n)
-still_marked m n there x counted =
-    ap (λ l. has l x) (mark_places.marked m n) ∙ listed_has (may_be false (get m.registered n)) m.marked n x
-    ∙ or_left _ _ (there x (ap (λ (r : FinMap name_cmp Bool). get r x) (sym (mark_places.registered m n)) ∙ counted))
+unfolding placed
+still_marked m n there x counted = grind (arith, there x, has_append)
 
 mark_as_root : (m : Marks) (n : Name) → AreMarked m → untold (mark m n) ≡ root (untold m) n
 unfolding placed

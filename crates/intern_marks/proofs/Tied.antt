@@ -1,5 +1,6 @@
 -- What ties a collector's fields together, and what its calls do to that.
 use Rattle.std.proofs.Common.{◌≡◌, ◌≢◌, inl, inr, ℕ, ◌+◌, ◌-◌, ◌<◌, ◌≤◌, ◌^◌, Bool, false, not, cond, ◌&&◌, ◌||◌, List, [], ◌∷◌, ◌++◌, length, Some, None, is_some, refl, sym, ap, ◌∙◌, subst, arith, length-append}
+use Rattle.std.proofs.lemmas.Bool.Decides.{nat_tests}
 use Rattle.std.specs.Option.{option_map}
 use Rattle.std.specs.FinMap.{FinMap, get, insert, empty, len, len-empty, len-insert}
 use Rattle.std.proofs.lemmas.Bool.{false≢true}
@@ -17,7 +18,7 @@ use Rattle.intern_store.proofs.Named.{names_same}
 use Rattle.intern_marks.proofs.Names.{name_cmp_total, same_as_itself}
 use Rattle.intern_marks.proofs.Sound.{nothing_sound, unmarked, sound_more, sound_added, fewer as few}
 use Rattle.intern_marks.proofs.Steps.{grown_has, listed_front}
-use Rattle.intern_marks.proofs.Slotted.{names_same_below, names_there, names_nowhere, names_gap, names_push, IsWritten, at_below, at_past, written_here, written_else, written_cases, written_apart, written_name, written_adds}
+use Rattle.intern_marks.proofs.Slotted.{names_same_below, names_there, names_nowhere, names_gap, names_push, IsWritten, at_below, at_past, written_here, written_else, written_apart, written_name, written_adds}
 
 pub nothing_names : (s : Slots) → slot_count s ≡ 0 → names_in s ≡ empty
 unfolding names_below
@@ -44,10 +45,6 @@ nothing_tied s t marked capacity none parts empty_table unmarked = record {
 -- what is seen
 abbrev pub seen : FinMap name_cmp Bool → List Name → ℕ → ℕ → Marks
 seen registered marked visits calls = record { registered = registered; marked = marked; visits = visits; calls = calls }
-
-pub placed-calls : (b : Bool) (m : Marks) (x : Name) → (placed b m x).calls ≡ m.calls
-unfolding placed
-placed-calls b m x = refl
 
 -- a name that is placed, as it was decided
 pub placed_as : (b : Bool) (m : Marks) (x : Name) (t : Bool) → is_next b m x ≡ t → record m { marked = cond t (m.marked ++ x ∷ []) m.marked } ≡ placed b m x
@@ -91,10 +88,7 @@ module _ {s : Slots} {t : Table} {size : ℕ} {marked : List Name} {visits capac
       led = led;
       told = told;
       sized = sized;
-      flagged = λ j y g at. elim (written_cases (registered_at s) (registered_at next) i _ written j _ at) [
-        | inl now ↦ grind (arith, now, new, grown_has, same_as_itself)
-        | inr old ↦ let flagged = tied.flagged j y g old.1 in let apart = alone j _ old.0 old.1 in grind (arith, flagged, apart, grown_has, names_same)
-      ];
+      flagged = λ j y g at. let old = tied.flagged j y g in let apart = alone j in grind (arith, nat_tests, written j, old, apart, new, grown_has, same_as_itself, names_same);
       sound = sound;
       within = (listed_front f.is_marked marked x visits tied.within).0;
       room = room;

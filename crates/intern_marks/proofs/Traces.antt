@@ -20,16 +20,6 @@ use Rattle.intern_marks.proofs.Names.{has_cases, same_as_itself}
 use Rattle.intern_marks.proofs.Sound.{nothing_sound}
 use Rattle.intern_marks.proofs.Steps.{mark_places, root_places, each-registered, each-visits, each-has, each-once, each-front, marks-calls, roots-calls, marks_as_roots}
 
--- an entry that isn't counted is registered as free, and only such an entry
-there_if_free : (e : Option Entry) → may_be false (option_map (λ (e : Entry). is_counted e.count) e) ≡ true → is_some e ≡ true
-there_if_free e h = grind arith
-
-free_if_there : (e : Option Entry) → is_some e ≡ true → counted_entry e ≡ false → may_be false (option_map (λ (e : Entry). is_counted e.count) e) ≡ true
-free_if_there e there h = grind arith
-
-there_as : (e : Option Entry) → may_be true (option_map (λ (e : Entry). is_counted e.count) e) ≡ is_some e
-there_as e = grind arith
-
 module _ (begins : Name → Bool) (family : List Entry) (m : Marks) (t : IsTrace begins family m) where
   module _ (done : length m.marked ≤ m.visits) where
     -- the end of a path is marked
@@ -72,20 +62,17 @@ module _ (begins : Name → Bool) (family : List Entry) (m : Marks) (t : IsTrace
     still x h = next_has x ∙ or_left _ _ h
 
     next_reached : (x : Name) → has next.marked x ≡ true → Reached begins family x
-    next_reached x h = elim (or_cases _ _ (sym (next_has x) ∙ h)) [
+    next_reached x h = elim (cases_Bool (has m.marked x)) [
       | inl old ↦ t.reached x old
       | inr new ↦
-          let both = and_parts _ _ new in
+          let both : (is_entry family x ≡ true) × (has kids x ≡ true) = grind (arith, next_has x, h, new) in
           let up = t.reached n marked_n in
-          (n ∷ up.0, (there_if_free (entry_of family x) both.1, both.0, up.1))
+          (n ∷ up.0, (both.0, both.1, up.1))
     ]
 
     -- a child of n that is an entry is marked afterwards
     next_marks : (x : Name) → has kids x ≡ true → is_entry family x ≡ true → has next.marked x ≡ true
-    next_marks x h there = elim (cases_Bool (starts family x)) [
-      | inl rooted ↦ still x (t.begun x (counted x rooted))
-      | inr bare ↦ next_has x ∙ or_right _ _ (and_from _ _ h (free_if_there (entry_of family x) there bare))
-    ]
+    next_marks x h there = grind (arith, next_has x, t.begun x, counted x)
 
     next_closed : (parent x : Name) → has (visited next) parent ≡ true → has (children_in family parent) x ≡ true → is_entry family x ≡ true → has next.marked x ≡ true
     next_closed parent x h child there = elim (has_cases (visited m) n parent (ap (λ l. has l parent) (sym one-visited) ∙ h)) [
@@ -97,10 +84,8 @@ module _ (begins : Name → Bool) (family : List Entry) (m : Marks) (t : IsTrace
     next-calls =
         let f : Name → ℕ = λ m. length (children_in family m) in
         let told : m.calls ≡ min (sum_by f (visited m)) (2 ^ 64 - 1) = t.calls in
-        let fits : m.calls ≤ 2 ^ 64 - 1 = omega arith in
-        let grown : sum_by f (visited m ++ n ∷ []) ≡ sum_by f (visited m) + f n = sum_by-append f (visited m) (n ∷ []) ∙ omega arith in
-        let all : (marks (begun m) kids).calls ≡ min (m.calls + f n) (2 ^ 64 - 1) = marks-calls (begun m) kids fits in
-        all ∙ omega arith ∙ ap (λ k. min k (2 ^ 64 - 1)) (sym grown) ∙ ap (calls_of family) (sym one-visited)
+        let grown : sum_by f (visited next) ≡ sum_by f (visited m) + (0 + f n) = ap (sum_by f) one-visited ∙ sum_by-append f (visited m) (n ∷ []) in
+        omega (arith, marks-calls (begun m) kids (omega arith))
 
     pub visit_keeps : IsTrace begins family next
     visit_keeps = record {
@@ -121,14 +106,8 @@ module _ (family : List Entry) (listed : List Name) (m : Marks) (is : Learns tru
   known : (x : Name) → get m.registered x ≡ counted_in family x
   known x = is.registered x ∙ or_nothing (counted_in family x) (get (fresh empty).registered x) (get-empty name_cmp x)
 
-  rooted_has : (x : Name) → has (roots m listed).marked x ≡ (starts family x || (has listed x && is_entry family x))
-  rooted_has x =
-      each-has true root root_places m listed x
-      ∙ (λ i. is.marked x i || (has listed x && may_be true (known x i)))
-      ∙ ap (λ b. starts family x || (has listed x && b)) (there_as (entry_of family x))
-
   first : (x : Name) → has (roots m listed).marked x ≡ starts_with listed family x
-  first x = rooted_has x ∙ ap (λ b. starts family x || b) (and_comm (has listed x) (is_entry family x))
+  first x = grind (arith, each-has true root root_places m listed x, is.marked x, known x)
 
   none : visited (roots m listed) ≡ []
   none = ap (λ k. take k (roots m listed).marked) (each-visits true root root_places m listed ∙ is.visits)

@@ -71,6 +71,7 @@ fn found_in(slots: &Slots, part: Part, name: Name) -> Option<Found>
 
 // Finds a name by its birth, where births are in row.
 #[cold]
+#[tactic(auto, using(crate::proofs::Parted::index_covers, crate::proofs::Parted::index_of, crate::proofs::Slotted::part_of_name, std::proofs::lemmas::Option::slice_get_read))]
 fn find_in_row(slots: &Slots, name: Name) -> Option<Found>
     requires row { slots.now.in_row ≡ true }
     requires follow { Follow 0 slots.now.parts.items (slot_count slots.now) }
@@ -87,7 +88,6 @@ fn find_in_row(slots: &Slots, name: Name) -> Option<Found>
 }
 
 // Finds a name by a look at all slots.
-#[tactic(auto, using(crate::proofs::Slotted::at_below))]
 fn scan_for(slots: &Slots, name: Name) -> Option<Found>
     ensures found { IfSome result (λ f. IsFound slots.now name f) }
     ensures none { IfNone result (IsNowhere slots.now name) }
@@ -103,7 +103,6 @@ fn scan_for(slots: &Slots, name: Name) -> Option<Found>
 }
 
 // Makes buckets lead to each name's slot, and says whether there was room for that.
-#[tactic(auto, using(crate::proofs::Slotted::name_below))]
 fn fill_buckets(slots: &Slots, buckets: &mut Buckets) -> bool
     requires { slot_count slots.now < 2 ^ 48 }
     ensures room { HasRoom buckets.new → IsTrue result }

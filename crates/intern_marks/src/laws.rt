@@ -31,7 +31,6 @@ pub fn at_its_end_a_trace_has_visited_what_is_reached()
 {}
 
 /// Roots that name no entry begin no path.
-#[tactic(auto, using(crate::proofs::Traces::starts_with_none))]
 pub fn roots_without_entries_begin_nothing()
     ensures { (family : List Entry) (listed : List Name) →
         ((x : Name) → has listed x ≡ true → is_entry family x ≡ false) →

@@ -69,6 +69,7 @@ fn slot_at(slots: &[usize], index: usize) -> Option<usize>
 
 impl Marks {
     /// Nothing is registered. It takes no memory.
+    #[tactic(auto, using(crate::proofs::Tied::nothing_names))]
     pub fn new(alloc: Global) -> Marks
         ensures { result ≡ fresh map.empty }
     {
@@ -84,6 +85,7 @@ impl Marks {
 
     /// Nothing is registered, with room for this many entries. Past them it works on, but slows down.
     /// Where there is no memory, `AllocError`.
+    #[tactic(auto, using(crate::proofs::Tied::nothing_names))]
     pub fn with_room(alloc: Global, entries: usize) -> Result<Marks, AllocError>
         ensures { IfOk result (λ m. m ≡ fresh map.empty) }
     {

@@ -161,6 +161,7 @@ impl Slots {
 
     // The last part, which is that of the key's storage: it begins where it isn't, in row with the
     // key. Where there is no memory, nothing has changed.
+    #[tactic(auto, using(crate::proofs::Parted::begun_same, crate::proofs::Parted::begun_follow, crate::proofs::Parted::begun_last))]
     fn begin(&mut self, key: EntryKey) -> Result<Part, AllocError>
         ensures same { (i : ℕ) → registered_at self.new i ≡ registered_at self.old i }
         ensures count { slot_count self.new ≡ slot_count self.old }
@@ -251,6 +252,7 @@ impl Slots {
 
     /// Fills a slot of the last part behind all others with an entry of its storage. Those between
     /// are vacant.
+    #[tactic(auto, using(crate::proofs::Slotted::put_at, crate::proofs::Slotted::put_written))]
     pub(crate) fn put(&mut self, slot: usize, key: EntryKey, flags: Flags)
         requires next { IsNext self.old (key_name key) slot }
         requires behind { slot_count self.old ≤ slot }

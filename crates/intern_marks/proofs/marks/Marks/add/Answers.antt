@@ -1,15 +1,15 @@
-use Rattle.std.proofs.Common.{◌≡◌, ℕ, ◌+◌, ◌≤◌, Bool, true, false, cond, List, [], ◌∷◌, ◌++◌, None, Some, vec_capacity, refl, sym, ap, ◌∙◌, arith}
+use Rattle.std.proofs.Common.{◌≡◌, ℕ, ◌+◌, ◌≤◌, nat_eq, Bool, true, false, cond, List, [], ◌∷◌, ◌++◌, None, Some, vec_capacity, refl, sym, ap, ◌∙◌, arith}
 use Rattle.std.specs.FinMap.{FinMap, get, insert}
 use Rattle.intern_store.specs.Named.{key_name}
 use Rattle.intern_store.specs.declared.names.Name.{Name}
 use Rattle.intern_marks.specs.Names.{name_cmp}
 use Rattle.intern_marks.specs.Marks.{Marks, added}
-use Rattle.intern_marks.specs.Slotted.{registered_at, names_in, names_at}
+use Rattle.intern_marks.specs.Slotted.{slot_count, registered_at, names_in, names_at}
 use Rattle.intern_marks.specs.declared.flags.Registered.{Registered}
 use Rattle.intern_marks.specs.Tied.{IsKept, IsLed}
 use Rattle.intern_marks.specs.declared.found.Table.{Table}
 use Rattle.intern_marks.proofs.Tied.{seen, unfilled, same_names_in, names_added, added_tied}
-use Rattle.intern_marks.proofs.Slotted.{at_past}
+use Rattle.intern_marks.proofs.Slotted.{IsWritten, at_past}
 use Rattle.intern_marks.proofs.Kept.{fewer_slots, same_kept, same_marked, names_grown, kept_grown}
 use Rattle.intern_marks.proofs.marks.Marks.add.Goals as goal
 use Rattle.intern_marks.proofs.marks.Marks.add.Goals.{After-make_room, After-put}
@@ -42,37 +42,21 @@ module _ (c : After-put) where
   abbrev items : List ℕ
   items = c.self.inside.marked.items
 
-  kept : let a = c.self.inside in IsKept c.make_room.new.self a.table a.size items a.visits (vec_capacity a.marked)
-  kept =
-      same_kept c.self.invariant c.make_room.new.self c.make_room.ensures.same c.make_room.ensures.count
-      (c.make_room.ensures.follow c.self.invariant.tied.follow) c.self.inside.table c.self.invariant.tied.led
+  written : IsWritten (registered_at c.self.inside.slots) (registered_at c.put.new.self) c.in_ok-slot.slot (record { name = key_name c.args.key; flags = c.args.flags })
+  written j = c.put.ensures.put j ∙ ap (cond (nat_eq j c.in_ok-slot.slot) (Some (record { name = key_name c.args.key; flags = c.args.flags }))) (c.make_room.ensures.same j)
 
-  same_names : names_in c.make_room.new.self ≡ names_in c.self.inside.slots
-  same_names =
-      same_names_in c.self.invariant.tied c.make_room.new.self c.make_room.ensures.same c.make_room.ensures.count
+  unknown : get (names_in c.self.inside.slots) (key_name c.args.key) ≡ None
+  unknown = ap (λ (m : Marks). get m.registered (key_name c.args.key)) c.self.view_is ∙ c.requires
 
-  unknown : get (names_in c.make_room.new.self) (key_name c.args.key) ≡ None
-  unknown = ap (λ (m : FinMap name_cmp Bool). get m (key_name c.args.key)) same_names ∙ ap (λ (m : Marks). get m.registered (key_name c.args.key)) c.self.view_is ∙ c.requires
+  behind : slot_count c.self.inside.slots ≤ c.in_ok-slot.slot
+  behind = omega (arith, c.make_room.ensures.count, c.in_ok-slot.ensures.behind)
 
   -- the slots of what is marked then, where it is known whether the entry is
   abbrev grown : Bool → List ℕ
   grown b = cond b (items ++ c.in_ok-slot.slot ∷ []) items
 
-  was_vacant : (q : Registered) → registered_at c.make_room.new.self c.in_ok-slot.slot ≡ Some q → q.name ≡ key_name c.args.key
-  was_vacant q is = let none = sym (at_past c.make_room.new.self c.in_ok-slot.slot c.in_ok-slot.ensures.behind) ∙ is in absurd (cc)
-
-  put_names : names_in c.put.new.self ≡ insert (names_in c.self.inside.slots) (key_name c.args.key) c.args.flags.is_counted
-  put_names =
-      let e = c.in_ok-slot.ensures in
-      names_added kept.tied
-      c.in_ok-slot.slot (key_name c.args.key) c.args.flags unknown e.behind c.put.new.self c.put.ensures.put c.put.ensures.count
-      ∙ ap (λ (m : FinMap name_cmp Bool). insert m (key_name c.args.key) c.args.flags.is_counted) same_names
-
-  put_marked : (b : Bool) → let old = names_at c.self.inside.slots items in names_at c.put.new.self (grown b) ≡ cond b (old ++ key_name c.args.key ∷ []) old
-  put_marked b =
-      names_grown c.make_room.new.self c.put.new.self c.in_ok-slot.slot _ c.put.ensures.put was_vacant items kept.taken b
-      ∙ ap (λ (l : List Name). cond b (l ++ key_name c.args.key ∷ []) l)
-      (same_marked c.self.invariant c.make_room.new.self c.make_room.ensures.same c.make_room.ensures.count)
+  was_vacant : (q : Registered) → registered_at c.self.inside.slots c.in_ok-slot.slot ≡ Some q → q.name ≡ key_name c.args.key
+  was_vacant q is = let none = sym (at_past c.self.inside.slots c.in_ok-slot.slot behind) ∙ is in absurd (cc)
 
   fits : c.self.inside.size + 1 ≤ vec_capacity c.reserve.new.self
   fits = let a = c.self.inside in omega (arith, fewer_slots a.marked c.self.invariant, c.len.ensures, c.in_ok-reserve.ensures.ok, c.in_ok-reserve.ensures.len)
@@ -81,17 +65,18 @@ module _ (c : After-put) where
   put_invariant : (l : List ℕ) (more : ℕ) → l ≡ grown c.args.flags.is_marked → more ≡ vec_capacity c.reserve.new.self
       → IsKept c.put.new.self c.make_room-2.new.self (c.self.inside.size + 1) l c.self.inside.visits more
   put_invariant l more is room =
-      let e = c.in_ok-slot.ensures in
       let u = c.make_room-2.new.self in
       rw is
-      (kept_grown c.make_room.new.self c.put.new.self c.in_ok-slot.slot _ c.put.ensures.put was_vacant items kept.taken c.args.flags.is_marked u (c.self.inside.size + 1) c.self.inside.visits more
-      (added_tied kept.tied c.in_ok-slot.slot (key_name c.args.key) c.args.flags unknown e.behind c.put.new.self c.put.ensures.put c.put.ensures.count
-      u more (unfilled c.put.new.self u c.make_room-2.ensures) c.put.ensures.follow e.told (omega (arith, fits, room))))
+      (kept_grown c.self.inside.slots c.put.new.self c.in_ok-slot.slot _ written was_vacant items c.self.invariant.taken c.args.flags.is_marked u (c.self.inside.size + 1) c.self.inside.visits more
+      (added_tied c.self.invariant.tied c.in_ok-slot.slot (key_name c.args.key) c.args.flags unknown behind c.put.new.self written c.put.ensures.count
+      u more (unfilled c.put.new.self u c.make_room-2.ensures) c.put.ensures.follow c.in_ok-slot.ensures.told (omega (arith, fits, room))))
 
   put_view : (l : List ℕ) → l ≡ grown c.args.flags.is_marked
       → seen (names_in c.put.new.self) (names_at c.put.new.self l) c.self.inside.visits c.self.inside.calls ≡ added c.args.self.now (key_name c.args.key) c.args.flags.is_counted c.args.flags.is_marked
   put_view l is =
-      (λ j. seen (put_names j) ((ap (names_at c.put.new.self) is ∙ put_marked c.args.flags.is_marked) j) c.self.inside.visits c.self.inside.calls)
+      let names = names_added c.self.invariant.tied c.in_ok-slot.slot (key_name c.args.key) c.args.flags unknown behind c.put.new.self written c.put.ensures.count in
+      let marked = names_grown c.self.inside.slots c.put.new.self c.in_ok-slot.slot _ written was_vacant items c.self.invariant.taken c.args.flags.is_marked in
+      (λ j. seen (names j) ((ap (names_at c.put.new.self) is ∙ marked) j) c.self.inside.visits c.self.inside.calls)
       ∙ ap (λ (m : Marks). added m (key_name c.args.key) c.args.flags.is_counted c.args.flags.is_marked) c.self.view_is
 
   marks_it : c.args.flags.is_marked ≡ true → (l : List ℕ) → l ≡ c.reserve.new.self.items ++ c.in_ok-slot.slot ∷ [] → l ≡ grown c.args.flags.is_marked

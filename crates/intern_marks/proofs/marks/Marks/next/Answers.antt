@@ -16,9 +16,6 @@ module _ (c : In_ok-slot) where
   taken : IsSome (registered_at c.self.inside.slots c.in_ok-slot.slot)
   taken = let a = c.self.inside in marked_taken c.self.invariant a.visits c.in_ok-slot.slot first
 
-pub key-requires : goal.key-requires
-key-requires c = taken (goal.at.key-requires c).In_ok-slot
-
 pub returns-clause-name : goal.returns-clause-name
 returns-clause-name c =
     let a = c.self.inside in

@@ -1,7 +1,5 @@
 use Rattle.std.proofs.Common.{vec_capacity}
-use Rattle.intern_marks.specs.Slotted.{names_at}
 use Rattle.intern_marks.proofs.Kept.{nothing_kept}
-use Rattle.intern_marks.proofs.Tied.{nothing_names, seen}
 use Rattle.intern_marks.proofs.marks.Marks.with_room.Goals as goal
 
 pub invariant_of-result : goal.invariant_of-result
@@ -9,8 +7,3 @@ invariant_of-result c =
     let s = c.in_ok-with_room.field-0 in
     let marked = c.in_ok-with_capacity.field-0 in
     nothing_kept s c.new.result marked.items (vec_capacity marked) c.in_ok-with_room.ensures.count c.in_ok-with_room.ensures.parts c.new.ensures c.in_ok-with_capacity.ensures.items
-
-pub returns : goal.returns
-returns c =
-    let s = c.in_ok-with_room.field-0 in
-    λ j. seen (nothing_names s c.in_ok-with_room.ensures.count j) (names_at s (c.in_ok-with_capacity.ensures.items j)) 0 0
