@@ -73,6 +73,7 @@ fn keeps_four(rt: &impl Abort, shelf: Shelf, nodes: Nodes, alloc: Global) {
 }
 
 /// A triple of nodes, declared in order.
+#[derive(Drop)]
 struct Tray {
     nodes: (InternedRef<Node>, InternedRef<Node>, InternedRef<Node>),
 }
