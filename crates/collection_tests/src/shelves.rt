@@ -2,8 +2,8 @@
 ghost use Rattle.std.specs.Prelude.{true};
 
 use crate::nodes::{Nodes, intern_leaf};
-use crate::steps::{intern, is_equal};
-use intern_fixtures::{Node, new_values};
+use crate::steps::{collects_from, intern, is_equal};
+use intern_fixtures::{Node, drop_values, new_values};
 use ra_ap_intern::{GarbageCollector, GcInternedVisit, Internable, InternedRef, Pair};
 use std::alloc::Global;
 use std::process::Abort;
@@ -70,4 +70,37 @@ fn keeps_four(rt: &impl Abort, shelf: Shelf, nodes: Nodes, alloc: Global) {
     let told = GarbageCollector::new(alloc).collect_from(&mut family, &shelf);
     let told = told.expect(rt, "memory");
     is_equal(rt, (told.visits, told.mark_calls, told.removed), (5, 4, 1));
+}
+
+/// A triple of nodes, declared in order.
+#[derive(Drop)]
+struct Tray {
+    nodes: (InternedRef<Node>, InternedRef<Node>, InternedRef<Node>),
+}
+
+impl GcInternedVisit for Tray {
+    ghost use Rattle.std.specs.Prelude.{◌++◌};
+    ghost use Rattle.collection_tests.specs.declared.shelves.Tray.{out-Tray};
+    ghost use Rattle.ra_ap_intern.specs.Visitors.{own_name};
+
+    ghost children = { λ tray. let nodes = (out-Tray tray).nodes in
+        own_name nodes.0 ++ own_name nodes.1 ++ own_name nodes.2 };
+
+    fn visit_with(&self, gc: &mut GarbageCollector) {
+        self.nodes.visit_with(gc);
+    }
+}
+
+#[test]
+fn each_part_of_a_triple_is_visited(rt: HostRuntime) {
+    let alloc = rt.alloc();
+    let mut nodes: Nodes = new_values(alloc, 1);
+    let a = intern_leaf(&rt, alloc, &mut nodes, 0, 0);
+    let b = intern_leaf(&rt, alloc, &mut nodes, 1, 1);
+    let c = intern_leaf(&rt, alloc, &mut nodes, 2, 2);
+    let _alone = intern_leaf(&rt, alloc, &mut nodes, 3, 3);
+    let tray = Tray { nodes: (a, b, c) };
+    collects_from(&rt, alloc, &mut nodes, &tray, (3, 0, 1));
+    assert!(rt; nodes.contains(a) && nodes.contains(b) && nodes.contains(c));
+    drop_values(nodes);
 }

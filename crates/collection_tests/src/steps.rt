@@ -101,6 +101,35 @@ pub fn collects_keeping<F: Family>(
     is_equal(rt, told(gc.collect_keeping(family, roots)), Some(answer));
 }
 
+/// Collects a storage of values, with what a visitor declares as roots: the visits, the mark calls
+/// and the removed entries are these.
+pub fn collects_from<T: Internable + GcInternedVisit + Drop, R: GcInternedVisit>(
+    rt: &impl Abort,
+    alloc: Global,
+    storage: &mut InternStorage<T>,
+    roots: &R,
+    answer: (usize, u64, usize),
+)
+    requires { T.Internable.USE_GC ≡ true }
+{
+    collects_declared(rt, alloc, storage, roots, answer);
+}
+
+// The same of a family.
+fn collects_declared<F: Family, R: GcInternedVisit>(
+    rt: &impl Abort,
+    alloc: Global,
+    family: &mut F,
+    roots: &R,
+    answer: (usize, u64, usize),
+)
+    requires { F.collected ≡ true }
+{
+    assert!(rt; GarbageCollector::distinct(family));
+    let gc = GarbageCollector::new(alloc);
+    is_equal(rt, told(gc.collect_from(family, roots)), Some(answer));
+}
+
 /// The storage has this many entries.
 pub fn has_len<T: Internable>(rt: &impl Abort, storage: &InternStorage<T>, len: usize) {
     is_equal(rt, storage.len(), len);

@@ -22,6 +22,8 @@ pub(crate) enum Collection {
     Plain,
     /// `GarbageCollector::collect_keeping`.
     Keeping,
+    /// `GarbageCollector::collect_from`.
+    From,
     /// `GarbageCollector::trace`, and then `Trace::sweep`.
     Tracing,
 }
@@ -31,6 +33,7 @@ impl Collection {
         match self {
             Collection::Plain => "GarbageCollector::collect",
             Collection::Keeping => "GarbageCollector::collect_keeping",
+            Collection::From => "GarbageCollector::collect_from",
             Collection::Tracing => "GarbageCollector::trace",
         }
     }
@@ -39,7 +42,7 @@ impl Collection {
     fn left(self) -> Left {
         match self {
             Collection::Plain => Left::Reached,
-            Collection::Keeping | Collection::Tracing => Left::Listed,
+            Collection::Keeping | Collection::From | Collection::Tracing => Left::Listed,
         }
     }
 
@@ -47,7 +50,7 @@ impl Collection {
     fn small(self) -> Collected {
         match self {
             Collection::Plain => told(2, 0, 1),
-            Collection::Keeping | Collection::Tracing => told(3, 0, 0),
+            Collection::Keeping | Collection::From | Collection::Tracing => told(3, 0, 0),
         }
     }
 
@@ -55,7 +58,7 @@ impl Collection {
     fn large(self) -> Collected {
         match self {
             Collection::Plain => told(224, 64, 288),
-            Collection::Keeping | Collection::Tracing => told(288, 96, 224),
+            Collection::Keeping | Collection::From | Collection::Tracing => told(288, 96, 224),
         }
     }
 
@@ -94,6 +97,7 @@ impl Collection {
         let collected = match self {
             Collection::Plain => gc.collect(family),
             Collection::Keeping => gc.collect_keeping(family, listed),
+            Collection::From => gc.collect_from(family, roots),
             Collection::Tracing => trace_and_sweep(rt, gc, family, roots),
         };
         collected.map_err(|_| Fault::NoMemory)

@@ -25,13 +25,13 @@ mod worlds;
 use crate::alone::{AloneSlices, AloneValues};
 use crate::collections::{Collection, check_collection, check_registration};
 use crate::fault::Fault;
-use crate::many::check_many;
+use crate::many::{check_owned, check_references};
 use crate::one_entry::{check_no_births, check_one_entry};
 use crate::reserved::check_reserved;
 use crate::scene::check;
 use crate::slices::Row;
 use crate::symbols::{Call, Symbols};
-use crate::texts::Texts;
+use crate::texts::{Texts, check_copy};
 use crate::two_texts::check_two_texts;
 use crate::values::{OneHash, Term};
 use crate::worlds::{check_keeping, check_new, check_one_value, check_runs};
@@ -57,6 +57,7 @@ fn check_all(rt: &(impl Print + Eprint), alloc: Global) -> Result<(), Fault> {
     check_registration(rt, alloc)?;
     check_collection(rt, alloc, Collection::Plain)?;
     check_collection(rt, alloc, Collection::Keeping)?;
+    check_collection(rt, alloc, Collection::From)?;
     check_collection(rt, alloc, Collection::Tracing)?;
     check_new(rt, alloc)?;
     check_runs(rt, alloc)?;
@@ -65,7 +66,9 @@ fn check_all(rt: &(impl Print + Eprint), alloc: Global) -> Result<(), Fault> {
     check_no_births(rt, alloc)?;
     check_one_entry(rt, alloc)?;
     check_two_texts(rt, alloc)?;
-    check_many(rt, alloc)?;
+    check_owned(rt, alloc)?;
+    check_references(rt, alloc)?;
+    check_copy(rt, alloc)?;
     check_reserved(rt, alloc)
 }
 

@@ -7,7 +7,7 @@ use crate::scene::room;
 use crate::values::text_of;
 use intern_fixtures::Unhashed;
 use ra_ap_intern::{
-    FixedState, InternSliceStorage, InternStorage, Interned, Kind, Layout, NearSliceStorage,
+    FixedState, InternSliceStorage, InternStorage, Internable, Interned, Kind, Layout, NearSliceStorage,
     Refused, SliceInternable, Storage, Symbol, SymbolTable, Text,
 };
 use std::alloc::Global;
@@ -21,6 +21,8 @@ const ITEMS: usize = 3;
 /// The calls that make room.
 const VALUES: &str = "Storage::reserve, of values";
 
+const COLLECTED: &str = "Storage::reserve, of collected values";
+
 const SLICES: &str = "Storage::reserve, of slices";
 
 const ALL_ITEMS: &str = "Reserved::reserve_items";
@@ -30,6 +32,16 @@ const NEAR_SLICES: &str = "Storage::reserve, of near slices";
 const TEXT_VALUES: &str = "Storage::reserve, of texts";
 
 const TEXTS: &str = "SymbolTable::reserve";
+
+/// A number, collected.
+#[derive(Clone, Copy, PartialEq, Eq, Hash)]
+struct Kept(u64);
+
+impl Internable for Kept {
+    const USE_GC: bool = true;
+
+    ghost USE_GC = { true };
+}
 
 /// A number before others.
 struct Row;
@@ -48,6 +60,7 @@ impl SliceInternable for Row {
 pub(crate) fn check_reserved(rt: &(impl Print + Eprint), alloc: Global) -> Result<(), Fault> {
     fresh_values(rt, alloc)?;
     used_values(rt, alloc)?;
+    collected_values(rt, alloc)?;
     slices(rt, alloc)?;
     near_slices(rt, alloc)?;
     text_values(rt, alloc)?;
@@ -61,6 +74,10 @@ fn fresh_values(rt: &(impl Print + Eprint), alloc: Global) -> Result<(), Fault> 
 
 fn used_values(rt: &(impl Print + Eprint), alloc: Global) -> Result<(), Fault> {
     reserve_used(rt, &mut InternStorage::new(alloc, 1))
+}
+
+fn collected_values(rt: &(impl Print + Eprint), alloc: Global) -> Result<(), Fault> {
+    reserve_collected(rt, &mut InternStorage::new(alloc, 1))
 }
 
 fn slices(rt: &(impl Print + Eprint), alloc: Global) -> Result<(), Fault> {
@@ -156,6 +173,19 @@ fn reserve_values(
         room.intern(Unhashed(number as u64 + 100))?;
     }
     has_entries(rt, VALUES, storage.len(), len.saturating_add(ENTRIES))
+}
+
+fn reserve_collected(
+    rt: &(impl Print + Eprint),
+    storage: &mut InternStorage<Kept>,
+) -> Result<(), Fault> {
+    reserve(rt, storage, COLLECTED)?;
+    marks::takes_none(rt, "Reserved::intern_gc");
+    let room = storage.reserve(ENTRIES)?;
+    for number in 0..ENTRIES as u64 {
+        room.intern_gc(Kept(number))?;
+    }
+    has_entries(rt, COLLECTED, storage.len(), ENTRIES)
 }
 
 fn reserve_slices(

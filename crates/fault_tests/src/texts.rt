@@ -1,9 +1,32 @@
 //! Texts that are interned as they are borrowed.
 use crate::fault::{Fault, ensure, refused};
+use crate::marks;
 use crate::storage::Storage;
 use crate::values::text_of;
 use ra_ap_intern::{InternStorage, InternedRef, Text};
 use std::alloc::{AllocError, Global};
+
+/// The call that copies a text.
+const COPY: &str = "Text::new";
+
+/// A text that is longer than lies in an entry.
+const LONG: &str = "a text of more than 24 by";
+
+/// Checks the copy of a text. Where it is refused, it is made once more.
+pub(crate) fn check_copy(rt: &(impl Print + Eprint), alloc: Global) -> Result<(), Fault> {
+    marks::asks(rt, COPY);
+    let text = match Text::new(alloc, LONG) {
+        Ok(text) => text,
+        Err(AllocError) => {
+            marks::refused(rt, COPY);
+            Text::new(alloc, LONG)?
+        }
+    };
+    marks::takes_none(rt, "Text::as_str");
+    ensure(text.as_str() == LONG, "a copy of a text differs from it")?;
+    println!(rt; "{COPY}: {}", text.as_str().len())?;
+    Ok(())
+}
 
 /// A storage of texts.
 #[derive(Drop)]

@@ -5,8 +5,8 @@ use crate::fault::{Fault, ensure, gives_back};
 use crate::marks::{prepares, takes_none};
 use intern_fixtures::{Node, NodeSlice, make_node};
 use ra_ap_intern::{
-    Family, GarbageCollector, InternSliceStorage, InternStorage, Interned, InternedRef,
-    InternedSlice, InternedSliceRef, Limits, Name, NoStorages, Pair, Refusal,
+    Family, GarbageCollector, GcInternedVisit, InternSliceStorage, InternStorage, Interned,
+    InternedRef, InternedSlice, InternedSliceRef, Limits, Name, NoStorages, Pair, Refusal, Trace,
 };
 use std::alloc::{AllocError, Global};
 use std::ops::ControlFlow;
@@ -46,6 +46,8 @@ pub(crate) fn check(rt: &impl Eprint, alloc: Global) -> Result<(), Fault> {
 fn check_over(rt: &impl Eprint, alloc: Global, storages: &mut Storages) -> Result<(), Fault> {
     let known = fill_surely(alloc, storages)?;
     check_collector(rt, alloc, storages, known)?;
+    check_mark_all(rt, alloc, storages, known)?;
+    check_trace(rt, alloc, storages, known)?;
     check_interning(rt, alloc, &mut storages.first.second, known)?;
     check_release(rt, &mut storages.first.second, known)
 }
@@ -162,6 +164,54 @@ fn check_marks(
     ensure(!gc.is_marked(known.gone.name()) && !gc.is_marked(known.foreign.name()))?;
     takes_none(rt, "GarbageCollector::visits, GarbageCollector::mark_calls");
     ensure(gc.visits() == 0 && gc.mark_calls() == 7)
+}
+
+// Marks a node, and none of what is gone.
+fn check_mark_all(
+    rt: &impl Eprint,
+    alloc: Global,
+    storages: &Storages,
+    known: Known,
+) -> Result<(), Fault> {
+    prepares(rt);
+    let mut gc = GarbageCollector::new(alloc);
+    register(&mut gc, storages)?;
+    takes_none(rt, "GarbageCollector::mark_all");
+    gc.mark_all(&[known.node, known.gone]);
+    ensure(gc.is_marked(known.node.name()) && !gc.is_marked(known.gone.name()))?;
+    ensure(gc.mark_calls() == 2)
+}
+
+// What a node keeps, which nothing else declares here.
+fn check_trace(
+    rt: &impl Eprint,
+    alloc: Global,
+    storages: &Storages,
+    known: Known,
+) -> Result<(), Fault> {
+    prepares(rt);
+    let trace = trace(alloc, storages, &known.node)?;
+    takes_none(rt, "Trace::keeps");
+    ensure(trace.keeps(known.node) && trace.keeps(known.owned))?;
+    ensure(!trace.keeps(known.slice) && !trace.keeps(known.gone))?;
+    ensure(!trace.keeps(known.foreign))
+}
+
+// Traces the storages, at the second try where the first is refused.
+fn trace<F: Family, R: GcInternedVisit>(
+    alloc: Global,
+    storages: &F,
+    roots: &R,
+) -> Result<Trace, Fault>
+    requires { F.collected ≡ true }
+{
+    if !GarbageCollector::distinct(storages) {
+        return Err(Fault::Wrong);
+    }
+    match GarbageCollector::new(alloc).trace(storages, roots) {
+        Ok(trace) => Ok(trace),
+        Err(_) => Ok(GarbageCollector::new(alloc).trace(storages, roots)?),
+    }
 }
 
 // Whether a mark call marked an entry.

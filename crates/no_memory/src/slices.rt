@@ -155,6 +155,10 @@ fn check_storage(
     ensure(
         storage.get(&live, ITEMS) == Some(handles.live.as_ref()) && storage.get(&live, &[]) == None,
     )?;
+    takes_none(rt, "InternSliceStorage::find");
+    ensure(
+        storage.find(LIVE, ITEMS) == Some(handles.live.as_ref()) && storage.find(GONE, &[]) == None,
+    )?;
     takes_none(rt, "InternSliceStorage::iter");
     ensure(storage.iter().count() == 3)?;
     takes_none(rt, "InternSliceStorage::count");

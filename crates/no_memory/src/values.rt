@@ -1,7 +1,9 @@
 //! Storages of values, in counted mode.
 use crate::fault::{Fault, ensure, gives_back, is_refused, of_owed};
 use crate::marks::{prepares, takes_none};
-use ra_ap_intern::{InternStorage, Interned, InternedRef, Limits, Owed, Refusal, Text};
+use ra_ap_intern::{
+    InternStorage, Interned, InternedRef, Limits, OptionalInternedRef, Owed, Refusal, Text,
+};
 use std::alloc::{AllocError, Global};
 
 /// A text that is stored, and counted once. Like the others it is longer than lies in an entry.
@@ -70,6 +72,7 @@ fn check_calls(
     check_storage(rt, alloc, storage, handles)?;
     check_reads(rt, storage, handles)?;
     check_births(rt, storage, handles)?;
+    check_optional(rt, handles.live.as_ref(), handles.gone.as_ref())?;
     check_interning(rt, alloc, storage, handles)?;
     check_owning(rt, storage, handles)?;
     check_lowering(rt, storage, handles)?;
@@ -107,6 +110,7 @@ fn check_making(rt: &impl Eprint, alloc: Global) -> Result<(), Fault> {
     ensure(is_empty(make(alloc)))?;
     takes_none(rt, "Text::new of a short text, Text::as_str");
     ensure(is_kept(alloc, "short")?)?;
+    check_text_of_string(rt, alloc)?;
     takes_none(rt, "Refusal::number");
     ensure(Refusal::Foreign.number() == 1 && Refusal::OutOfMemory.number() == 6)
 }
@@ -118,6 +122,18 @@ fn is_empty(storage: Storage) -> bool {
 // Whether a text has what it was made of.
 fn is_kept(alloc: Global, text: &'static str) -> Result<bool, AllocError> {
     Ok(Text::new(alloc, text)?.as_str() == text)
+}
+
+// The text of a string that is made before.
+fn check_text_of_string(rt: &impl Eprint, alloc: Global) -> Result<(), Fault> {
+    prepares(rt);
+    let string = match String::from_str(alloc, LIVE) {
+        Ok(string) => string,
+        Err(_) => String::from_str(alloc, LIVE)?,
+    };
+    takes_none(rt, "Text::from of a string, Text::is");
+    let text = Text::from(string);
+    ensure(text.is(LIVE) && !text.is(FULL))
 }
 
 // A text to offer, at the second try where the first is refused.
@@ -146,14 +162,26 @@ fn check_storage(
     ensure(storage.memory() > 0)?;
     takes_none(rt, "InternStorage::get");
     ensure(storage.get(&live) == Some(handles.live.as_ref()) && storage.get(&gone) == None)?;
-    takes_none(rt, "InternStorage::iter");
-    ensure(storage.iter().count() == 3)?;
+    takes_none(rt, "InternStorage::find");
+    ensure(storage.find(LIVE) == Some(handles.live.as_ref()) && storage.find(GONE) == None)?;
+    check_walk(rt, storage)?;
     takes_none(rt, "InternStorage::count");
     ensure(
         storage.count(handles.full.as_ref()) == Some(2)
             && storage.count(handles.gone.as_ref()) == None
             && storage.count(handles.foreign.as_ref()) == None,
     )
+}
+
+fn check_walk(rt: &impl Eprint, storage: &Storage) -> Result<(), Fault> {
+    takes_none(
+        rt,
+        "InternStorage::iter, a loop over a storage, Storage::contains",
+    );
+    for (reference, _) in storage {
+        ensure(storage.contains(reference))?;
+    }
+    ensure(storage.iter().count() == 3)
 }
 
 // Whether a text was read, if one is to be.
@@ -196,9 +224,33 @@ fn check_births(rt: &impl Eprint, storage: &Storage, handles: &Handles) -> Resul
     takes_none(rt, "Storage::reference");
     ensure(storage.reference(handles.zero.name())? == handles.zero.as_ref())?;
     is_refused(storage.reference(handles.gone.name()), Refusal::Gone)?;
+    takes_none(rt, "Storage::contains");
+    ensure(storage.contains(handles.zero.as_ref()) && !storage.contains(handles.gone.as_ref()))?;
     takes_none(rt, "Storage::check");
     storage.check(handles.zero.as_ref())?;
     is_refused(storage.check(handles.gone.as_ref()), Refusal::Gone)
+}
+
+// What holds the first of two references, and what holds none.
+fn check_optional(
+    rt: &impl Eprint,
+    first: InternedRef<Text>,
+    second: InternedRef<Text>,
+) -> Result<(), Fault> {
+    takes_none(rt, "OptionalRef::none, OptionalRef::from");
+    let none = OptionalInternedRef::none();
+    let some = OptionalInternedRef::from(first);
+    takes_none(
+        rt,
+        "OptionalRef::get, OptionalRef::is_some, OptionalRef::is_none",
+    );
+    ensure(some.get() == Some(first) && some.is_some())?;
+    ensure(none.get() == None && none.is_none())?;
+    takes_none(rt, "OptionalRef::name");
+    ensure(some.name() == Some(first.name()) && none.name() == None)?;
+    takes_none(rt, "comparisons of optional references");
+    ensure(some == Some(first).into() && none != some)?;
+    ensure(none < some && some < second.into())
 }
 
 // Texts that are stored, and one that isn't, while all births are given.

@@ -72,6 +72,19 @@ fn owned_handles(rt: HostRuntime) {
 }
 
 #[test]
+fn handles_are_ordered_by_their_names(rt: HostRuntime) {
+    let alloc = rt.alloc();
+    let mut storage = new_slices(alloc, 7);
+    let x = intern_new(&rt, alloc, &mut storage, ("x", &[1]), 0);
+    let a = intern_new(&rt, alloc, &mut storage, ("a", &[]), 1);
+    assert!(rt; x < a && a > x);
+    let owned = own(&rt, &mut storage, x, 1);
+    let other = own(&rt, &mut storage, a, 1);
+    assert!(rt; owned < other && other > owned);
+    drop_slices(storage);
+}
+
+#[test]
 fn a_set_of_references(rt: HostRuntime) {
     let alloc = rt.alloc();
     let mut storage = new_slices(alloc, 1);

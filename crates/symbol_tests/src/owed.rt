@@ -57,6 +57,18 @@ fn an_owed_symbol_has_the_calls_of_a_symbol(rt: HostRuntime) {
 }
 
 #[test]
+fn owed_symbols_are_ordered_as_their_symbols(rt: HostRuntime) {
+    let mut table = new_table(rt.alloc(), 3);
+    let x = OwedSymbol::from(intern_new(&rt, &mut table, "x", 1));
+    let a = OwedSymbol::from(intern_new(&rt, &mut table, "a", 2));
+    assert!(rt; x < a && x.as_ref() < a.as_ref());
+    assert!(rt; a > x && a.as_ref() > x.as_ref());
+    release(&rt, &mut table, x, 1);
+    release(&rt, &mut table, a, 0);
+    drop_table(table);
+}
+
+#[test]
 fn a_refusal_gives_an_owed_symbol_back(rt: HostRuntime) {
     let alloc = rt.alloc();
     let mut table = new_table(alloc, 1);

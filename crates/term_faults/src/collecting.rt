@@ -1,4 +1,4 @@
-//! `TermStore::collect` and `TermStore::collect_keeping`.
+//! `TermStore::collect`, `TermStore::collect_keeping` and `TermStore::collect_from`.
 use crate::fault::{Fault, ensure};
 use crate::marks::mark;
 use crate::shape::{Held, TERMS, check};
@@ -42,6 +42,25 @@ pub(crate) fn collect_keeping(
     Ok(store.collect_keeping(roots)?)
 }
 
+// Does the same with what a pair declares.
+fn collect_from(
+    rt: &impl Eprint,
+    store: &mut TermStore,
+    terms: &[TermRef],
+    held: Held,
+    roots: (TermRef, TermRef),
+) -> Result<Collected, Fault> {
+    mark(rt, "asks: TermStore::collect_from");
+    let first = store.collect_from(&roots);
+    if let Ok(did) = first {
+        mark(rt, "prepares");
+        return Ok(did);
+    }
+    mark(rt, "refused: TermStore::collect_from");
+    check(store, terms, held)?;
+    Ok(store.collect_from(&roots)?)
+}
+
 /// Fails unless these are the visits, the mark calls and the removed terms.
 pub(crate) fn tells(did: Collected, wanted: (usize, u64, usize)) -> Result<(), Fault> {
     ensure(
@@ -61,6 +80,13 @@ const KEPT: Held = Held {
 const LISTED: Held = Held {
     even: 41,
     odd: 34,
+    kept: Some(40),
+};
+
+/// What the owner keeps, and the tree of what is declared.
+const DECLARED: Held = Held {
+    even: 41,
+    odd: 22,
     kept: Some(40),
 };
 
@@ -84,18 +110,22 @@ const NOTHING: Held = Held {
     kept: None,
 };
 
-/// Collects three times: beside an owner and a root, beside the owner, and beside nothing.
+/// Collects four times: beside an owner and a root, beside the owner and what is declared, beside the
+/// owner, and beside nothing.
 pub(crate) fn check_collections(
     rt: &(impl Print + Eprint),
     store: &mut TermStore,
     terms: &[TermRef],
     foreign: TermRef,
 ) -> Result<(), Fault> {
-    let (Some(kept), Some(root)) = (terms.get(40), terms.get(33)) else {
+    let (Some(kept), Some(root), Some(declared)) = (terms.get(40), terms.get(33), terms.get(21))
+    else {
         return Err(Fault("there are too few terms"));
     };
     let owner = store.keep(*kept)?;
-    check_owned(rt, store, terms, &[*root, foreign, *root])?;
+    check_listed(rt, store, terms, &[*root, foreign, *root])?;
+    check_declared(rt, store, terms, (*declared, foreign))?;
+    check_owned(rt, store, terms)?;
     owner.release(store)?;
     check(store, terms, RELEASED)?;
     let did = collect(rt, store, terms, RELEASED)?;
@@ -103,7 +133,7 @@ pub(crate) fn check_collections(
     check(store, terms, NOTHING)
 }
 
-fn check_owned(
+fn check_listed(
     rt: &(impl Print + Eprint),
     store: &mut TermStore,
     terms: &[TermRef],
@@ -113,9 +143,28 @@ fn check_owned(
     let did = collect_keeping(rt, store, terms, KEPT, roots)?;
     tells(did, (38, 36, 32))?;
     println!(rt; "TermStore::collect_keeping: {}", did.visits)?;
-    check(store, terms, LISTED)?;
-    let did = collect(rt, store, terms, LISTED)?;
-    tells(did, (21, 20, 17))?;
+    check(store, terms, LISTED)
+}
+
+fn check_declared(
+    rt: &(impl Print + Eprint),
+    store: &mut TermStore,
+    terms: &[TermRef],
+    roots: (TermRef, TermRef),
+) -> Result<(), Fault> {
+    let did = collect_from(rt, store, terms, LISTED, roots)?;
+    tells(did, (32, 30, 6))?;
+    println!(rt; "TermStore::collect_from: {}", did.visits)?;
+    check(store, terms, DECLARED)
+}
+
+fn check_owned(
+    rt: &(impl Print + Eprint),
+    store: &mut TermStore,
+    terms: &[TermRef],
+) -> Result<(), Fault> {
+    let did = collect(rt, store, terms, DECLARED)?;
+    tells(did, (21, 20, 11))?;
     println!(rt; "TermStore::collect: {}", did.visits)?;
     check(store, terms, REACHED)
 }

@@ -11,6 +11,7 @@ enum Look {
     Number,
     Len,
     IsEmpty,
+    Memory,
     Iter,
     Contains,
     Check,
@@ -52,15 +53,17 @@ fn shows(store: &TermStore, terms: &[TermRef], look: Look) -> bool {
         Look::Number => store.number() == 1,
         Look::Len => store.len() == TERMS,
         Look::IsEmpty => !store.is_empty(),
+        Look::Memory => store.memory() > 0,
         Look::Iter => lists(store, terms),
         _ => all(store, terms, look),
     }
 }
 
-const LOOKUPS: [Marked; 13] = [
+const LOOKUPS: [Marked; 14] = [
     ("takes none: TermStore::number", Look::Number),
     ("takes none: TermStore::len", Look::Len),
     ("takes none: TermStore::is_empty", Look::IsEmpty),
+    ("takes none: TermStore::memory", Look::Memory),
     (
         "takes none: TermStore::iter, a loop over a store",
         Look::Iter,

@@ -1,7 +1,8 @@
 //! Owners of terms are compared as references to their terms are; those that must be released.
 use crate::texts::is_equal;
-use intern_terms::{OwedTerm, TermRef, TermStore};
+use intern_terms::{OwedTerm, Term, TermRef, TermStore};
 use ra_ap_intern::{Refusal, Refused, Symbol, sym};
+use std::alloc::Global;
 use std::process::Abort;
 
 /// The term of a head without arguments.
@@ -95,4 +96,29 @@ fn a_refusal_gives_an_owed_term_back(rt: HostRuntime) {
     release(&rt, &mut store, owed);
     drop_store(store);
     drop_store(other);
+}
+
+#[test]
+fn an_owner_is_a_root_also_without_its_count(rt: HostRuntime) {
+    let alloc = rt.alloc();
+    let mut store = TermStore::new(alloc, 1);
+    let x = leaf(&rt, &mut store, sym::bool);
+    let _alone = leaf(&rt, &mut store, sym::Clone);
+    let owner = owner_elsewhere(&rt, alloc);
+    assert!(rt; owner.as_ref() == x);
+    is_equal(&rt, store.count(x), Some(0));
+    let did = store.collect_from(&owner).expect(&rt, "memory");
+    is_equal(&rt, (did.visits, did.removed), (1, 1));
+    let owed = OwedTerm::from(owner);
+    let kept = store.collect_from(&owed).map(|did| did.visits);
+    drop(owed.into_term());
+    is_equal(&rt, kept.expect(&rt, "memory"), 1);
+    drop_store(store);
+}
+
+/// An owner of the first term of another store that has the number 1.
+fn owner_elsewhere(rt: &impl Abort, alloc: Global) -> Term {
+    let mut other = TermStore::new(alloc, 1);
+    let x = leaf(rt, &mut other, sym::bool);
+    other.keep(x).expect(rt, "an owner")
 }

@@ -1,6 +1,7 @@
 //! The small calls on handles, texts and refusals: how they are written, converted and found.
 use crate::steps::is_equal;
 use crate::words::{Words, frees, intern_new};
+use anyhow::Error;
 use intern_fixtures::{Word, allowed, drop_values, limited_values, make_word, new_values};
 use ra_ap_intern::{InternStorage, Interned, InternedRef, Limits, Refusal, Refused, Text};
 use std::alloc::Global;
@@ -98,6 +99,27 @@ fn a_refusal_is_passed_on(rt: HostRuntime) {
         Err(Refusal::NumbersUsedUp),
     );
     is_equal(&rt, Limits::default(), Limits::MAX);
+    drop_values(storage);
+}
+
+/// Interns a word, and answers the birth. A refusal is an error like any other.
+fn interns_or_fails(storage: &mut InternStorage<Word>, word: Word) -> Result<u64, Error> {
+    let (handle, _back) = Interned::new(storage, word)?;
+    Ok(handle.name().birth)
+}
+
+#[test]
+fn a_refusal_is_an_error(rt: HostRuntime) {
+    let alloc = rt.alloc();
+    let mut storage: Words = limited_values(alloc, 1, Limits { top: 1, numbers: 0 });
+    let word = word_of(&rt, alloc, "x");
+    let error = interns_or_fails(&mut storage, word).expect_err(&rt, "refused");
+    let shown: Result<_, _> = format!(in alloc; "{error}");
+    is_equal(
+        &rt,
+        shown.expect(&rt, "memory").as_str(),
+        "the storage has given all its births; begin another one",
+    );
     drop_values(storage);
 }
 
