@@ -2,7 +2,7 @@
 #![tactic(auto)]
 
 ghost use Rattle.std.specs.List.{slice_get};
-ghost use Rattle.std.specs.Prelude.{◌≡◌, ℕ, true, false, Some, IfOk, OnOk, IfSome, IfNone, map as list_map};
+ghost use Rattle.std.specs.Prelude.{◌≡◌, ℕ, true, false, Some, IfOk, OnOk, IfSome, IfNone, map as list_map, option_copied};
 ghost use Rattle.std.specs.Vec.Iter.{into_iter_items};
 ghost use Rattle.ra_ap_intern.specs.Handle.{ref_name};
 ghost use Rattle.ra_ap_intern.specs.Interning.{Interns, names_in_turn};
@@ -58,12 +58,15 @@ pub fn find_or_intern_all<T: Internable + Drop>(
     Ok(())
 }
 
-/// The stored value that equals this one. None where there is none.
+/// The stored value that equals this one: what is read is found. None where there is none.
 pub fn find<'a, T: Internable>(storage: &'a InternStorage<T>, value: &T) -> Option<&'a T>
     ensures found { IfSome result (λ w. T.eq value.now w.now ≡ true) }
+    ensures read { (n : Name) (w : T) → reads storage.now n ≡ Some w →
+        T.eq value.now w ≡ true → option_copied result ≡ Some w }
     ensures none { IfNone result ((n : Name) (w : T) →
         reads storage.now n ≡ Some w → T.eq value.now w ≡ false) }
 {
+    let _number = storage.number();
     storage.get(value)?.get(storage)
 }
 
@@ -85,9 +88,7 @@ impl Internable for Qualified {
 /// The same, borrowed: by it one is looked up, and none is built for that.
 #[derive(Clone, Copy, PartialEq, Eq, Hash)]
 pub struct QualifiedRef<'a> {
-    /// The scope.
     pub scope: &'a str,
-    /// Its name there.
     pub name: &'a str,
 }
 

@@ -2,7 +2,11 @@
 #![tactic(auto)]
 
 #[cfg(test)]
+mod counts;
+#[cfg(test)]
 mod hashers;
+#[cfg(test)]
+mod lists;
 #[cfg(test)]
 mod lookups;
 #[cfg(test)]

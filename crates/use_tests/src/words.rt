@@ -20,9 +20,14 @@ fn equal_words_have_one_handle(rt: HostRuntime) {
     assert!(rt; first != other);
     assert!(rt; words.find("hello") == Some(first.as_ref()));
     assert_eq!(rt; words.word(&other), Some("goodbye"));
+    let third = words.share(&other).expect(&rt, "an owner");
+    assert!(rt; third == other);
     let left = words.release(first).expect(&rt, "an owner");
     assert!(rt; left.is_none());
     let last = words.release(second).expect(&rt, "the last owner");
     assert!(rt; last.is_some_and(|word| word.is("hello")));
     assert!(rt; words.find("hello").is_none());
+    assert!(rt; words.release(other).is_ok_and(|left| left.is_none()));
+    assert_eq!(rt; words.word(&third), Some("goodbye"));
+    assert!(rt; words.release(third).is_ok_and(|left| left.is_some()));
 }

@@ -1,16 +1,17 @@
 //! Words that are stored once: two are compared by comparing their handles.
 #![tactic(auto)]
 
-ghost use Rattle.std.specs.Prelude.{◌≡◌, ◌↔◌, List, ℕ, true, false, Some, IfOk};
+ghost use Rattle.std.specs.Prelude.{◌≡◌, ◌≢◌, ◌↔◌, List, ℕ, true, false, Some, IfOk};
 ghost use Rattle.std.specs.Option.{option_map};
 ghost use Rattle.std.specs.Str.{bytes_eq};
 ghost use Rattle.ra_ap_intern.specs.Handle.{name_of, ref_name};
-ghost use Rattle.ra_ap_intern.specs.Outcome.{Becomes, MayWantBack, OwesBack};
-ghost use Rattle.ra_ap_intern.specs.State.{new_state, reads, is_new, interned_name, interned_counted, name_of_value, due, due_interning, full, zero_count, freed, released};
+ghost use Rattle.ra_ap_intern.specs.Name.{Name};
+ghost use Rattle.ra_ap_intern.specs.Outcome.{Becomes, MayWantBack, Owes, OwesBack};
+ghost use Rattle.ra_ap_intern.specs.State.{new_state, reads, is_new, interned_name, interned_counted, name_of_value, counted_up, due, due_interning, full, zero_count, freed, released};
 ghost use Rattle.ra_ap_intern.specs.declared.kind.Values.{Values as ValueKind};
 ghost use Rattle.ra_ap_intern.specs.declared.storage.Owned.{Owned as Handle};
 
-use ra_ap_intern::{InternStorage, Interned, InternedRef, Refused, Text, laws};
+use ra_ap_intern::{InternStorage, Interned, InternedRef, Refusal, Refused, Text, laws};
 use std::alloc::Global;
 use std::cmp::PartialEq;
 use std::marker::Model;
@@ -52,7 +53,10 @@ impl Words {
             (is_new bytes_eq self.old word) word }
         ensures state { Becomes result self.old self.new (interned_counted bytes_eq self.old word) }
         ensures reads { IfOk result (λ h. reads self.new (name_of h) ≡ Some word) }
+        ensures others { (n : Name) (w : List ℕ) →
+            reads self.old n ≡ Some w → reads self.new n ≡ Some w }
     {
+        let _number = self.words.number();
         let (handle, _) = Interned::new(&mut self.words, word)?;
         Ok(handle)
     }
@@ -71,6 +75,18 @@ impl Words {
         Some(handle.get(&self.words)?.as_str())
     }
 
+    /// One more handle of a word. Refused: `Foreign`, `Gone`, `CountFull`.
+    pub fn share(&mut self, handle: &Interned<Text>) -> Result<Interned<Text>, Refusal>
+        ensures name { IfOk result (λ h. name_of h ≡ name_of handle.now) }
+        ensures refused { Owes result (due self.old (name_of handle.now) (full self.old.top)) }
+        ensures state { Becomes result self.old self.new
+            (counted_up self.old (name_of handle.now).birth) }
+        ensures others { (n : Name) → reads self.new n ≡ reads self.old n }
+    {
+        let second = handle.clone(&mut self.words)?;
+        Ok(second)
+    }
+
     /// Gives a handle up. The last one frees its word, which comes back.
     /// Refused, with the handle back: `Foreign`, `Gone`, `CountZero`.
     pub fn release(
@@ -81,8 +97,11 @@ impl Words {
         ensures refused { OwesBack result (due self.old (name_of handle) zero_count) handle }
         ensures state { Becomes result self.old self.new
             (released false self.old (name_of handle).birth) }
+        ensures others { (n : Name) → n.birth ≢ (name_of handle).birth →
+            reads self.new n ≡ reads self.old n }
     {
-        handle.release(&mut self.words)
+        let freed = handle.release(&mut self.words)?;
+        Ok(freed)
     }
 
     /// Two handles that read words are equal exactly if the words are.
