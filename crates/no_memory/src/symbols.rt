@@ -2,7 +2,7 @@
 use crate::fault::{Fault, ensure, gives_back, is_refused, of_owed_symbol};
 use crate::marks::{prepares, takes_none};
 use ra_ap_intern::sym::{Integer, RaGeneratedName};
-use ra_ap_intern::{Limits, OwedSymbol, Refusal, Symbol, SymbolTable, sym};
+use ra_ap_intern::{FixedState, Limits, OwedSymbol, Refusal, Symbol, SymbolRef, SymbolTable, sym};
 use std::alloc::Global;
 
 /// A text that is stored, and counted once. Like the next two it is longer than lies in an entry.
@@ -43,6 +43,10 @@ pub(crate) fn check(rt: &impl Eprint, alloc: Global) -> Result<(), Fault> {
 
 fn make(alloc: Global) -> SymbolTable {
     SymbolTable::with_limits(alloc, 1, LIMITS)
+}
+
+fn make_hashed(alloc: Global) -> SymbolTable {
+    SymbolTable::with_hasher(alloc, 1, LIMITS, FixedState::new())
 }
 
 fn check_over(rt: &impl Eprint, alloc: Global, table: &mut SymbolTable) -> Result<(), Fault> {
@@ -102,7 +106,9 @@ fn check_making(rt: &impl Eprint, alloc: Global) -> Result<(), Fault> {
     takes_none(rt, "SymbolTable::new");
     ensure(is_empty(SymbolTable::new(alloc, 1)))?;
     takes_none(rt, "SymbolTable::with_limits");
-    ensure(is_empty(make(alloc)))
+    ensure(is_empty(make(alloc)))?;
+    takes_none(rt, "SymbolTable::with_hasher");
+    ensure(is_empty(make_hashed(alloc)))
 }
 
 fn is_empty(table: SymbolTable) -> bool {
@@ -164,13 +170,17 @@ fn check_reads(rt: &impl Eprint, table: &SymbolTable, symbols: &Symbols) -> Resu
             && symbols.gone.as_ref().as_str(table) == None
             && symbols.foreign.as_ref().as_str(table) == None,
     )?;
-    takes_none(rt, "Symbol::display");
+    takes_none(rt, "Symbol::display, SymbolRef::display");
     let _ = symbols.live.display(table);
+    let _ = symbols.live.as_ref().display(table);
+    takes_none(rt, "SymbolRef::from");
+    ensure(SymbolRef::from(&symbols.live) == symbols.live.as_ref())?;
     takes_none(rt, "Symbol::name, SymbolRef::name");
     ensure(symbols.foreign.name() == symbols.foreign.as_ref().name() && sym::Clone.name() == None)?;
     takes_none(rt, "comparisons of symbols");
-    ensure(symbols.live != symbols.foreign && symbols.live != symbols.full)?;
-    takes_none(rt, "Integer::as_uint");
+    ensure(symbols.live != symbols.foreign && symbols.live < symbols.full)?;
+    takes_none(rt, "Integer::as_uint, SymbolRef::as_uint");
+    ensure(symbols.integer.as_ref().as_uint(table) == Some(NUMBER))?;
     ensure(
         Integer::as_uint(&symbols.integer, table) == Some(NUMBER)
             && Integer::as_uint(&symbols.generated, table) == None
@@ -254,9 +264,14 @@ fn check_lowering(
 ) -> Result<(), Fault> {
     takes_none(rt, "Symbol::decrease_refcount");
     symbols.live.decrease_refcount(table)?;
-    symbols.integer.decrease_refcount(table)?;
     is_refused(symbols.foreign.decrease_refcount(table), Refusal::Foreign)?;
     is_refused(symbols.gone.decrease_refcount(table), Refusal::Gone)?;
+    takes_none(rt, "SymbolRef::decrease_refcount");
+    symbols.integer.as_ref().decrease_refcount(table)?;
+    is_refused(
+        symbols.gone.as_ref().decrease_refcount(table),
+        Refusal::Gone,
+    )?;
     takes_none(rt, "SymbolRef::to_owned");
     ensure(symbols.integer.as_ref().to_owned(table)? == symbols.integer)
 }

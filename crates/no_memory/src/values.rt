@@ -2,7 +2,8 @@
 use crate::fault::{Fault, ensure, gives_back, is_refused, of_owed};
 use crate::marks::{prepares, takes_none};
 use ra_ap_intern::{
-    InternStorage, Interned, InternedRef, Limits, OptionalInternedRef, Owed, Refusal, Text,
+    FixedState, InternStorage, Interned, InternedRef, Limits, OptionalInternedRef, Owed, Refusal,
+    Text,
 };
 use std::alloc::{AllocError, Global};
 
@@ -44,6 +45,10 @@ pub(crate) fn check(rt: &impl Eprint, alloc: Global) -> Result<(), Fault> {
 
 fn make(alloc: Global) -> Storage {
     InternStorage::with_limits(alloc, 1, LIMITS)
+}
+
+fn make_hashed(alloc: Global) -> Storage {
+    InternStorage::with_hasher(alloc, 1, LIMITS, FixedState::new())
 }
 
 fn check_over(rt: &impl Eprint, alloc: Global, storage: &mut Storage) -> Result<(), Fault> {
@@ -108,6 +113,8 @@ fn check_making(rt: &impl Eprint, alloc: Global) -> Result<(), Fault> {
     ensure(is_empty(InternStorage::new(alloc, 1)))?;
     takes_none(rt, "InternStorage::with_limits");
     ensure(is_empty(make(alloc)))?;
+    takes_none(rt, "Storage::with_hasher");
+    ensure(is_empty(make_hashed(alloc)))?;
     takes_none(rt, "Text::new of a short text, Text::as_str");
     ensure(is_kept(alloc, "short")?)?;
     check_text_of_string(rt, alloc)?;
@@ -209,6 +216,8 @@ fn check_reads(rt: &impl Eprint, storage: &Storage, handles: &Handles) -> Result
     takes_none(rt, "InternedRef::as_raw, InternedRef::name");
     let (gone, foreign) = (handles.gone.as_ref(), handles.foreign.as_ref());
     ensure(gone.as_raw() == 3 && gone.name().birth == 3 && foreign.name().storage == 2)?;
+    takes_none(rt, "InternedRef::from");
+    ensure(InternedRef::from(&handles.live) == handles.live.as_ref())?;
     takes_none(rt, "comparisons of handles");
     ensure(handles.live != handles.foreign && gone < foreign)
 }

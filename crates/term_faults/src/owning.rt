@@ -30,6 +30,11 @@ fn check_owner(rt: &impl Eprint, store: &mut TermStore, term: TermRef) -> Result
     )?;
     mark(rt, "takes none: Term::name");
     ensure(first.name() == term.name(), "an owner has another name")?;
+    mark(rt, "takes none: TermRef::from");
+    ensure(
+        TermRef::from(&first) == term,
+        "a reference is of another term",
+    )?;
     release(rt, store, first, 2)?;
     release(rt, store, second, 1)
 }

@@ -8,7 +8,7 @@ use crate::owning::{is_not_cloned, is_not_kept, is_not_released, release};
 use crate::reading::writes;
 use crate::shape::{Held, args_of, check, head_of};
 use intern_terms::{TermRef, TermStore};
-use ra_ap_intern::{Limits, Refusal, SymbolTable, sym};
+use ra_ap_intern::{FixedState, Limits, Refusal, SymbolTable, sym};
 use std::alloc::Global;
 
 /// Makes the call for each term that is stored.
@@ -165,7 +165,9 @@ fn check_foreign(
 // The calls on owners of terms of another store that has the same number: of the first birth, which
 // nobody owns here, and of the second, which is gone here.
 fn check_same(rt: &impl Eprint, alloc: Global, store: &mut TermStore) -> Result<(), Fault> {
-    let mut same = TermStore::new(alloc, 2);
+    mark(rt, "takes none: TermStore::with_hasher");
+    let mut same = TermStore::with_hasher(alloc, 2, Limits::MAX, FixedState::new());
+    mark(rt, "prepares");
     check_both(rt, store, &mut same)
 }
 
