@@ -133,24 +133,23 @@ impl Session {
         ensures { self.new.inference ≡ self.old.inference }
     {
         let Failure { place, error } = failure;
-        let types = &self.inference.environment.types;
-        match error {
+        let (before, first, between, second) = match error {
             TypeError::OutOfMemory(error) => return Err(Fault::OutOfMemory(error)),
             TypeError::Refused(why) => return Err(Fault::Refused(why)),
             TypeError::Unbound(name) => {
-                write!(self.out, "{place}: {error} {}\n", name.display(&self.names))?;
+                let name = name.display(&self.names);
+                return Ok(write!(self.out, "{place}: {error} {name}\n")?);
             }
-            TypeError::Clash(first, second) => {
-                let (first, second) = (types.written(first), types.written(second));
-                write!(self.out, "{place}: {error} {first} with {second}\n")?;
-            }
-            TypeError::Infinite(first, second) => {
-                let (first, second) = (types.written(first), types.written(second));
-                write!(self.out, "{place}: {error}: {first} = {second}\n")?;
-            }
-            _ => write!(self.out, "{place}: {error}\n")?,
-        }
-        Ok(())
+            TypeError::Clash(first, second) => (" ", first, " with ", second),
+            TypeError::Infinite(first, second) => (": ", first, " = ", second),
+            _ => return Ok(write!(self.out, "{place}: {error}\n")?),
+        };
+        let types = &self.inference.environment.types;
+        let (first, second) = (types.written(first), types.written(second));
+        Ok(write!(
+            self.out,
+            "{place}: {error}{before}{first}{between}{second}\n"
+        )?)
     }
 
     fn collect_if_many(&mut self) -> Result<(), Fault>

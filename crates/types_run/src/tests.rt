@@ -206,17 +206,26 @@ fn refer(
     at: usize,
     counts: &mut Counts,
 ) {
-    let (count, text) = match reference.declare(rt, 3, generator.all.as_slice(), at) {
+    let text = match reference.declare(rt, 3, generator.all.as_slice(), at) {
         Ok(place) => {
+            counts.typed = counts.typed.saturating_add(1);
             put(rt, out, "f : ");
             reference.write(rt, FUEL, out, &mut Vec::new(alloc), (place, 0));
-            (&mut counts.typed, "")
+            ""
         }
-        Err(Kind::Unbound) => (&mut counts.unbound, "unbound name "),
-        Err(Kind::Clash) => (&mut counts.clashes, "can't unify "),
-        Err(Kind::Infinite) => (&mut counts.infinite, "infinite type: "),
+        Err(Kind::Unbound) => {
+            counts.unbound = counts.unbound.saturating_add(1);
+            "unbound name "
+        }
+        Err(Kind::Clash) => {
+            counts.clashes = counts.clashes.saturating_add(1);
+            "can't unify "
+        }
+        Err(Kind::Infinite) => {
+            counts.infinite = counts.infinite.saturating_add(1);
+            "infinite type: "
+        }
     };
-    *count = count.saturating_add(1);
     put(rt, out, text);
     put(rt, out, "\n");
 }
