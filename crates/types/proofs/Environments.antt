@@ -1,5 +1,5 @@
 -- What environments declare, before and after a change.
-use Rattle.std.proofs.Common.{◌≡◌, ◌↔◌, Bool, true, false, cond, List, [], ◌∷◌, map, Option, Some, Result, IfOk, OnErr, refl, sym, ap, subst, ◌∙◌}
+use Rattle.std.proofs.Common.{◌≡◌, ◌↔◌, Bool, true, false, cond, List, [], ◌∷◌, map, Option, Some, IsSome, is_some, Result, IfOk, OnErr, refl, sym, ap, subst, ◌∙◌}
 use Rattle.std.specs.HashMap.{HashMap, get}
 use Rattle.std.specs.Map.{lookup, values_of}
 use Rattle.std.specs.Option.{option_map}
@@ -11,21 +11,21 @@ use Rattle.ra_ap_intern.specs.Handle.{ref_name}
 use Rattle.ra_ap_intern.specs.Name.{Name}
 use Rattle.ra_ap_intern.specs.Names.{has}
 use Rattle.ra_ap_intern.specs.Reach.{IsReachedSet, starts_with}
-use Rattle.ra_ap_intern.specs.State.{State}
+use Rattle.ra_ap_intern.specs.State.{State, reads}
 use Rattle.ra_ap_intern.specs.Symbols.{Named, same_named, symbol_ref_name}
 use Rattle.ra_ap_intern.specs.Under.{under_symbol}
 use Rattle.ra_ap_intern.specs.declared.gc.Collected.{Collected}
 use Rattle.ra_ap_intern.specs.declared.kind.Values.{Values}
 use Rattle.ra_ap_intern.specs.declared.storage.Ref.{Ref}
 use Rattle.ra_ap_intern.specs.declared.symbol.SymbolRef.{SymbolRef}
-use Rattle.ra_ap_intern.proofs.CallerLemmas.{collected, entry_read, kept_was_read, root_kept, same_names, symbols_changed}
+use Rattle.ra_ap_intern.proofs.CallerLemmas.{collected, entry_read, kept_was_read, root_kept, same_names, symbols_changed, tree_kept, tree_on}
 use Rattle.types.specs.Environment.{declared_as, declared_types, Declares}
 use Rattle.types.specs.Growing.{Grows}
+use Rattle.ra_ap_intern.specs.Tree.{tree}
 use Rattle.types.specs.Tree.{Tree, UnfoldsTo}
-use Rattle.types.specs.Types.{declared_by, types_of}
+use Rattle.types.specs.Types.{declared_by, kind_of, types_of}
 use Rattle.types.specs.declared.environment.Environment.{Environment}
 use Rattle.types.specs.declared.value.TypeNode.{TypeNode}
-use Rattle.types.proofs.Trees.{tree_stays, tree_kept, unfolds_read}
 
 -- the type that a look-up finds is among the types of all names
 listed_first : (t : Bool) (r : Ref (Values TypeNode)) (o : Option (Ref (Values TypeNode)))
@@ -40,6 +40,9 @@ listed : {K : Type 0} (test : K → Bool) (es : List (K × Ref (Values TypeNode)
     → option_map ref_name (lookup test es) ≡ Some n → has (map ref_name (values_of es)) n ≡ true
 listed test [] n is = absurd (cc)
 listed test (e ∷ es) n is = listed_first (test e.0) e.1 (lookup test es) _ n (listed test es n) is
+
+unfolds_read : (s : State TypeNode) (x : Tree) (n : Name) → UnfoldsTo s n x → IsSome (reads s n)
+unfolds_read s (tree kind ts) n u = ap is_some u.1
 
 module _ (e : Environment) where
   -- the environment with these types
@@ -56,7 +59,7 @@ module _ (e : Environment) where
       λ d. (
         d.0,
         d.1,
-        tree_stays (kept_named e.types (has names)) e.types
+        tree_on declared_by kind_of (kept_named e.types (has names)) e.types
             (λ n v read. (kept_was_read e.types (has names) n v read).1) tree d.0 d.2,
       ),
     )
@@ -64,10 +67,10 @@ module _ (e : Environment) where
         go : (n : Name) → declared_as e.declared name ≡ Some n → UnfoldsTo e.types n tree
             → UnfoldsTo (kept_named e.types (has names)) n tree
         go n at a =
-            tree_kept _ e.types names is tree n
+            tree_kept declared_by kind_of _ e.types names is tree n
             (root_kept (declared_types e.declared) (types_of e.types) names is n
             (listed _ e.declared.entries n at)
-            (entry_read declared_by e.types n ∙ unfolds_read _ e.types names is tree n a)) a
+            (entry_read declared_by e.types n ∙ unfolds_read e.types tree n a)) a
 
     -- and after a collection
     pub declares_collected : (new : State TypeNode) (r : Result Collected AllocError)
@@ -117,5 +120,5 @@ module _ (old new : Environment) (a : Named) (tree : Tree) where
   declared_grown grows d = (
     d.0,
     ap (λ m. declared_as m a) grows.0 ∙ d.1,
-    tree_stays old.types new.types grows.1 tree d.0 d.2,
+    tree_on declared_by kind_of old.types new.types grows.1 tree d.0 d.2,
   )

@@ -5,7 +5,7 @@ use Rattle.ra_ap_intern.specs.Handle.{ref_name}
 use Rattle.ra_ap_intern.specs.Name.{Name}
 use Rattle.ra_ap_intern.specs.State.{State}
 use Rattle.types.specs.Tree.{Tree}
-use Rattle.types.specs.Types.{unknown, shape_at}
+use Rattle.types.specs.Types.{shape_at, unknown_shape}
 use Rattle.types.specs.Unifying.{StandsFor, Solves, Agree, IsNever, two}
 use Rattle.types.specs.declared.unknowns.Unknowns.{Unknowns}
 use Rattle.types.specs.declared.value.TypeNode.{TypeNode}
@@ -43,7 +43,7 @@ module _ (s : State TypeNode) (old : Unknowns) (number : ℕ) (handle : Name) wh
   ]
 
   -- the unknown type itself is smaller than no solution makes it
-  pub never : (n : Name) → shape_at s n ≡ Some (unknown number) → n ≢ handle → IsWithin n → IsNever s old number handle
+  pub never : (n : Name) → shape_at s n ≡ Some (unknown_shape number) → n ≢ handle → IsWithin n → IsNever s old number handle
   never n at other (inl is) v solves stands = other is
   never n at other (inr smaller) v solves stands =
       let here = smaller v solves stands in

@@ -1,15 +1,20 @@
 -- Pairs of types on the way to one another.
-use Rattle.std.proofs.Common.{◌≡◌, ◌↔◌, ◌⊎◌, inl, inr, ℕ, zero, suc, ◌+◌, ◌<◌, Bool, true, false, List, [], ◌∷◌, ◌++◌, Some, Contains, refl, sym, ap, subst, ◌∙◌, arith}
+use Rattle.std.proofs.Common.{◌≡◌, ◌≢◌, ◌↔◌, ◌⊎◌, inl, inr, ℕ, zero, suc, ◌+◌, ◌<◌, Bool, true, false, List, [], ◌∷◌, ◌++◌, Some, Contains, refl, sym, ap, subst, ◌∙◌, arith}
+use Rattle.std.proofs.Math.Bool.{beq, not}
+use Rattle.std.proofs.lemmas.Option.{same_Some}
 use Rattle.std.proofs.lemmas.List.Elements.{Contains-append_left, Contains-push, Contains-push_cases}
 use Rattle.ra_ap_intern.specs.Handle.{ref_name}
 use Rattle.ra_ap_intern.specs.Name.{Name}
-use Rattle.ra_ap_intern.specs.State.{State}
+use Rattle.ra_ap_intern.specs.State.{State, IsState}
 use Rattle.ra_ap_intern.specs.declared.kind.Values.{Values}
 use Rattle.ra_ap_intern.specs.declared.storage.Ref.{Ref}
-use Rattle.types.specs.Tree.{Tree, integers, booleans, unknowns, anything, functions, pairs, UnfoldsTo}
-use Rattle.types.specs.Types.{shape_at}
-use Rattle.types.specs.Unifying.{replaced, StandsFor, AreOne, Agree, HaveParts, two}
+use Rattle.ra_ap_intern.specs.Tree.{Trees, tree, no_more, one_more}
+use Rattle.types.specs.Tree.{Tree, UnfoldsTo}
+use Rattle.types.specs.Types.{Kind, Shape, shape, shape_at}
+use Rattle.ra_ap_intern.proofs.CallerLemmas.{names_tell_views}
+use Rattle.types.specs.Unifying.{replaced, all_replaced, placed, StandsFor, AreOne, Agree, HaveParts, IsNoUnknown, either, two}
 use Rattle.types.specs.declared.value.TypeNode.{TypeNode}
+use Rattle.types.proofs.Trees.{AllOf, IsLeaf, unfolds, unfolded, leaf_tree, leaf_or_two, known_stays, two_stays}
 
 abbrev pub Handle : Type 0
 Handle = Ref (Values TypeNode)
@@ -40,34 +45,40 @@ among_none a c h = absurd (omega (arith, h.1.1))
 -- ---- functions and pairs, by their parts
 
 abbrev pub make : Bool → Tree → Tree → Tree
-make true t u = functions t u
-make false t u = pairs t u
+make kind t u = tree (either kind) (one_more t (one_more u no_more))
 
-abbrev pub size : Tree → ℕ
-size integers = 1
-size booleans = 1
-size (unknowns number) = 1
-size (anything number) = 1
-size (functions t u) = suc (size t + size u)
-size (pairs t u) = suc (size t + size u)
+abbrev mutual
+  pub size : Tree → ℕ
+  size (tree kind ts) = suc (sizes ts)
+
+  pub sizes : Trees Kind → ℕ
+  sizes no_more = 0
+  sizes (one_more t ts) = size t + sizes ts
 
 pub first_less : (kind : Bool) (t u : Tree) → size t < size (make kind t u)
-first_less true t u = omega arith
-first_less false t u = omega arith
+first_less kind t u = omega arith
 
 pub second_less : (kind : Bool) (t u : Tree) → size u < size (make kind t u)
-second_less true t u = omega arith
-second_less false t u = omega arith
+second_less kind t u = omega arith
 
 same_parts : (kind : Bool) (t u x y : Tree) → make kind t u ≡ make kind x y → (t ≡ x) × (u ≡ y)
-same_parts true t u x y is = (cc, cc)
-same_parts false t u x y is = (cc, cc)
+same_parts kind t u x y is = (cc, cc)
+
+one_kind : (k l : Bool) → either k ≡ either l → k ≡ l
+one_kind true true is = refl
+one_kind true false is = absurd (cc)
+one_kind false true is = absurd (cc)
+one_kind false false is = refl
 
 module _ (s : State TypeNode) (v : ℕ → Tree) where
   into : (kind : Bool) (n a b : Name) → shape_at s n ≡ Some (two kind a b) → (t u : Tree)
       → StandsFor s v a t → StandsFor s v b u → StandsFor s v n (make kind t u)
-  into true n a b at t u g h = (functions g.0 h.0, (a, b, at, g.1, h.1), λ i. functions (g.2 i) (h.2 i))
-  into false n a b at t u g h = (pairs g.0 h.0, (a, b, at, g.1, h.1), λ i. pairs (g.2 i) (h.2 i))
+  into kind n a b at t u g h =
+      let trees : make kind t u ≡ make kind (replaced v g.0) (replaced v h.0) = λ i. make kind (g.2 i) (h.2 i) in (
+        make kind g.0 h.0,
+        unfolds s n (either kind) (a ∷ b ∷ []) (one_more g.0 (one_more h.0 no_more)) at (g.1, (h.1, tt)),
+        trees ∙ sym (two_stays v kind (one_more (replaced v g.0) (one_more (replaced v h.0) no_more))),
+      )
 
   pub record Out (kind : Bool) (a b : Name) (x : Tree) : Type 0 where
     pub first : Tree
@@ -76,35 +87,27 @@ module _ (s : State TypeNode) (v : ℕ → Tree) where
     pub first_is : StandsFor s v a first
     pub second_is : StandsFor s v b second
 
-  module _ (a b : Name) (x : Tree) where
-    from_parts : (kind : Bool) (m n : Name) (y z : Tree) → m ≡ a → n ≡ b → UnfoldsTo s m y → UnfoldsTo s n z
-        → x ≡ make kind (replaced v y) (replaced v z) → Out kind a b x
-    from_parts kind m n y z left right first second is = record {
+  module _ (kind : Bool) (n a b : Name) (at : shape_at s n ≡ Some (two kind a b)) (x : Tree) where
+    out_of : (j : Kind) (ts : Trees Kind) → x ≡ placed v j (all_replaced v ts) → j ≡ either kind
+        → AllOf s (a ∷ b ∷ []) ts → Out kind a b x
+    out_of j no_more e same all = absurd all
+    out_of j (one_more y no_more) e same all = absurd all.1
+    out_of j (one_more y (one_more z no_more)) e same all = record {
       first = replaced v y;
       second = replaced v z;
-      is = is;
-      first_is = (y, subst (λ o. UnfoldsTo s o y) left first, refl);
-      second_is = (z, subst (λ o. UnfoldsTo s o z) right second, refl);
+      is = e ∙ ap (λ k. placed v k (all_replaced v (one_more y (one_more z no_more)))) same ∙ two_stays v kind _;
+      first_is = (y, all.0, refl);
+      second_is = (z, all.1.0, refl);
     }
+    out_of j (one_more y (one_more z (one_more w ws))) e same all = absurd all.1.1
 
-    out_of : (n : Name) (kind : Bool) (t : Tree) → shape_at s n ≡ Some (two kind a b) → UnfoldsTo s n t → x ≡ replaced v t
-        → Out kind a b x
-    out_of n true integers at u e = absurd (cc)
-    out_of n true booleans at u e = absurd (cc)
-    out_of n true (unknowns number) at u e = absurd (cc)
-    out_of n true (anything number) at u e = absurd (cc)
-    out_of n true (functions y z) at u e = let here = u.2 in from_parts true u.0 u.1 y z (cc) (cc) u.3 u.4 e
-    out_of n true (pairs y z) at u e = let here = u.2 in absurd (cc)
-    out_of n false integers at u e = absurd (cc)
-    out_of n false booleans at u e = absurd (cc)
-    out_of n false (unknowns number) at u e = absurd (cc)
-    out_of n false (anything number) at u e = absurd (cc)
-    out_of n false (functions y z) at u e = let here = u.2 in absurd (cc)
-    out_of n false (pairs y z) at u e = let here = u.2 in from_parts false u.0 u.1 y z (cc) (cc) u.3 u.4 e
+    out_tree : (t : Tree) → UnfoldsTo s n t → x ≡ replaced v t → Out kind a b x
+    out_tree (tree j ts) u e =
+        let here = unfolded s n (either kind) (a ∷ b ∷ []) j ts at u in
+        out_of j ts e here.0 here.1
 
-  pub out : (kind : Bool) (n a b : Name) → shape_at s n ≡ Some (two kind a b) → (x : Tree) → StandsFor s v n x
-      → Out kind a b x
-  out kind n a b at x h = out_of a b x n kind h.0 at h.1 h.2
+    pub out : StandsFor s v n x → Out kind a b x
+    out h = out_tree h.0 h.1 h.2
 
   -- the one is this tree exactly if the other is
   abbrev AgreeAt : Tree → Name → Name → Type 0
@@ -186,3 +189,57 @@ module _ (s : State TypeNode) (v : ℕ → Tree) where
     pub all_agree : (left right : Name) → IsHeld [] left right → Agree s v left right
     all_agree left right held t =
         linked_at t (met_agree held.each (suc (size t)) t (omega arith)) left right held.whole
+
+-- ---- known types
+
+two_kinds : (k l : Bool) → not (beq k l) ≡ true → k ≡ l → ⊥
+two_kinds true true differ is = absurd (cc)
+two_kinds true false differ is = absurd (cc)
+two_kinds false true differ is = absurd (cc)
+two_kinds false false differ is = absurd (cc)
+
+-- types of two kinds have no parts that are of one
+pub no_parts : (s : State TypeNode) (n m : Name) (k l : Bool) (a b x y : Name) → not (beq k l) ≡ true
+    → shape_at s n ≡ Some (two k a b) → shape_at s m ≡ Some (two l x y)
+    → (p q r o : Name) → HaveParts s n m p q r o → ⊥
+no_parts s n m k l a b x y differ first second p q r o parts =
+    let one : two k a b ≡ two parts.0 p q = same_Some _ _ (sym first ∙ parts.1) in
+    let other : two l x y ≡ two parts.0 r o = same_Some _ _ (sym second ∙ parts.2) in
+    two_kinds k l differ (one_kind k parts.0 (ap (λ x. x.0) one) ∙ sym (one_kind l parts.0 (ap (λ x. x.0) other)))
+
+-- two known types that aren't of one kind with parts are no one tree
+module _ (s : State TypeNode) (eq : TypeNode → TypeNode → Bool) (ok : IsState eq s)
+    (alike : (v w : TypeNode) → (eq v w ≡ true) ↔ (shape v ≡ shape w)) where
+  pub same_name : (x : Shape) (n m : Name) → shape_at s n ≡ Some x → shape_at s m ≡ Some x → n ≡ m
+  same_name x n m a b = (names_tell_views eq shape alike s ok n m x x a b).1 refl
+
+  module _ (v : ℕ → Tree) where
+    leaf_is : (n : Name) (x : Tree) → IsNoUnknown s n → (leaf : IsLeaf s n) → StandsFor s v n x → x ≡ tree leaf.0 no_more
+    leaf_is n x known leaf h =
+        h.2 ∙ ap (replaced v) (leaf_tree s n leaf.0 h.0 leaf.1 h.1)
+        ∙ known_stays v leaf.0 no_more (λ k is. known k (leaf.1 ∙ ap (λ j. Some (j, [])) is))
+
+    pub apart : (n m : Name) → n ≢ m → IsNoUnknown s n → IsNoUnknown s m
+        → ((a b c d : Name) → HaveParts s n m a b c d → ⊥) → AreOne s v n m → ⊥
+    apart n m other first second none one =
+        elim (leaf_or_two s n one.1.0 one.1.1) [
+          | inl a ↦
+              let left = leaf_is n one.0 first a one.1 in
+              elim (leaf_or_two s m one.2.0 one.2.1) [
+                | inl b ↦
+                    let trees : tree a.0 no_more ≡ tree b.0 no_more = sym left ∙ leaf_is m one.0 second b one.2 in
+                    let kinds : a.0 ≡ b.0 = cc in
+                    other (same_name (b.0, []) n m (a.1 ∙ ap (λ k. Some (k, [])) kinds) b.1)
+                | inr b ↦
+                    let differ = sym left ∙ (out s v b.0 m b.1 b.2 b.3 one.0 one.2).is in absurd (cc)
+              ]
+          | inr a ↦
+              let left = (out s v a.0 n a.1 a.2 a.3 one.0 one.1).is in
+              elim (leaf_or_two s m one.2.0 one.2.1) [
+                | inl b ↦ let differ = sym left ∙ leaf_is m one.0 second b one.2 in absurd (cc)
+                | inr b ↦
+                    let trees = sym (out s v b.0 m b.1 b.2 b.3 one.0 one.2).is ∙ left in
+                    let kinds = one_kind b.0 a.0 (cc) in
+                    none a.1 a.2 b.1 b.2 (a.0, a.3, b.3 ∙ ap (λ k. Some (two k b.1 b.2)) kinds)
+              ]
+        ]

@@ -6,15 +6,17 @@ use Rattle.std.proofs.lemmas.List.Folds.{Any-from_list_any}
 use Rattle.ra_ap_intern.specs.Handle.{ref_name}
 use Rattle.ra_ap_intern.specs.Name.{Name}
 use Rattle.ra_ap_intern.specs.State.{State}
-use Rattle.types.specs.Tree.{Tree, integers, booleans, unknowns, anything, functions, pairs, UnfoldsTo}
-use Rattle.types.specs.Types.{unknown, shape_at}
-use Rattle.types.specs.Unifying.{replaced, StandsFor, Agree, IsNoUnknown, IsPrincipal, two}
+use Rattle.ra_ap_intern.specs.Tree.{no_more}
+use Rattle.types.specs.Tree.{Tree, unknowns}
+use Rattle.types.specs.Types.{Kind, unknown, shape_at, unknown_shape}
+use Rattle.types.specs.Unifying.{placed, replaced, StandsFor, Agree, IsNoUnknown, IsPrincipal, two}
 use Rattle.types.specs.declared.unknowns.Unknowns.{Unknowns}
 use Rattle.types.specs.declared.value.TypeNode.{TypeNode}
 use Rattle.types.proofs.Occurring.{AreWithin, within_popped}
 use Rattle.types.proofs.Pairs.{Handle, make, size, first_less, second_less, out}
 use Rattle.types.proofs.Sets.{Inserted}
 use Rattle.types.proofs.Solving.{Occurs}
+use Rattle.types.proofs.Trees.{leaf_or_two, leaf_tree}
 use Rattle.types.proofs.Unifying.{StillOpen, unknown_is}
 
 -- a listed handle has this name
@@ -30,8 +32,18 @@ listed_before met eq names p found =
     (any.1, (any.0, any.2, any.3), sym ((names p any.1).0 any.4))
 
 occurs_cases : (number : ℕ) (kind : Bool) (t u : Tree) → Occurs number (make kind t u) → Occurs number t ⊎ Occurs number u
-occurs_cases number true t u h = h
-occurs_cases number false t u h = h
+occurs_cases number true t u (inl none) = absurd none
+occurs_cases number false t u (inl none) = absurd none
+occurs_cases number kind t u (inr (inl first)) = inl first
+occurs_cases number kind t u (inr (inr (inl second))) = inr second
+occurs_cases number kind t u (inr (inr (inr none))) = absurd none
+
+-- a leaf that isn't unknown has no unknown part
+leaf_lacks : (v : ℕ → Tree) (number : ℕ) (kind : Kind) → ((x : ℕ) → kind ≡ unknown x → ⊥)
+    → Occurs number (placed v kind no_more) → ⊥
+leaf_lacks v number (unknown x) known h = known x refl
+leaf_lacks v number kind known (inl none) = none
+leaf_lacks v number kind known (inr none) = none
 
 module _ (s : State TypeNode) (v : ℕ → Tree) (number : ℕ) where
   -- the unknown type is a part of the tree that a type is
@@ -40,19 +52,17 @@ module _ (s : State TypeNode) (v : ℕ → Tree) (number : ℕ) where
 
   pub leaf_is_without : (n : Name) → IsNoUnknown s n → ((kind : Bool) (a b : Name) → shape_at s n ≢ Some (two kind a b))
       → OccursIn n → ⊥
-  leaf_is_without n known none h = go h.1.0 h.1.1 (subst (Occurs number) h.1.2 h.2)
-    where
-      go : (t : Tree) → UnfoldsTo s n t → Occurs number (replaced v t) → ⊥
-      go integers u occurs = occurs
-      go booleans u occurs = occurs
-      go (unknowns k) u occurs = known k u
-      go (anything k) u occurs = occurs
-      go (functions x y) u occurs = none true u.0 u.1 u.2
-      go (pairs x y) u occurs = none false u.0 u.1 u.2
+  leaf_is_without n known none h = elim (leaf_or_two s n h.1.0 h.1.1) [
+    | inl leaf ↦ leaf_lacks v number leaf.0 (λ x is. known x (leaf.1 ∙ ap (λ k. Some (k, [])) is))
+        (subst (Occurs number) (h.1.2 ∙ ap (replaced v) (leaf_tree s n leaf.0 h.1.0 leaf.1 h.1.1)) h.2)
+    | inr both ↦ none both.0 both.1 both.2 both.3
+  ]
 
-  pub other_is_without : (n : Name) (k : ℕ) → shape_at s n ≡ Some (unknown k) → v k ≡ unknowns k → k ≢ number → OccursIn n → ⊥
-  other_is_without n k at free other h =
-      other (subst (Occurs number) (unknown_is s v n k at h.0 h.1 ∙ free) h.2)
+  pub other_is_without : (n : Name) (k : ℕ) → shape_at s n ≡ Some (unknown_shape k) → v k ≡ unknowns k → k ≢ number → OccursIn n → ⊥
+  other_is_without n k at free other h = elim (subst (Occurs number) (unknown_is s v n k at h.0 h.1 ∙ free) h.2) [
+    | inl is ↦ other is
+    | inr none ↦ none
+  ]
 
   -- a type is to be looked at, was, or lacks it
   abbrev pub Seen : (todo met : List Handle) → Name → Type 0

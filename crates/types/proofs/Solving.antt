@@ -4,21 +4,26 @@ use Rattle.std.proofs.lemmas.Bool.{eq-eqb, ne_eqb}
 use Rattle.std.proofs.Math.Dec.{eqb}
 use Rattle.ra_ap_intern.specs.Name.{Name}
 use Rattle.ra_ap_intern.specs.State.{State}
-use Rattle.types.specs.Tree.{Tree, integers, booleans, unknowns, anything, functions, pairs}
-use Rattle.types.specs.Types.{shape_at}
-use Rattle.types.specs.Unifying.{replaced, Solves, Agree, Binds, HasTree, IsFree, IsOpen, IsPrincipal, IsSolvable, two}
+use Rattle.ra_ap_intern.specs.Tree.{Trees, tree, no_more, one_more}
+use Rattle.types.specs.Tree.{Tree, unknowns}
+use Rattle.types.specs.Types.{Kind, unknown, shape_at}
+use Rattle.types.specs.Unifying.{replaced, all_replaced, Solves, Agree, Binds, HasTree, IsFree, IsOpen, IsPrincipal, IsSolvable, two}
 use Rattle.types.specs.declared.unknowns.Unknowns.{Unknowns}
 use Rattle.types.specs.declared.value.TypeNode.{TypeNode}
 use Rattle.types.proofs.Pairs.{out}
 
+abbrev pub IsNumber : ℕ → Kind → Type 0
+IsNumber k (unknown n) = n ≡ k
+IsNumber k kind = ⊥
+
 -- an unknown type is a part of a tree
-abbrev pub Occurs : ℕ → Tree → Type 0
-Occurs k integers = ⊥
-Occurs k booleans = ⊥
-Occurs k (unknowns n) = n ≡ k
-Occurs k (anything n) = ⊥
-Occurs k (functions t u) = Occurs k t ⊎ Occurs k u
-Occurs k (pairs t u) = Occurs k t ⊎ Occurs k u
+abbrev mutual
+  pub Occurs : ℕ → Tree → Type 0
+  Occurs k (tree kind ts) = IsNumber k kind ⊎ OccursAmong k ts
+
+  pub OccursAmong : ℕ → Trees Kind → Type 0
+  OccursAmong k no_more = ⊥
+  OccursAmong k (one_more t ts) = Occurs k t ⊎ OccursAmong k ts
 
 abbrev put_if : Bool → Tree → ℕ → Tree
 put_if true t n = t
@@ -34,23 +39,24 @@ put_here k t = ap (λ b. put_if b t k) (eq-eqb k k refl)
 put_else : (k : ℕ) (t : Tree) (n : ℕ) → n ≢ k → put k t n ≡ unknowns n
 put_else k t n other = ap (λ b. put_if b t n) (ne_eqb n k other)
 
-replaced_twice : (w v : ℕ → Tree) (t : Tree) → replaced (λ n. replaced w (v n)) t ≡ replaced w (replaced v t)
-replaced_twice w v integers = refl
-replaced_twice w v booleans = refl
-replaced_twice w v (unknowns n) = refl
-replaced_twice w v (anything n) = refl
-replaced_twice w v (functions t u) = λ i. functions (replaced_twice w v t i) (replaced_twice w v u i)
-replaced_twice w v (pairs t u) = λ i. pairs (replaced_twice w v t i) (replaced_twice w v u i)
+mutual
+  replaced_twice : (w v : ℕ → Tree) (t : Tree) → replaced (λ n. replaced w (v n)) t ≡ replaced w (replaced v t)
+  replaced_twice w v (tree (unknown n) no_more) = refl
+  replaced_twice w v (tree kind ts) = λ i. tree kind (all_twice w v ts i)
 
-replaced_without : (k : ℕ) (x t : Tree) → (Occurs k t → ⊥) → replaced (put k x) t ≡ t
-replaced_without k x integers none = refl
-replaced_without k x booleans none = refl
-replaced_without k x (unknowns n) none = put_else k x n none
-replaced_without k x (anything n) none = refl
-replaced_without k x (functions t u) none =
-    λ i. functions (replaced_without k x t (λ h. none (inl h)) i) (replaced_without k x u (λ h. none (inr h)) i)
-replaced_without k x (pairs t u) none =
-    λ i. pairs (replaced_without k x t (λ h. none (inl h)) i) (replaced_without k x u (λ h. none (inr h)) i)
+  all_twice : (w v : ℕ → Tree) (ts : Trees Kind) → all_replaced (λ n. replaced w (v n)) ts ≡ all_replaced w (all_replaced v ts)
+  all_twice w v no_more = refl
+  all_twice w v (one_more t ts) = λ i. one_more (replaced_twice w v t i) (all_twice w v ts i)
+
+mutual
+  replaced_without : (k : ℕ) (x t : Tree) → (Occurs k t → ⊥) → replaced (put k x) t ≡ t
+  replaced_without k x (tree (unknown n) no_more) none = put_else k x n (λ is. none (inl is))
+  replaced_without k x (tree kind ts) none = λ i. tree kind (all_without k x ts (λ h. none (inr h)) i)
+
+  all_without : (k : ℕ) (x : Tree) (ts : Trees Kind) → (OccursAmong k ts → ⊥) → all_replaced (put k x) ts ≡ ts
+  all_without k x no_more none = refl
+  all_without k x (one_more t ts) none =
+      λ i. one_more (replaced_without k x t (λ h. none (inl h)) i) (all_without k x ts (λ h. none (inr h)) i)
 
 pub open_is_free : (u : Unknowns) (number : ℕ) → IsOpen u number → IsFree u number
 open_is_free u number at handle is = let nothing = at.1 in absurd (cc)
@@ -94,13 +100,13 @@ module _ (s : State TypeNode) (old new : Unknowns) (number : ℕ) (n : Name) (v 
 
 pub parts_have_trees : (s : State TypeNode) (kind : Bool) (n a b : Name) → shape_at s n ≡ Some (two kind a b)
     → HasTree s n → HasTree s a × HasTree s b
-parts_have_trees s kind n a b at tree =
-    let o = out s unknowns kind n a b at (replaced unknowns tree.0) (tree.0, tree.1, refl) in (
+parts_have_trees s kind n a b at whole =
+    let o = out s unknowns kind n a b at (replaced unknowns whole.0) (whole.0, whole.1, refl) in (
       (o.first_is.0, o.first_is.1),
       (o.second_is.0, o.second_is.1),
     )
 
 pub agreeing_has_tree : (s : State TypeNode) (v : ℕ → Tree) (a b : Name) → Agree s v a b → HasTree s a → HasTree s b
-agreeing_has_tree s v a b agree tree =
-    let other = (agree (replaced v tree.0)).0 (tree.0, tree.1, refl) in
+agreeing_has_tree s v a b agree whole =
+    let other = (agree (replaced v whole.0)).0 (whole.0, whole.1, refl) in
     (other.0, other.1)

@@ -8,8 +8,9 @@ use Rattle.ra_ap_intern.specs.Name.{Name}
 use Rattle.ra_ap_intern.specs.State.{State, reads}
 use Rattle.ra_ap_intern.specs.declared.kind.Values.{Values}
 use Rattle.ra_ap_intern.specs.declared.storage.Ref.{Ref}
+use Rattle.ra_ap_intern.specs.Tree.{no_more}
 use Rattle.types.specs.Tree.{Tree, unknowns}
-use Rattle.types.specs.Types.{unknown, shape, shape_at}
+use Rattle.types.specs.Types.{declared_by, kind_of, open_shape, shape, shape_at, unknown_shape}
 use Rattle.types.specs.Unifying.{replaced, IsOpen, StandsFor, Solves, Agree, HaveNoUnifier, IsConflict, IsFree, IsNever, IsNoUnknown, IsPrincipal, Unifies, Binds}
 use Rattle.types.specs.declared.error.TypeError.{TypeError}
 use Rattle.types.specs.declared.error.TypeError.TheVariants as error
@@ -19,18 +20,19 @@ use Rattle.types.specs.declared.unknowns.Unknowns.{Unknowns}
 use Rattle.types.specs.declared.value.TypeNode.{TypeNode}
 use Rattle.types.specs.declared.value.TypeNode.TheVariants as node
 use Rattle.types.specs.declared.value.TypeNode.TheVariants.{Integer, Boolean, Unknown, Any, Function', Pair', outs-Integer, outs-Boolean, outs-Unknown, outs-Any, outs-Function', outs-Pair'}
-use Rattle.types.proofs.Trees.{one_tree}
+use Rattle.ra_ap_intern.proofs.CallerLemmas.{one_tree}
+use Rattle.types.proofs.Trees.{unfolds}
 
-unknown_shape : (number : ℕ) → shape (node.Unknown number) ≡ unknown number
-unknown_shape number = search (rules, outs-Unknown)
+unknown_is_shape : (number : ℕ) → shape (node.Unknown number) ≡ unknown_shape number
+unknown_is_shape number = ap open_shape (outs-Unknown number)
 
 -- the type that a name reads, where it is unknown
 pub unknown_at : (s : State TypeNode) (n : Name) (number : ℕ) → reads s n ≡ Some (node.Unknown number)
-    → shape_at s n ≡ Some (unknown number)
-unknown_at s n number read = ap (option_map shape) read ∙ ap Some (unknown_shape number)
+    → shape_at s n ≡ Some (unknown_shape number)
+unknown_at s n number read = ap (option_map shape) read ∙ ap Some (unknown_is_shape number)
 
 -- a type that isn't unknown has no unknown type's shape
-no_unknown : (t : TypeNode) → ((x : ℕ) → t ≡ node.Unknown x → ⊥) → (number : ℕ) → shape t ≡ unknown number → ⊥
+no_unknown : (t : TypeNode) → ((x : ℕ) → t ≡ node.Unknown x → ⊥) → (number : ℕ) → shape t ≡ unknown_shape number → ⊥
 no_unknown Integer other number is = search (rules, outs-Integer)
 no_unknown Boolean other number is = search (rules, outs-Boolean)
 no_unknown (Unknown x) other number is = other x refl
@@ -46,13 +48,13 @@ no_unknown_at s n t read other number is =
 
 module _ (s : State TypeNode) (v : ℕ → Tree) where
   stands_once : (n : Name) (t u : Tree) → StandsFor s v n t → StandsFor s v n u → t ≡ u
-  stands_once n t u a b = a.2 ∙ ap (replaced v) (one_tree s a.0 b.0 n n refl a.1 b.1) ∙ sym b.2
+  stands_once n t u a b = a.2 ∙ ap (replaced v) (one_tree declared_by kind_of s a.0 b.0 n a.1 b.1) ∙ sym b.2
 
   -- a type that isn't known is what it is taken for
-  pub unknown_stands : (n : Name) (number : ℕ) → shape_at s n ≡ Some (unknown number) → StandsFor s v n (v number)
-  unknown_stands n number at = (unknowns number, at, refl)
+  pub unknown_stands : (n : Name) (number : ℕ) → shape_at s n ≡ Some (unknown_shape number) → StandsFor s v n (v number)
+  unknown_stands n number at = (unknowns number, unfolds s n _ [] no_more at tt, refl)
 
-  pub unknown_is : (n : Name) (number : ℕ) → shape_at s n ≡ Some (unknown number) → (t : Tree)
+  pub unknown_is : (n : Name) (number : ℕ) → shape_at s n ≡ Some (unknown_shape number) → (t : Tree)
       → StandsFor s v n t → t ≡ v number
   unknown_is n number at t h = stands_once n t (v number) h (unknown_stands n number at)
 
@@ -73,7 +75,7 @@ module _ (s : State TypeNode) (v : ℕ → Tree) where
   )
 
   pub agree_known : (u : Unknowns) → Solves s u v → (number : ℕ) (a : Name) (handle : Ref (Values TypeNode))
-      → shape_at s a ≡ Some (unknown number) → slice_get u.known.items number ≡ Some (known.Is handle)
+      → shape_at s a ≡ Some (unknown_shape number) → slice_get u.known.items number ≡ Some (known.Is handle)
       → Agree s v a (ref_name handle)
   agree_known u solves number a handle at is =
       agree_at a (ref_name handle) (v number) (unknown_stands a number at) (solves number handle is)
@@ -135,7 +137,7 @@ still_principal s old number u still v is = record {
 
 -- an unknown type becomes another
 module _ (s : State TypeNode) (old new : Unknowns) (number : ℕ) (n m : Name)
-    (at : shape_at s n ≡ Some (unknown number)) (binds : Binds s old new number m) where
+    (at : shape_at s n ≡ Some (unknown_shape number)) (binds : Binds s old new number m) where
   pub binds_first : Unifies s old new n m
   binds_first = record {
     general = λ v solves one. (binds v).1
@@ -153,7 +155,7 @@ module _ (s : State TypeNode) (old new : Unknowns) (number : ℕ) (n m : Name)
 
 -- an unknown type is never another
 module _ (s : State TypeNode) (old : Unknowns) (number : ℕ) (n m : Name)
-    (at : shape_at s n ≡ Some (unknown number)) (never : IsNever s old number m) where
+    (at : shape_at s n ≡ Some (unknown_shape number)) (never : IsNever s old number m) where
   pub never_first : HaveNoUnifier s old n m
   never_first v solves one =
       never v solves (subst (StandsFor s v m) (unknown_is s v n number at one.0 one.1) one.2)

@@ -24,7 +24,7 @@ module _ {S : Type 0} where
 
 -- a name is declared with a type that unfolds to a tree
 abbrev pub Declares : Environment → Named → Tree → Type 0
-Declares e name tree = (n : Name) × (declared_as e.declared name ≡ Some n) × UnfoldsTo e.types n tree
+Declares e name t = (n : Name) × (declared_as e.declared name ≡ Some n) × UnfoldsTo e.types n t
 
 -- what each other name is declared with stands for the tree that it stood for
 abbrev pub KeepsOthers : Named → Environment → Environment → Type 0

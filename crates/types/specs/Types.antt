@@ -9,41 +9,44 @@ use Rattle.ra_ap_intern.specs.State.{State, reads}
 use Rattle.types.specs.declared.value.TypeNode.{TypeNode, out-TypeNode}
 use Rattle.types.specs.declared.value.TypeNode.TheOpen.{TypeNode-F}
 
--- a type over others
-pub data Shape : Type 0 where
-  integer : Shape
-  boolean : Shape
-  unknown : ℕ → Shape
-  any : ℕ → Shape
-  function : Name → Name → Shape
-  pair : Name → Name → Shape
+-- what a type is, without its parts
+pub data Kind : Type 0 where
+  integer : Kind
+  boolean : Kind
+  unknown : ℕ → Kind
+  any : ℕ → Kind
+  function : Kind
+  pair : Kind
+
+-- a type over others: its kind, and the names of its parts
+abbrev pub Shape : Type 0
+Shape = Kind × List Name
 
 abbrev pub open_shape : TypeNode-F TypeNode → Shape
-open_shape TypeNode-F.Integer = integer
-open_shape TypeNode-F.Boolean = boolean
-open_shape (TypeNode-F.Unknown number) = unknown number
-open_shape (TypeNode-F.Any number) = any number
-open_shape (TypeNode-F.Function from to) = function (ref_name from) (ref_name to)
-open_shape (TypeNode-F.Pair first second) = pair (ref_name first) (ref_name second)
+open_shape TypeNode-F.Integer = (integer, [])
+open_shape TypeNode-F.Boolean = (boolean, [])
+open_shape (TypeNode-F.Unknown number) = (unknown number, [])
+open_shape (TypeNode-F.Any number) = (any number, [])
+open_shape (TypeNode-F.Function from to) = (function, ref_name from ∷ ref_name to ∷ [])
+open_shape (TypeNode-F.Pair first second) = (pair, ref_name first ∷ ref_name second ∷ [])
 
 abbrev pub shape : TypeNode → Shape
 shape t = open_shape (out-TypeNode t)
+
+abbrev pub kind_of : TypeNode → Kind
+kind_of t = (shape t).0
 
 -- the type that a name stands for
 abbrev pub shape_at : State TypeNode → Name → Option Shape
 shape_at s name = option_map shape (reads s name)
 
--- what a type declares: the names of its parts
-abbrev pub parts_in : Shape → List Name
-parts_in integer = []
-parts_in boolean = []
-parts_in (unknown number) = []
-parts_in (any number) = []
-parts_in (function from to) = from ∷ to ∷ []
-parts_in (pair first second) = first ∷ second ∷ []
+-- an unknown type
+abbrev pub unknown_shape : ℕ → Shape
+unknown_shape number = (unknown number, [])
 
+-- what a type declares: the names of its parts
 abbrev pub declared_by : TypeNode → List Name
-declared_by t = parts_in (shape t)
+declared_by t = (shape t).1
 
 -- a store's types, as a collection sees them
 abbrev pub types_of : State TypeNode → List Entry

@@ -1,26 +1,32 @@
 -- What unification comes to.
-use Rattle.std.specs.Prelude.{◌≡◌, ◌≢◌, ◌↔◌, ⊤, ℕ, Bool, true, false, Some, slice_get}
+use Rattle.std.specs.Prelude.{◌≡◌, ◌≢◌, ◌↔◌, ⊤, ℕ, Bool, true, false, [], ◌∷◌, Some, slice_get}
 use Rattle.ra_ap_intern.specs.Handle.{ref_name}
 use Rattle.ra_ap_intern.specs.Name.{Name}
 use Rattle.ra_ap_intern.specs.State.{State}
 use Rattle.ra_ap_intern.specs.declared.kind.Values.{Values}
 use Rattle.ra_ap_intern.specs.declared.storage.Ref.{Ref}
-use Rattle.types.specs.Tree.{Tree, integers, booleans, unknowns, anything, functions, pairs, UnfoldsTo}
-use Rattle.types.specs.Types.{Shape, unknown, function, pair, shape_at}
+use Rattle.ra_ap_intern.specs.Tree.{Trees, tree, no_more, one_more}
+use Rattle.types.specs.Tree.{Tree, unknowns, UnfoldsTo}
+use Rattle.types.specs.Types.{Kind, Shape, unknown, function, pair, shape_at, unknown_shape}
 use Rattle.types.specs.declared.error.TypeError.{TypeError}
 use Rattle.types.specs.declared.error.TypeError.TheVariants as error
 use Rattle.types.specs.declared.unknowns.Known.TheVariants as known
 use Rattle.types.specs.declared.unknowns.Unknowns.{Unknowns}
 use Rattle.types.specs.declared.value.TypeNode.{TypeNode}
 
--- a tree with these in the place of unknown types
-abbrev pub replaced : (ℕ → Tree) → Tree → Tree
-replaced v integers = integers
-replaced v booleans = booleans
-replaced v (unknowns number) = v number
-replaced v (anything number) = anything number
-replaced v (functions t u) = functions (replaced v t) (replaced v u)
-replaced v (pairs t u) = pairs (replaced v t) (replaced v u)
+-- a kind over trees, or what is in the place of an unknown type
+abbrev pub placed : (ℕ → Tree) → Kind → Trees Kind → Tree
+placed v (unknown number) no_more = v number
+placed v kind parts = tree kind parts
+
+abbrev mutual
+  -- a tree with these in the place of unknown types
+  pub replaced : (ℕ → Tree) → Tree → Tree
+  replaced v (tree kind parts) = placed v kind (all_replaced v parts)
+
+  pub all_replaced : (ℕ → Tree) → Trees Kind → Trees Kind
+  all_replaced v no_more = no_more
+  all_replaced v (one_more t ts) = one_more (replaced v t) (all_replaced v ts)
 
 -- the name reads a type, and so do its parts
 abbrev pub HasTree : State TypeNode → Name → Type 0
@@ -29,7 +35,7 @@ HasTree s n = (t : Tree) × UnfoldsTo s n t
 module _ (s : State TypeNode) where
   -- the name's type is this tree, where unknown types are these
   abbrev pub StandsFor : (ℕ → Tree) → Name → Tree → Type 0
-  StandsFor v n tree = (t : Tree) × UnfoldsTo s n t × (tree ≡ replaced v t)
+  StandsFor v n whole = (t : Tree) × UnfoldsTo s n t × (whole ≡ replaced v t)
 
   -- unknown types are these by what is known of them
   abbrev pub Solves : Unknowns → (ℕ → Tree) → Type 0
@@ -75,9 +81,12 @@ abbrev pub IsOpen : Unknowns → ℕ → Type 0
 IsOpen u number = (level : ℕ) × (slice_get u.known.items number ≡ Some (known.Nothing level))
 
 -- a function, or a pair
+abbrev pub either : Bool → Kind
+either true = function
+either false = pair
+
 abbrev pub two : Bool → Name → Name → Shape
-two true first second = function first second
-two false first second = pair first second
+two kind first second = (either kind, first ∷ second ∷ [])
 
 -- two types of one kind, with these parts
 abbrev pub HaveParts : State TypeNode → (n m a b c d : Name) → Type 0
@@ -86,7 +95,7 @@ HaveParts s n m a b c d =
 
 -- a name that reads no unknown type
 abbrev pub IsNoUnknown : State TypeNode → Name → Type 0
-IsNoUnknown s n = (number : ℕ) → shape_at s n ≢ Some (unknown number)
+IsNoUnknown s n = (number : ℕ) → shape_at s n ≢ Some (unknown_shape number)
 
 -- an error that says of two types that nothing makes them equal
 abbrev pub IsConflict : TypeError → Type 0

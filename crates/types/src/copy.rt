@@ -3,7 +3,7 @@ ghost use Rattle.types.specs.Making.{ReadsOn};
 
 use crate::error::TypeError;
 use crate::store::Types;
-use crate::unify::MOST_STEPS;
+use crate::unify::{MOST_STEPS, parts_of};
 use crate::unknowns::Unknowns;
 use crate::value::{TypeNode, TypeRef};
 use std::alloc::Global;
@@ -45,18 +45,29 @@ pub fn copy(
         open: Vec::new(alloc),
         variables: 0,
     };
-    let root = copies.source(types, unknowns, root);
-    copies.open.push(root)?;
-    for _ in 0..MOST_STEPS {
-        let Some(next) = copies.open.pop() else {
-            return copies.copy_of(root).ok_or(TypeError::NoOperand);
-        };
-        copies.visit(types, unknowns, next)?;
-    }
-    Err(TypeError::TooLarge)
+    copies.run(types, unknowns, root)
 }
 
 impl Copies {
+    fn run(
+        &mut self,
+        types: &mut Types,
+        unknowns: &mut Unknowns,
+        root: TypeRef,
+    ) -> Result<TypeRef, TypeError>
+        ensures { ReadsOn types.old types.new }
+    {
+        let root = self.source(types, unknowns, root);
+        self.open.push(root)?;
+        for _ in 0..MOST_STEPS {
+            let Some(next) = self.open.pop() else {
+                return self.copy_of(root).ok_or(TypeError::NoOperand);
+            };
+            self.visit(types, unknowns, next)?;
+        }
+        Err(TypeError::TooLarge)
+    }
+
     fn copy_of(&self, handle: TypeRef) -> Option<TypeRef> {
         self.made.get(&handle).copied()
     }
@@ -96,20 +107,13 @@ impl Copies {
     ) -> Result<Option<TypeRef>, TypeError>
         ensures { ReadsOn types.old types.new }
     {
-        match types.get(handle).ok_or(TypeError::NoOperand)? {
-            TypeNode::Function(from, to) => {
-                match self.parts(types, unknowns, handle, from, to)? {
-                    Some((from, to)) => Ok(Some(types.function(from, to)?)),
-                    None => Ok(None),
-                }
-            }
-            TypeNode::Pair(first, second) => {
-                match self.parts(types, unknowns, handle, first, second)? {
-                    Some((first, second)) => Ok(Some(types.pair(first, second)?)),
-                    None => Ok(None),
-                }
-            }
-            node => Ok(Some(self.leaf(types, unknowns, handle, node)?)),
+        let Some((is_function, first, second)) = parts_of(types, handle) else {
+            return Ok(Some(self.leaf(types, unknowns, handle)?));
+        };
+        match self.parts(types, unknowns, handle, first, second)? {
+            Some((first, second)) if is_function => Ok(Some(types.function(first, second)?)),
+            Some((first, second)) => Ok(Some(types.pair(first, second)?)),
+            None => Ok(None),
         }
     }
 
@@ -139,10 +143,10 @@ impl Copies {
         types: &mut Types,
         unknowns: &mut Unknowns,
         handle: TypeRef,
-        node: TypeNode,
     ) -> Result<TypeRef, TypeError>
         ensures { ReadsOn types.old types.new }
     {
+        let node = types.get(handle).ok_or(TypeError::NoOperand)?;
         match (self.leaves, node) {
             (Leaves::Generalised { above }, TypeNode::Unknown(number)) => {
                 if unknowns.level(number).is_none_or(|level| level <= above) {

@@ -75,7 +75,7 @@ impl Inference {
             self.place = step.place;
             self.step(step.action)?;
         }
-        self.pop()
+        pop(&mut self.operands)
     }
 
     fn step(&mut self, action: Action) -> Result<(), TypeError>
@@ -99,26 +99,6 @@ impl Inference {
         }
     }
 
-    fn push(&mut self, handle: TypeRef) -> Result<(), TypeError>
-        ensures { Grows self.old.environment self.new.environment }
-    {
-        Ok(self.operands.push(handle)?)
-    }
-
-    fn pop(&mut self) -> Result<TypeRef, TypeError>
-        ensures { Grows self.old.environment self.new.environment }
-    {
-        self.operands.pop().ok_or(TypeError::NoOperand)
-    }
-
-    // The last two operands, in order.
-    fn pop_two(&mut self) -> Result<(TypeRef, TypeRef), TypeError>
-        ensures { Grows self.old.environment self.new.environment }
-    {
-        let second = self.pop()?;
-        Ok((self.pop()?, second))
-    }
-
     // A type has to be this one without parts.
     fn expect(&mut self, handle: TypeRef, node: TypeNode) -> Result<(), TypeError>
         ensures { Grows self.old.environment self.new.environment }
@@ -131,7 +111,7 @@ impl Inference {
         ensures { Grows self.old.environment self.new.environment }
     {
         let handle = self.environment.types.make(node)?;
-        self.push(handle)
+        push(&mut self.operands, handle)
     }
 
     // A new unknown type.
@@ -167,7 +147,7 @@ impl Inference {
             Some(Scheme::General(handle)) => self.copy(handle, Leaves::Instantiated { level })?,
             None => return Err(TypeError::Unbound(name)),
         };
-        self.push(handle)
+        push(&mut self.operands, handle)
     }
 
     fn begin_function(&mut self, name: SymbolRef) -> Result<(), TypeError>
@@ -180,30 +160,20 @@ impl Inference {
     fn end_function(&mut self) -> Result<(), TypeError>
         ensures { Grows self.old.environment self.new.environment }
     {
-        let body = self.pop()?;
-        let parameter = self.end_plain()?;
+        let body = pop(&mut self.operands)?;
+        let parameter = end_plain(&mut self.scope)?;
         let function = self.environment.types.function(parameter, body)?;
-        self.push(function)
-    }
-
-    // Ends the scope of a name that stood for one type.
-    fn end_plain(&mut self) -> Result<TypeRef, TypeError>
-        ensures { Grows self.old.environment self.new.environment }
-    {
-        match self.scope.leave()? {
-            Some(Scheme::Plain(handle)) => Ok(handle),
-            _ => Err(TypeError::NoOperand),
-        }
+        push(&mut self.operands, function)
     }
 
     fn apply(&mut self) -> Result<(), TypeError>
         ensures { Grows self.old.environment self.new.environment }
     {
-        let (function, argument) = self.pop_two()?;
+        let (function, argument) = pop_two(&mut self.operands)?;
         let function = self.unknowns.resolve(&self.environment.types, function);
         if let Some(TypeNode::Function(from, to)) = self.environment.types.get(function) {
             self.unify(from, argument)?;
-            return self.push(to);
+            return push(&mut self.operands, to);
         }
         self.apply_unknown(function, argument)
     }
@@ -214,43 +184,43 @@ impl Inference {
         let answer = self.fresh()?;
         let wanted = self.environment.types.function(argument, answer)?;
         self.unify(function, wanted)?;
-        self.push(answer)
+        push(&mut self.operands, answer)
     }
 
     fn operate(&mut self, operator: Operator) -> Result<(), TypeError>
         ensures { Grows self.old.environment self.new.environment }
     {
-        let (left, right) = self.pop_two()?;
+        let (left, right) = pop_two(&mut self.operands)?;
         self.expect(left, TypeNode::Integer)?;
         self.expect(right, TypeNode::Integer)?;
-        if operator.compares() {
-            self.leaf(TypeNode::Boolean)
+        self.leaf(if operator.compares() {
+            TypeNode::Boolean
         } else {
-            self.leaf(TypeNode::Integer)
-        }
+            TypeNode::Integer
+        })
     }
 
     fn pair(&mut self) -> Result<(), TypeError>
         ensures { Grows self.old.environment self.new.environment }
     {
-        let (first, second) = self.pop_two()?;
+        let (first, second) = pop_two(&mut self.operands)?;
         let pair = self.environment.types.pair(first, second)?;
-        self.push(pair)
+        push(&mut self.operands, pair)
     }
 
     fn condition(&mut self) -> Result<(), TypeError>
         ensures { Grows self.old.environment self.new.environment }
     {
-        let condition = self.pop()?;
+        let condition = pop(&mut self.operands)?;
         self.expect(condition, TypeNode::Boolean)
     }
 
     fn branches(&mut self) -> Result<(), TypeError>
         ensures { Grows self.old.environment self.new.environment }
     {
-        let (first, second) = self.pop_two()?;
+        let (first, second) = pop_two(&mut self.operands)?;
         self.unify(first, second)?;
-        self.push(first)
+        push(&mut self.operands, first)
     }
 
     fn begin_binding(&mut self, binding: Binding) -> Result<(), TypeError>
@@ -267,7 +237,7 @@ impl Inference {
     fn end_binding(&mut self, binding: Binding) -> Result<(), TypeError>
         ensures { Grows self.old.environment self.new.environment }
     {
-        let handle = self.pop()?;
+        let handle = pop(&mut self.operands)?;
         if binding.is_recursive {
             self.end_own(handle)?;
         }
@@ -280,21 +250,21 @@ impl Inference {
         self.level = self.level.saturating_sub(1);
         let above = self.level;
         let general = self.copy(handle, Leaves::Generalised { above })?;
-        self.push(general)
+        push(&mut self.operands, general)
     }
 
     // The name of a recursive binding stood for what was bound to it.
     fn end_own(&mut self, handle: TypeRef) -> Result<(), TypeError>
         ensures { Grows self.old.environment self.new.environment }
     {
-        let own = self.end_plain()?;
+        let own = end_plain(&mut self.scope)?;
         self.unify(own, handle)
     }
 
     fn begin_scope(&mut self, name: SymbolRef) -> Result<(), TypeError>
         ensures { Grows self.old.environment self.new.environment }
     {
-        let general = self.pop()?;
+        let general = pop(&mut self.operands)?;
         Ok(self.scope.enter(name, Scheme::General(general))?)
     }
 
@@ -335,5 +305,27 @@ impl Inference {
             Some(TypeNode::Pair(first, second)) => Ok((first, second)),
             _ => Err(TypeError::NoOperand),
         }
+    }
+}
+
+fn push(operands: &mut Vec<TypeRef>, handle: TypeRef) -> Result<(), TypeError> {
+    Ok(operands.push(handle)?)
+}
+
+fn pop(operands: &mut Vec<TypeRef>) -> Result<TypeRef, TypeError> {
+    operands.pop().ok_or(TypeError::NoOperand)
+}
+
+// The last two operands, in order.
+fn pop_two(operands: &mut Vec<TypeRef>) -> Result<(TypeRef, TypeRef), TypeError> {
+    let second = pop(operands)?;
+    Ok((pop(operands)?, second))
+}
+
+// Ends the scope of a name that stood for one type.
+fn end_plain(scope: &mut Scope) -> Result<TypeRef, TypeError> {
+    match scope.leave()? {
+        Some(Scheme::Plain(handle)) => Ok(handle),
+        _ => Err(TypeError::NoOperand),
     }
 }

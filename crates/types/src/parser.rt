@@ -133,53 +133,71 @@ struct Parser {
 /// The next declaration of a text, whose names are added to the table. `OutOfMemory` or `Refused`
 /// when there is no memory.
 pub fn parse(alloc: Global, names: &mut SymbolTable, words: &mut Words) -> Result<Parsed, Fault> {
-    let mut state = State::Declaration;
     let mut parser = Parser {
         begun: Vec::new(alloc),
         steps: Vec::new(alloc),
     };
-    for _ in 0..u64::MAX {
-        let (token, place) = next_token(names, words)?;
-        state = parser.take(state, token, place)?;
-        match (state, token) {
-            (State::Declaration, Token::Semicolon) => {}
-            (_, Token::Semicolon | Token::End) => break,
-            _ => {}
-        }
-    }
-    let Parser { steps, .. } = parser;
+    let state = parser.run(names, words)?;
     Ok(match state {
-        State::End(name) => Parsed::Declaration(Declaration { name, steps }),
+        State::End(name) => Parsed::Declaration(Declaration {
+            name,
+            steps: parser.steps,
+        }),
         State::Wrong(place, expected) => Parsed::Wrong(place, expected),
         _ => Parsed::End,
     })
 }
 
 impl Parser {
+    // What comes after the semicolon or the end.
+    fn run(&mut self, names: &mut SymbolTable, words: &mut Words) -> Result<State, Fault> {
+        let mut state = State::Declaration;
+        for _ in 0..u64::MAX {
+            let (token, place) = next_token(names, words)?;
+            state = self.take(state, token, place)?;
+            match (state, token) {
+                (State::Declaration, Token::Semicolon) => {}
+                (_, Token::Semicolon | Token::End) => break,
+                _ => {}
+            }
+        }
+        Ok(state)
+    }
+
     // Takes the next token, and answers what comes after it.
     fn take(&mut self, state: State, token: Token, place: Place) -> Result<State, AllocError> {
-        match (state, token) {
-            (State::Declaration, Token::End | Token::Semicolon) => Ok(State::Declaration),
-            (State::Declaration | State::Operand, Token::Let) => Ok(State::Name),
-            (State::Declaration | State::Name, Token::Rec) => Ok(State::RecursiveName),
-            (State::Declaration, Token::Name(name)) => self.begin_binding(name, place, false),
-            (State::Name, Token::Name(name)) => self.begin_binding(name, place, false),
-            (State::RecursiveName, Token::Name(name)) => self.begin_binding(name, place, true),
-            (State::Parameters, Token::Name(name)) => {
-                self.begin_function(name, place, State::Parameters)
-            }
-            (State::FirstParameter, Token::Name(name)) => {
+        match state {
+            State::Operand => self.operand(token, place),
+            State::Operator => self.operator(token, place),
+            State::Wrong(..) => Ok(state),
+            _ => self.head(state, token, place),
+        }
+    }
+
+    // Takes a token before the body of a declaration, a binding or a function.
+    fn head(&mut self, state: State, token: Token, place: Place) -> Result<State, AllocError> {
+        if let Token::Name(name) = token {
+            return self.name(state, name, place);
+        }
+        Ok(match (state, token) {
+            (State::Declaration, Token::End | Token::Semicolon) => State::Declaration,
+            (State::Declaration, Token::Let) => State::Name,
+            (State::Declaration | State::Name, Token::Rec) => State::RecursiveName,
+            (State::Parameters, Token::Equals) => State::Operand,
+            (State::OtherParameters, Token::Arrow) => State::Operand,
+            _ => State::Wrong(place, state.text()),
+        })
+    }
+
+    // Takes a name there.
+    fn name(&mut self, state: State, name: SymbolRef, place: Place) -> Result<State, AllocError> {
+        match state {
+            State::Declaration | State::Name => self.begin_binding(name, place, false),
+            State::RecursiveName => self.begin_binding(name, place, true),
+            State::Parameters => self.begin_function(name, place, State::Parameters),
+            State::FirstParameter | State::OtherParameters => {
                 self.begin_function(name, place, State::OtherParameters)
             }
-            (State::OtherParameters, Token::Name(name)) => {
-                self.begin_function(name, place, State::OtherParameters)
-            }
-            (State::Parameters, Token::Equals) | (State::OtherParameters, Token::Arrow) => {
-                Ok(State::Operand)
-            }
-            (State::Operand, _) => self.operand(token, place),
-            (State::Operator, _) => self.operator(token, place),
-            (State::Wrong(..), _) => Ok(state),
             _ => Ok(State::Wrong(place, state.text())),
         }
     }
@@ -232,6 +250,7 @@ impl Parser {
             Token::Boolean => self.atom(Action::Boolean, place),
             Token::Open => self.begin(Frame::Parenthesis, place),
             Token::If => self.begin(Frame::Condition, place),
+            Token::Let => Ok(State::Name),
             Token::Function => Ok(State::FirstParameter),
             _ => Ok(State::Wrong(place, State::Operand.text())),
         }

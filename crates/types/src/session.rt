@@ -25,14 +25,9 @@ const FEW_TYPES: usize = 1000;
 
 /// The answers to all declarations of a text, a line each.
 pub fn answer_all(alloc: Global, text: &str) -> Result<String, Fault> {
-    let mut session = Session::new(alloc)?;
-    let mut words = Words::new(text, Place::START);
-    for _ in 0..u64::MAX {
-        if !session.answer(&mut words)? {
-            break;
-        }
-    }
-    session.finish()
+    let mut session = Session::new(alloc);
+    session.answer_all(text)?;
+    Ok(session.out)
 }
 
 /// The names, what is declared, and the answers so far.
@@ -48,17 +43,33 @@ struct Session {
 }
 
 impl Session {
-    fn new(alloc: Global) -> Result<Session, Fault> {
-        let mut session = Session {
+    fn new(alloc: Global) -> Session {
+        Session {
             alloc,
             names: SymbolTable::new(alloc, NAMES),
             inference: Inference::new(alloc, TYPES),
             kept: 0,
             removed: 0,
             out: String::new(alloc),
-        };
-        session.declare_parts()?;
-        Ok(session)
+        }
+    }
+
+    // Answers all declarations, with a last line on what was kept.
+    fn answer_all(&mut self, text: &str) -> Result<(), Fault> {
+        self.declare_parts()?;
+        let mut words = Words::new(text, Place::START);
+        for _ in 0..u64::MAX {
+            if !self.answer(&mut words)? {
+                break;
+            }
+        }
+        self.collect()?;
+        let names = self.inference.environment.declared.len();
+        let (kept, removed) = (self.kept, self.removed);
+        Ok(write!(
+            self.out,
+            "{names} names, {kept} types, {removed} types removed\n"
+        )?)
     }
 
     // fst : 'a * 'b -> 'a; snd : 'a * 'b -> 'b
@@ -122,24 +133,23 @@ impl Session {
         ensures { self.new.inference ≡ self.old.inference }
     {
         let Failure { place, error } = failure;
-        let types = &self.inference.environment.types;
-        match error {
+        let (before, first, between, second) = match error {
             TypeError::OutOfMemory(error) => return Err(Fault::OutOfMemory(error)),
             TypeError::Refused(why) => return Err(Fault::Refused(why)),
             TypeError::Unbound(name) => {
-                write!(self.out, "{place}: {error} {}\n", name.display(&self.names))?;
+                let name = name.display(&self.names);
+                return Ok(write!(self.out, "{place}: {error} {name}\n")?);
             }
-            TypeError::Clash(first, second) => {
-                let (first, second) = (types.written(first), types.written(second));
-                write!(self.out, "{place}: {error} {first} with {second}\n")?;
-            }
-            TypeError::Infinite(first, second) => {
-                let (first, second) = (types.written(first), types.written(second));
-                write!(self.out, "{place}: {error}: {first} = {second}\n")?;
-            }
-            _ => write!(self.out, "{place}: {error}\n")?,
-        }
-        Ok(())
+            TypeError::Clash(first, second) => (" ", first, " with ", second),
+            TypeError::Infinite(first, second) => (": ", first, " = ", second),
+            _ => return Ok(write!(self.out, "{place}: {error}\n")?),
+        };
+        let types = &self.inference.environment.types;
+        let (first, second) = (types.written(first), types.written(second));
+        Ok(write!(
+            self.out,
+            "{place}: {error}{before}{first}{between}{second}\n"
+        )?)
     }
 
     fn collect_if_many(&mut self) -> Result<(), Fault>
@@ -162,22 +172,5 @@ impl Session {
         self.kept = self.inference.environment.types.len();
         self.removed = self.removed.saturating_add(collected.removed);
         Ok(())
-    }
-
-    // The answers, with a last line on what was kept.
-    fn finish(mut self) -> Result<String, Fault> {
-        self.collect()?;
-        let names = self.inference.environment.declared.len();
-        let Session {
-            mut out,
-            kept,
-            removed,
-            ..
-        } = self;
-        write!(
-            out,
-            "{names} names, {kept} types, {removed} types removed\n"
-        )?;
-        Ok(out)
     }
 }

@@ -3,7 +3,7 @@ ghost use Rattle.std.specs.Prelude.{◌≡◌, ◌≢◌, ℕ, Bool, Some, IfErr
 ghost use Rattle.std.specs.Bool.{OnFalse, OnTrue};
 ghost use Rattle.ra_ap_intern.specs.Handle.{ref_name};
 ghost use Rattle.ra_ap_intern.specs.Name.{Name as TypeName};
-ghost use Rattle.types.specs.Types.{shape_at, unknown as unknown_shape};
+ghost use Rattle.types.specs.Types.{shape_at, unknown_shape};
 ghost use Rattle.types.specs.Unifying.{AreApart, Binds, HasTree, HaveNoUnifier, HaveParts, IsConflict, IsNever, IsNoUnknown, IsSolvable, Unifies, two};
 
 use crate::error::TypeError;
@@ -93,8 +93,8 @@ fn parts(
     Some(((a, b), (c, d)))
 }
 
-// Whether a type is a function, and its parts. None where it is neither a function nor a pair.
-fn parts_of(types: &Types, handle: TypeRef) -> Option<(bool, TypeRef, TypeRef)>
+/// Whether a type is a function, and its parts. None where it is neither a function nor a pair.
+pub fn parts_of(types: &Types, handle: TypeRef) -> Option<(bool, TypeRef, TypeRef)>
     ensures parts { IfSome result (λ r. shape_at types.now (ref_name handle)
         ≡ Some (two r.0 (ref_name r.1) (ref_name r.2))) }
     ensures none { IfNone result ((kind : Bool) (a b : TypeName) →

@@ -41,21 +41,36 @@ impl fmt::Display for Written<'_> {
             .map_err(AllocError::from)?;
         for _ in 0..MOST_PIECES {
             match open.pop() {
+                Some(piece) => self.write(f, &mut open, piece)?,
                 None => return Ok(()),
-                Some(Piece::Text(text)) => f.write_str(text)?,
-                Some(Piece::Type(handle, around)) => match self.types.get(handle) {
-                    None => f.write_str("?")?,
-                    Some(TypeNode::Integer) => f.write_str("int")?,
-                    Some(TypeNode::Boolean) => f.write_str("bool")?,
-                    Some(TypeNode::Unknown(number)) => write!(f, "_{number}")?,
-                    Some(TypeNode::Any(number)) => write_variable(f, number)?,
-                    Some(node) => open_parts(&mut open, node, around)?,
-                },
             }
         }
         match open.pop() {
-            None => Ok(()),
             Some(_) => f.write_str(".."),
+            None => Ok(()),
+        }
+    }
+}
+
+impl Written<'_> {
+    // Writes a piece, or leaves those open that it is made of.
+    fn write<W: fmt::Write>(
+        &self,
+        f: &mut fmt::Formatter<W>,
+        open: &mut Vec<Piece>,
+        piece: Piece,
+    ) -> fmt::Result {
+        let (handle, around) = match piece {
+            Piece::Text(text) => return f.write_str(text),
+            Piece::Type(handle, around) => (handle, around),
+        };
+        match self.types.get(handle) {
+            None => f.write_str("?"),
+            Some(TypeNode::Integer) => f.write_str("int"),
+            Some(TypeNode::Boolean) => f.write_str("bool"),
+            Some(TypeNode::Unknown(number)) => write!(f, "_{number}"),
+            Some(TypeNode::Any(number)) => write_variable(f, number),
+            Some(node) => Ok(open_parts(open, node, around)?),
         }
     }
 }

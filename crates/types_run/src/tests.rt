@@ -2,27 +2,31 @@
 mod random;
 mod reference;
 
-use crate::tests::random::{Generator, write_expression};
+use crate::tests::random::{Generator, put, write_expression};
 use crate::tests::reference::{FUEL, Kind, Reference};
 use ra_ap_intern::{SymbolRef, SymbolTable};
-use std::alloc::{AllocError, Global};
+use std::alloc::Global;
 use std::process::Abort;
-use std::test::Fail;
 use types::environment::Environment;
 use types::fault::Fault;
 use types::session::answer_all;
 use types::store::Types;
 use types::value::{TypeNode, TypeRef};
 
+// The answers to a text.
+fn answers(rt: &impl Abort, alloc: Global, text: &str) -> String {
+    answer_all(alloc, text).expect(rt, "memory")
+}
+
 // The first line of the answers to a text.
-fn first_answer(alloc: Global, text: &str) -> Result<String, Fail> {
-    let told = answer_all(alloc, text)?;
+fn first_answer(rt: &impl Abort, alloc: Global, text: &str) -> String {
+    let told = answers(rt, alloc, text);
     let line = told.as_str().lines().next().unwrap_or("");
-    Ok(String::from_str(alloc, line)?)
+    String::from_str(alloc, line).expect(rt, "memory")
 }
 
 #[test]
-fn textbook_examples(rt: HostRuntime) -> Result<(), Fail> {
+fn textbook_examples(rt: HostRuntime) {
     for (text, answer) in [
         ("id x = x;", "id : 'a -> 'a"),
         ("const x y = x;", "const : 'a -> 'b -> 'a"),
@@ -74,56 +78,52 @@ fn textbook_examples(rt: HostRuntime) -> Result<(), Fail> {
         ("x = (1, 2;", "1:10: expected an operator or )"),
         ("x = 1", "1:6: expected an operator or ;"),
     ] {
-        assert_eq!(rt; first_answer(rt.alloc(), text)?.as_str(), answer);
+        assert_eq!(rt; first_answer(&rt, rt.alloc(), text).as_str(), answer);
     }
-    Ok(())
 }
 
 // A declaration of the text in the middle, with the first of the three so often before it, and the
 // last so often behind it.
 fn nested(
+    rt: &impl Abort,
     alloc: Global,
     (before, middle, after): (&str, &str, &str),
     count: u32,
-) -> Result<String, AllocError> {
-    let mut text = String::from_str(alloc, "x = ")?;
+) -> String {
+    let mut text = String::new(alloc);
+    put(rt, &mut text, "x = ");
     for _ in 0..count {
-        text.push_str(before)?;
+        put(rt, &mut text, before);
     }
-    text.push_str(middle)?;
+    put(rt, &mut text, middle);
     for _ in 0..count {
-        text.push_str(after)?;
+        put(rt, &mut text, after);
     }
-    text.push(';')?;
-    Ok(text)
+    put(rt, &mut text, ";");
+    text
 }
 
 // Of a type of more than a hundred pieces the beginning is written, with dots behind it.
 #[test]
-fn long_types_are_cut(rt: HostRuntime) -> Result<(), Fail> {
+fn long_types_are_cut(rt: HostRuntime) {
     for (count, end) in [(33, " -> int"), (34, " -> ..")] {
-        let text = nested(rt.alloc(), ("fun a -> ", "1", ""), count)?;
-        assert!(rt;
-            first_answer(rt.alloc(), text.as_str())?
-                .as_str()
-                .ends_with(end)
-        );
+        let text = nested(&rt, rt.alloc(), ("fun a -> ", "1", ""), count);
+        let answer = first_answer(&rt, rt.alloc(), text.as_str());
+        assert!(rt; answer.as_str().ends_with(end));
     }
-    Ok(())
 }
 
 #[test]
-fn deep_parentheses_are_answered(rt: HostRuntime) -> Result<(), Fail> {
-    let text = nested(rt.alloc(), ("(", "1", ")"), 100_000)?;
+fn deep_parentheses_are_answered(rt: HostRuntime) {
+    let text = nested(&rt, rt.alloc(), ("(", "1", ")"), 100_000);
     assert_eq!(rt;
-        first_answer(rt.alloc(), text.as_str())?.as_str(),
+        first_answer(&rt, rt.alloc(), text.as_str()).as_str(),
         "x : int"
     );
-    Ok(())
 }
 
 #[test]
-fn deep_texts_are_answered(rt: HostRuntime) -> Result<(), Fail> {
+fn deep_texts_are_answered(rt: HostRuntime) {
     for (parts, begins) in [
         (("fst (1, ", "true", ")"), "x : int"),
         (("let y = 1 in ", "y", ""), "x : int"),
@@ -133,11 +133,10 @@ fn deep_texts_are_answered(rt: HostRuntime) -> Result<(), Fail> {
         (("fun y -> ", "y", ""), "x : 'a -> 'b -> 'c -> "),
         (("(", "1", ", 1)"), "x : (((((((((("),
     ] {
-        let text = nested(rt.alloc(), parts, 5_000)?;
-        let answer = first_answer(rt.alloc(), text.as_str())?;
+        let text = nested(&rt, rt.alloc(), parts, 5_000);
+        let answer = first_answer(&rt, rt.alloc(), text.as_str());
         assert!(rt; answer.as_str().starts_with(begins), "{answer}");
     }
-    Ok(())
 }
 
 fn has_parts(types: &Types, handle: TypeRef, first: TypeRef, second: TypeRef) -> bool {
@@ -166,27 +165,26 @@ fn declared(
 }
 
 #[test]
-fn a_collection_keeps_what_is_declared(rt: HostRuntime) -> Result<(), Fail> {
+fn a_collection_keeps_what_is_declared(rt: HostRuntime) {
     let names = SymbolTable::new(rt.alloc(), 1);
     let first = names.get("i32").expect(&rt, "a preset");
     let second = names.get("str").expect(&rt, "a preset");
-    let (mut environment, [integer, pair, kept, gone]) = declared(rt.alloc(), first, second)?;
-    let told = environment.collect(rt.alloc())?;
+    let made = declared(rt.alloc(), first, second);
+    let (mut environment, [integer, pair, kept, gone]) = made.expect(&rt, "memory");
+    let told = environment.collect(rt.alloc()).expect(&rt, "memory");
     assert_eq!(rt; (told.visits, told.removed), (3, 1));
     assert!(rt; environment.look_up(first) == Some(kept));
     assert!(rt; has_parts(&environment.types, kept, pair, integer));
     assert!(rt; has_parts(&environment.types, pair, integer, integer));
     assert!(rt; environment.types.get(gone).is_none());
-    Ok(())
 }
 
 #[test]
-fn equal_schemes_are_one(rt: HostRuntime) -> Result<(), Fail> {
+fn equal_schemes_are_one(rt: HostRuntime) {
     let text = "f x y = x; g = fun first -> (fun second -> let same = first in same);";
-    let told = answer_all(rt.alloc(), text)?;
+    let told = answers(&rt, rt.alloc(), text);
     // 'a, 'b, their pair, the types of fst and snd, 'b -> 'a, and the one type of f and g.
     assert!(rt; told.as_str().contains("\n4 names, 7 types, "), "{told}");
-    Ok(())
 }
 
 // How many answers there were of each kind.
@@ -200,34 +198,36 @@ struct Counts {
 
 // Appends the answer that the reference gives, and counts it.
 fn refer(
+    rt: &impl Abort,
     alloc: Global,
     out: &mut String,
     reference: &mut Reference,
     generator: &Generator,
     at: usize,
     counts: &mut Counts,
-) -> Result<(), AllocError> {
-    match reference.declare(3, generator.all.as_slice(), at) {
+) {
+    let text = match reference.declare(rt, 3, generator.all.as_slice(), at) {
         Ok(place) => {
             counts.typed = counts.typed.saturating_add(1);
-            out.push_str("f : ")?;
-            reference.write(FUEL, out, &mut Vec::new(alloc), place, 0)?;
+            put(rt, out, "f : ");
+            reference.write(rt, FUEL, out, &mut Vec::new(alloc), (place, 0));
+            ""
         }
         Err(Kind::Unbound) => {
             counts.unbound = counts.unbound.saturating_add(1);
-            out.push_str("unbound name ")?;
+            "unbound name "
         }
         Err(Kind::Clash) => {
             counts.clashes = counts.clashes.saturating_add(1);
-            out.push_str("can't unify ")?;
+            "can't unify "
         }
         Err(Kind::Infinite) => {
             counts.infinite = counts.infinite.saturating_add(1);
-            out.push_str("infinite type: ")?;
+            "infinite type: "
         }
-        Err(Kind::Limit) => out.push_str("limit")?,
-    }
-    out.push('\n')
+    };
+    put(rt, out, text);
+    put(rt, out, "\n");
 }
 
 // The same type, or its beginning, or the same kind of error.
@@ -241,19 +241,20 @@ fn is_same(answer: &str, wanted: &str) -> bool {
 
 // Appends a declaration to a text, and the reference's answer to others.
 fn add_declaration(
+    rt: &impl Abort,
     alloc: Global,
     (text, wanted): (&mut String, &mut String),
     reference: &mut Reference,
     generator: &mut Generator,
     depth: u32,
     counts: &mut Counts,
-) -> Result<(), AllocError> {
+) {
     generator.all.clear();
-    let at = generator.make(depth)?;
-    text.push_str("f = ")?;
-    write_expression(text, FUEL, generator.all.as_slice(), at)?;
-    text.push_str(";\n")?;
-    refer(alloc, wanted, reference, generator, at, counts)
+    let at = generator.make(rt, depth);
+    put(rt, text, "f = ");
+    write_expression(rt, text, FUEL, generator.all.as_slice(), at);
+    put(rt, text, ";\n");
+    refer(rt, alloc, wanted, reference, generator, at, counts);
 }
 
 fn compare(rt: &impl Abort, alloc: Global, seed: u64, counts: &mut Counts) {
@@ -264,11 +265,17 @@ fn compare(rt: &impl Abort, alloc: Global, seed: u64, counts: &mut Counts) {
     for step in 0..20 {
         let texts = (&mut text, &mut wanted);
         let depth = 1 + step % 5;
-        add_declaration(alloc, texts, &mut reference, &mut generator, depth, counts).expect(
-            rt, "memory",
+        add_declaration(
+            rt,
+            alloc,
+            texts,
+            &mut reference,
+            &mut generator,
+            depth,
+            counts,
         );
     }
-    let told = answer_all(alloc, text.as_str()).expect(rt, "memory");
+    let told = answers(rt, alloc, text.as_str());
     for (answer, wanted) in told.as_str().lines().zip(wanted.as_str().lines()) {
         assert!(rt; is_same(answer, wanted), "{answer} for {wanted} in\n{text}");
     }

@@ -1,5 +1,6 @@
 //! Random expressions.
-use std::alloc::{AllocError, Global};
+use std::alloc::Global;
+use std::process::Abort;
 
 /// An expression of an arena, over the places of its parts.
 #[derive(Clone, Copy)]
@@ -44,10 +45,10 @@ impl Generator {
         (self.seed >> 33) % end.max(1)
     }
 
-    fn add(&mut self, expression: Expression) -> Result<usize, AllocError> {
+    fn add(&mut self, rt: &impl Abort, expression: Expression) -> usize {
         let place = self.all.len();
-        self.all.push(expression)?;
-        Ok(place)
+        self.all.push(expression).expect(rt, "memory");
+        place
     }
 
     fn name(&mut self) -> u8 {
@@ -55,7 +56,7 @@ impl Generator {
     }
 
     // Mostly a name that is bound.
-    fn leaf(&mut self) -> Result<usize, AllocError> {
+    fn leaf(&mut self, rt: &impl Abort) -> usize {
         let any = self.name();
         let choice = self.below(50);
         let last = self.bound.len().saturating_sub(1);
@@ -68,102 +69,118 @@ impl Generator {
             1..10 => Expression::Boolean,
             _ => bound.map_or(Expression::Integer, Expression::Name),
         };
-        self.add(leaf)
+        self.add(rt, leaf)
     }
 
     // An expression in which a name is bound.
     #[cycle(generator)]
-    fn within(&mut self, name: u8, depth: u32) -> Result<usize, AllocError> {
-        self.bound.push(name)?;
-        let place = self.make(depth)?;
+    fn within(&mut self, rt: &impl Abort, name: u8, depth: u32) -> usize {
+        self.bound.push(name).expect(rt, "memory");
+        let place = self.make(rt, depth);
         self.bound.pop();
-        Ok(place)
+        place
+    }
+
+    #[cycle(generator)]
+    fn two(&mut self, rt: &impl Abort, depth: u32) -> (usize, usize) {
+        (self.make(rt, depth), self.make(rt, depth))
     }
 
     /// The place of a new expression that is at most so deep.
     #[cycle(generator)]
-    pub fn make(&mut self, depth: u32) -> Result<usize, AllocError> {
+    pub fn make(&mut self, rt: &impl Abort, depth: u32) -> usize {
         if depth == 0 {
-            return self.leaf();
+            return self.leaf(rt);
         }
         let depth = depth - 1;
         let name = self.name();
-        let choice = self.below(14);
-        let expression = match choice {
-            0 => return self.leaf(),
-            1..5 => Expression::Lambda(name, self.within(name, depth)?),
-            5 => Expression::Let(name, self.make(depth)?, self.within(name, depth)?),
-            6 => Expression::LetRec(name, self.within(name, depth)?, self.within(name, depth)?),
-            7 => Expression::If(self.make(depth)?, self.make(depth)?, self.make(depth)?),
-            8 => Expression::Operate(false, self.make(depth)?, self.make(depth)?),
-            9 => Expression::Operate(true, self.make(depth)?, self.make(depth)?),
-            10 => Expression::Pair(self.make(depth)?, self.make(depth)?),
-            _ => Expression::Apply(self.make(depth)?, self.make(depth)?),
+        let expression = match self.below(14) {
+            0 => return self.leaf(rt),
+            1..5 => Expression::Lambda(name, self.within(rt, name, depth)),
+            5 => {
+                let bound = self.make(rt, depth);
+                Expression::Let(name, bound, self.within(rt, name, depth))
+            }
+            6 => {
+                let bound = self.within(rt, name, depth);
+                Expression::LetRec(name, bound, self.within(rt, name, depth))
+            }
+            7 => {
+                let condition = self.make(rt, depth);
+                let (first, second) = self.two(rt, depth);
+                Expression::If(condition, first, second)
+            }
+            choice => {
+                let (first, second) = self.two(rt, depth);
+                match choice {
+                    8 => Expression::Operate(false, first, second),
+                    9 => Expression::Operate(true, first, second),
+                    10 => Expression::Pair(first, second),
+                    _ => Expression::Apply(first, second),
+                }
+            }
         };
-        self.add(expression)
+        self.add(rt, expression)
     }
+}
+
+/// Appends a text.
+pub fn put(rt: &impl Abort, out: &mut String, text: &str) {
+    out.push_str(text).expect(rt, "memory");
 }
 
 /// Appends an expression as it is written, each part in parentheses.
 pub fn write_expression(
+    rt: &impl Abort,
     out: &mut String,
     fuel: u32,
     all: &[Expression],
     at: usize,
-) -> Result<(), AllocError> {
-    if fuel == 0 {
-        return Ok(());
-    }
-    let Some(expression) = all.get(at) else {
-        return Ok(());
-    };
-    out.push('(')?;
-    match *expression {
-        Expression::Integer => out.push_str("7")?,
-        Expression::Boolean => out.push_str("true")?,
-        Expression::Name(name) => out.push_str(name_text(name))?,
+) {
+    assert!(rt; fuel > 0);
+    let expression = *all.get(at).expect(rt, "an expression");
+    put(rt, out, "(");
+    match expression {
+        Expression::Integer => put(rt, out, "7"),
+        Expression::Boolean => put(rt, out, "true"),
+        Expression::Name(name) => put(rt, out, name_text(name)),
         Expression::Lambda(name, body) => {
-            let name = name_text(name);
-            write!(out, "fun {name} -> ")?;
-            write_expression(out, fuel - 1, all, body)?;
+            put(rt, out, "fun ");
+            put(rt, out, name_text(name));
+            put(rt, out, " -> ");
+            write_expression(rt, out, fuel - 1, all, body);
         }
         Expression::Apply(first, second)
         | Expression::Let(_, first, second)
         | Expression::LetRec(_, first, second)
         | Expression::Pair(first, second)
         | Expression::Operate(_, first, second) => {
-            let (before, between) = words(*expression);
-            let name = bound_name(*expression);
-            write!(out, "{before}{name}{between}")?;
-            write_expression(out, fuel - 1, all, first)?;
-            out.push_str(sign(*expression))?;
-            write_expression(out, fuel - 1, all, second)?;
+            let (before, name, between) = words(expression);
+            put(rt, out, before);
+            put(rt, out, name);
+            put(rt, out, between);
+            write_expression(rt, out, fuel - 1, all, first);
+            put(rt, out, sign(expression));
+            write_expression(rt, out, fuel - 1, all, second);
         }
         Expression::If(condition, first, second) => {
-            out.push_str("if ")?;
-            write_expression(out, fuel - 1, all, condition)?;
-            out.push_str(" then ")?;
-            write_expression(out, fuel - 1, all, first)?;
-            out.push_str(" else ")?;
-            write_expression(out, fuel - 1, all, second)?;
+            put(rt, out, "if ");
+            write_expression(rt, out, fuel - 1, all, condition);
+            put(rt, out, " then ");
+            write_expression(rt, out, fuel - 1, all, first);
+            put(rt, out, " else ");
+            write_expression(rt, out, fuel - 1, all, second);
         }
     }
-    out.push(')')
+    put(rt, out, ")");
 }
 
-// What is written before the first of two parts.
-fn words(expression: Expression) -> (&'static str, &'static str) {
+// What is written before the first of two parts, and the name that is bound in it.
+fn words(expression: Expression) -> (&'static str, &'static str, &'static str) {
     match expression {
-        Expression::Let(..) => ("let ", " = "),
-        Expression::LetRec(..) => ("let rec ", " = "),
-        _ => ("", ""),
-    }
-}
-
-fn bound_name(expression: Expression) -> &'static str {
-    match expression {
-        Expression::Let(name, ..) | Expression::LetRec(name, ..) => name_text(name),
-        _ => "",
+        Expression::Let(name, ..) => ("let ", name_text(name), " = "),
+        Expression::LetRec(name, ..) => ("let rec ", name_text(name), " = "),
+        _ => ("", "", ""),
     }
 }
 

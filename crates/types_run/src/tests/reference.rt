@@ -1,7 +1,8 @@
 //! Inference as a textbook has it: types are trees, which are compared part by part, and what is
 //! unknown is general where nothing in scope speaks of it.
-use crate::tests::random::Expression;
-use std::alloc::{AllocError, AllocFailed, Global};
+use crate::tests::random::{Expression, put};
+use std::alloc::Global;
+use std::process::Abort;
 
 /// A type of an arena, over the places of its parts. Equal types may have many places.
 #[derive(Clone, Copy)]
@@ -15,19 +16,22 @@ pub enum Plain {
     Pair(usize, usize),
 }
 
+impl Plain {
+    // A type of the same kind over other parts.
+    fn over(self, a: usize, b: usize) -> Plain {
+        match self {
+            Plain::Function(..) => Plain::Function(a, b),
+            _ => Plain::Pair(a, b),
+        }
+    }
+}
+
 /// Why an expression has no type.
-#[derive(Clone, Copy, PartialEq, Eq, Debug)]
+#[derive(Clone, Copy)]
 pub enum Kind {
     Unbound,
     Clash,
     Infinite,
-    Limit,
-}
-
-impl<T: Drop> From<AllocFailed<T>> for Kind {
-    fn from(_error: AllocFailed<T>) -> Kind {
-        Kind::Limit
-    }
 }
 
 /// Types, and the names in scope, the innermost last.
@@ -47,10 +51,10 @@ impl Reference {
         }
     }
 
-    fn add(&mut self, plain: Plain) -> Result<usize, Kind> {
+    fn add(&mut self, rt: &impl Abort, plain: Plain) -> usize {
         let place = self.types.len();
-        self.types.push(plain)?;
-        Ok(place)
+        self.types.push(plain).expect(rt, "memory");
+        place
     }
 
     // Where a type stands that is known to be another.
@@ -86,37 +90,19 @@ impl Reference {
         }
     }
 
-    fn unify(&mut self, fuel: u32, left: usize, right: usize) -> Result<(), Kind> {
+    fn unify(&mut self, rt: &impl Abort, fuel: u32, left: usize, right: usize) -> Result<(), Kind> {
+        assert!(rt; fuel > 0);
         let (left, first) = self.find(left);
         let (right, second) = self.find(right);
-        if fuel == 0 {
-            return Err(Kind::Limit);
-        }
-        match first {
-            Plain::Unknown => self.bind(left, right),
-            Plain::Function(a, b) => match second {
-                Plain::Function(c, d) => {
-                    self.unify(fuel - 1, a, c)?;
-                    self.unify(fuel - 1, b, d)
-                }
-                _ => self.bind_only(right, second, left),
-            },
-            Plain::Pair(a, b) => match second {
-                Plain::Pair(c, d) => {
-                    self.unify(fuel - 1, a, c)?;
-                    self.unify(fuel - 1, b, d)
-                }
-                _ => self.bind_only(right, second, left),
-            },
-            Plain::Integer if matches!(second, Plain::Integer) => Ok(()),
-            Plain::Boolean if matches!(second, Plain::Boolean) => Ok(()),
-            _ => self.bind_only(right, second, left),
-        }
-    }
-
-    fn bind_only(&mut self, place: usize, plain: Plain, to: usize) -> Result<(), Kind> {
-        match plain {
-            Plain::Unknown => self.bind(place, to),
+        match (first, second) {
+            (Plain::Unknown, _) => self.bind(left, right),
+            (_, Plain::Unknown) => self.bind(right, left),
+            (Plain::Function(a, b), Plain::Function(c, d))
+            | (Plain::Pair(a, b), Plain::Pair(c, d)) => {
+                self.unify(rt, fuel - 1, a, c)?;
+                self.unify(rt, fuel - 1, b, d)
+            }
+            (Plain::Integer, Plain::Integer) | (Plain::Boolean, Plain::Boolean) => Ok(()),
             _ => Err(Kind::Clash),
         }
     }
@@ -140,243 +126,241 @@ impl Reference {
     }
 
     // A copy in which what is unknown and not free is any type.
-    fn general(&mut self, fuel: u32, place: usize) -> Result<usize, Kind> {
+    fn general(&mut self, rt: &impl Abort, fuel: u32, place: usize) -> usize {
+        assert!(rt; fuel > 0);
         let (place, plain) = self.find(place);
-        if fuel == 0 {
-            return Err(Kind::Limit);
-        }
         match plain {
-            Plain::Unknown if !self.is_free(place) => self.add(Plain::Any(place)),
-            Plain::Function(a, b) => {
-                let a = self.general(fuel - 1, a)?;
-                let b = self.general(fuel - 1, b)?;
-                self.add(Plain::Function(a, b))
+            Plain::Unknown if !self.is_free(place) => self.add(rt, Plain::Any(place)),
+            Plain::Function(a, b) | Plain::Pair(a, b) => {
+                let a = self.general(rt, fuel - 1, a);
+                let b = self.general(rt, fuel - 1, b);
+                self.add(rt, plain.over(a, b))
             }
-            Plain::Pair(a, b) => {
-                let a = self.general(fuel - 1, a)?;
-                let b = self.general(fuel - 1, b)?;
-                self.add(Plain::Pair(a, b))
-            }
-            _ => Ok(place),
+            _ => place,
         }
     }
 
     // A copy in which any type is a new unknown one.
     fn instance(
         &mut self,
+        rt: &impl Abort,
         fuel: u32,
         place: usize,
         fresh: &mut Vec<(usize, usize)>,
-    ) -> Result<usize, Kind> {
+    ) -> usize {
+        assert!(rt; fuel > 0);
         let (place, plain) = self.find(place);
-        if fuel == 0 {
-            return Err(Kind::Limit);
-        }
         match plain {
-            Plain::Any(number) => self.fresh(number, fresh),
-            Plain::Function(a, b) => {
-                let a = self.instance(fuel - 1, a, fresh)?;
-                let b = self.instance(fuel - 1, b, fresh)?;
-                self.add(Plain::Function(a, b))
+            Plain::Any(number) => self.fresh(rt, number, fresh),
+            Plain::Function(a, b) | Plain::Pair(a, b) => {
+                let a = self.instance(rt, fuel - 1, a, fresh);
+                let b = self.instance(rt, fuel - 1, b, fresh);
+                self.add(rt, plain.over(a, b))
             }
-            Plain::Pair(a, b) => {
-                let a = self.instance(fuel - 1, a, fresh)?;
-                let b = self.instance(fuel - 1, b, fresh)?;
-                self.add(Plain::Pair(a, b))
-            }
-            _ => Ok(place),
+            _ => place,
         }
     }
 
-    fn fresh(&mut self, number: usize, fresh: &mut Vec<(usize, usize)>) -> Result<usize, Kind> {
+    fn fresh(&mut self, rt: &impl Abort, number: usize, fresh: &mut Vec<(usize, usize)>) -> usize {
         for pair in fresh.iter() {
             if pair.0 == number {
-                return Ok(pair.1);
+                return pair.1;
             }
         }
-        let place = self.add(Plain::Unknown)?;
-        fresh.push((number, place))?;
-        Ok(place)
+        let place = self.add(rt, Plain::Unknown);
+        fresh.push((number, place)).expect(rt, "memory");
+        place
     }
 
-    fn name(&mut self, name: u8) -> Result<usize, Kind> {
+    fn name(&mut self, rt: &impl Abort, name: u8) -> Result<usize, Kind> {
         let found = self.scope.iter().rev().find(|bound| bound.0 == name);
         let place = found.ok_or(Kind::Unbound)?.1;
         let mut fresh = Vec::new(self.alloc);
-        self.instance(FUEL, place, &mut fresh)
+        Ok(self.instance(rt, FUEL, place, &mut fresh))
     }
 
-    fn bind_name(&mut self, name: u8, place: usize) -> Result<(), Kind> {
-        self.scope.push((name, place))?;
-        Ok(())
+    fn bind_name(&mut self, rt: &impl Abort, name: u8, place: usize) {
+        self.scope.push((name, place)).expect(rt, "memory");
     }
 
     // The types of two expressions, in order.
     #[cycle(infer)]
     fn two(
         &mut self,
+        rt: &impl Abort,
         fuel: u32,
         all: &[Expression],
         first: usize,
         second: usize,
     ) -> Result<(usize, usize), Kind> {
-        let first = self.infer(fuel, all, first)?;
-        let second = self.infer(fuel, all, second)?;
-        Ok((first, second))
+        let first = self.infer(rt, fuel, all, first)?;
+        Ok((first, self.infer(rt, fuel, all, second)?))
     }
 
     // The type of an expression in which a name is bound to a type.
     #[cycle(infer)]
     fn within(
         &mut self,
+        rt: &impl Abort,
         fuel: u32,
         all: &[Expression],
         (name, place): (u8, usize),
         at: usize,
     ) -> Result<usize, Kind> {
-        self.bind_name(name, place)?;
-        let inferred = self.infer(fuel, all, at)?;
+        self.bind_name(rt, name, place);
+        let inferred = self.infer(rt, fuel, all, at)?;
         self.scope.pop();
         Ok(inferred)
     }
 
     // The type of an expression.
     #[cycle(infer)]
-    fn infer(&mut self, fuel: u32, all: &[Expression], at: usize) -> Result<usize, Kind> {
-        if fuel == 0 {
-            return Err(Kind::Limit);
-        }
+    fn infer(
+        &mut self,
+        rt: &impl Abort,
+        fuel: u32,
+        all: &[Expression],
+        at: usize,
+    ) -> Result<usize, Kind> {
+        assert!(rt; fuel > 0);
         let fuel = fuel - 1;
-        match *all.get(at).ok_or(Kind::Limit)? {
-            Expression::Integer => self.add(Plain::Integer),
-            Expression::Boolean => self.add(Plain::Boolean),
-            Expression::Name(name) => self.name(name),
+        match *all.get(at).expect(rt, "an expression") {
+            Expression::Integer => Ok(self.add(rt, Plain::Integer)),
+            Expression::Boolean => Ok(self.add(rt, Plain::Boolean)),
+            Expression::Name(name) => self.name(rt, name),
             Expression::Lambda(name, body) => {
-                let parameter = self.add(Plain::Unknown)?;
-                let body = self.within(fuel, all, (name, parameter), body)?;
-                self.add(Plain::Function(parameter, body))
+                let parameter = self.add(rt, Plain::Unknown);
+                let body = self.within(rt, fuel, all, (name, parameter), body)?;
+                Ok(self.add(rt, Plain::Function(parameter, body)))
             }
             Expression::Apply(function, argument) => {
-                let (function, argument) = self.two(fuel, all, function, argument)?;
-                self.apply(function, argument)
+                let (function, argument) = self.two(rt, fuel, all, function, argument)?;
+                self.apply(rt, function, argument)
             }
             Expression::Let(name, bound, body) => {
-                let bound = self.infer(fuel, all, bound)?;
-                let general = self.general(FUEL, bound)?;
-                self.within(fuel, all, (name, general), body)
+                let bound = self.infer(rt, fuel, all, bound)?;
+                let general = self.general(rt, FUEL, bound);
+                self.within(rt, fuel, all, (name, general), body)
             }
             Expression::LetRec(name, bound, body) => {
-                let own = self.add(Plain::Unknown)?;
-                let bound = self.within(fuel, all, (name, own), bound)?;
-                self.unify(FUEL, own, bound)?;
-                let general = self.general(FUEL, bound)?;
-                self.within(fuel, all, (name, general), body)
+                let own = self.add(rt, Plain::Unknown);
+                let bound = self.within(rt, fuel, all, (name, own), bound)?;
+                let general = self.own(rt, own, bound)?;
+                self.within(rt, fuel, all, (name, general), body)
             }
             Expression::If(condition, first, second) => {
-                let condition = self.infer(fuel, all, condition)?;
-                self.expect(condition, Plain::Boolean)?;
-                let (first, second) = self.two(fuel, all, first, second)?;
-                self.unify(FUEL, first, second)?;
+                let condition = self.infer(rt, fuel, all, condition)?;
+                self.expect(rt, condition, Plain::Boolean)?;
+                let (first, second) = self.two(rt, fuel, all, first, second)?;
+                self.unify(rt, FUEL, first, second)?;
                 Ok(first)
             }
             Expression::Pair(first, second) => {
-                let (first, second) = self.two(fuel, all, first, second)?;
-                self.add(Plain::Pair(first, second))
+                let (first, second) = self.two(rt, fuel, all, first, second)?;
+                Ok(self.add(rt, Plain::Pair(first, second)))
             }
             Expression::Operate(compares, left, right) => {
-                let (left, right) = self.two(fuel, all, left, right)?;
-                self.operate(compares, left, right)
+                let (left, right) = self.two(rt, fuel, all, left, right)?;
+                self.operate(rt, compares, left, right)
             }
         }
     }
 
-    fn apply(&mut self, function: usize, argument: usize) -> Result<usize, Kind> {
-        let answer = self.add(Plain::Unknown)?;
-        let wanted = self.add(Plain::Function(argument, answer))?;
-        self.unify(FUEL, function, wanted)?;
+    // What is bound to its own name, in general.
+    fn own(&mut self, rt: &impl Abort, own: usize, bound: usize) -> Result<usize, Kind> {
+        self.unify(rt, FUEL, own, bound)?;
+        Ok(self.general(rt, FUEL, bound))
+    }
+
+    fn apply(&mut self, rt: &impl Abort, function: usize, argument: usize) -> Result<usize, Kind> {
+        let answer = self.add(rt, Plain::Unknown);
+        let wanted = self.add(rt, Plain::Function(argument, answer));
+        self.unify(rt, FUEL, function, wanted)?;
         Ok(answer)
     }
 
-    fn operate(&mut self, compares: bool, left: usize, right: usize) -> Result<usize, Kind> {
-        self.expect(left, Plain::Integer)?;
-        self.expect(right, Plain::Integer)?;
-        self.add(if compares {
+    fn operate(
+        &mut self,
+        rt: &impl Abort,
+        compares: bool,
+        left: usize,
+        right: usize,
+    ) -> Result<usize, Kind> {
+        self.expect(rt, left, Plain::Integer)?;
+        self.expect(rt, right, Plain::Integer)?;
+        let answer = if compares {
             Plain::Boolean
         } else {
             Plain::Integer
-        })
+        };
+        Ok(self.add(rt, answer))
     }
 
-    fn expect(&mut self, place: usize, plain: Plain) -> Result<(), Kind> {
-        let wanted = self.add(plain)?;
-        self.unify(FUEL, place, wanted)
+    fn expect(&mut self, rt: &impl Abort, place: usize, plain: Plain) -> Result<(), Kind> {
+        let wanted = self.add(rt, plain);
+        self.unify(rt, FUEL, place, wanted)
     }
 
     /// Declares an expression under a name, and answers its type.
-    pub fn declare(&mut self, name: u8, all: &[Expression], at: usize) -> Result<usize, Kind> {
-        let mut declared = Vec::new(self.alloc);
-        declared
-            .extend_from_slice(self.scope.as_slice())
-            .map_err(|_| Kind::Limit)?;
-        let inferred = self.infer(FUEL, all, at);
-        self.scope = declared;
-        let general = self.general(FUEL, inferred?)?;
-        self.bind_name(name, general)?;
+    pub fn declare(
+        &mut self,
+        rt: &impl Abort,
+        name: u8,
+        all: &[Expression],
+        at: usize,
+    ) -> Result<usize, Kind> {
+        let outside = self.scope.len();
+        let inferred = self.infer(rt, FUEL, all, at);
+        self.scope.truncate(outside);
+        let general = self.general(rt, FUEL, inferred?);
+        self.bind_name(rt, name, general);
         Ok(general)
     }
 
     /// Appends a type.
     pub fn write(
         &self,
+        rt: &impl Abort,
         fuel: u32,
         out: &mut String,
         seen: &mut Vec<usize>,
-        place: usize,
-        holds: u8,
-    ) -> Result<(), AllocError> {
-        if fuel == 0 {
-            return Ok(());
-        }
-        match self.find(place).1 {
-            Plain::Integer => out.push_str("int"),
-            Plain::Boolean => out.push_str("bool"),
-            Plain::Any(number) => self.write_variable(out, seen, number),
-            Plain::Function(a, b) => {
-                let held = holds > 0;
-                out.push_str(if held { "(" } else { "" })?;
-                self.write(fuel - 1, out, seen, a, 1)?;
-                out.push_str(" -> ")?;
-                self.write(fuel - 1, out, seen, b, 0)?;
-                out.push_str(if held { ")" } else { "" })
-            }
-            Plain::Pair(a, b) => {
-                let held = holds > 1;
-                out.push_str(if held { "(" } else { "" })?;
-                self.write(fuel - 1, out, seen, a, 2)?;
-                out.push_str(" * ")?;
-                self.write(fuel - 1, out, seen, b, 2)?;
-                out.push_str(if held { ")" } else { "" })
-            }
-            _ => out.push_str("?"),
-        }
+        (place, holds): (usize, u8),
+    ) {
+        assert!(rt; fuel > 0);
+        let (a, between, b, is_held) = match self.find(place).1 {
+            Plain::Integer => return put(rt, out, "int"),
+            Plain::Boolean => return put(rt, out, "bool"),
+            Plain::Any(number) => return self.write_variable(rt, out, seen, number),
+            Plain::Function(a, b) => ((a, 1), " -> ", (b, 0), holds > 0),
+            Plain::Pair(a, b) => ((a, 2), " * ", (b, 2), holds > 1),
+            _ => return put(rt, out, "?"),
+        };
+        let (before, behind) = if is_held { ("(", ")") } else { ("", "") };
+        put(rt, out, before);
+        self.write(rt, fuel - 1, out, seen, a);
+        put(rt, out, between);
+        self.write(rt, fuel - 1, out, seen, b);
+        put(rt, out, behind);
     }
 
     fn write_variable(
         &self,
+        rt: &impl Abort,
         out: &mut String,
         seen: &mut Vec<usize>,
         number: usize,
-    ) -> Result<(), AllocError> {
+    ) {
         let known = seen.iter().position(|other| *other == number);
         let index = known.unwrap_or(seen.len());
         if known.is_none() {
-            seen.push(number)?;
+            seen.push(number).expect(rt, "memory");
         }
         let letter = char::from(b'a' + (index % 26) as u8);
-        match index / 26 {
+        let written = match index / 26 {
             0 => write!(out, "'{letter}"),
             round => write!(out, "'{letter}{round}"),
-        }
+        };
+        written.expect(rt, "memory");
     }
 }
 

@@ -1,10 +1,10 @@
 use Rattle.std.proofs.Common.{◌≡◌, ◌∙◌, [], ◌∷◌, ◌++◌, Some, inl, inr, refl, sym, ap, subst, rules}
 use Rattle.std.specs.Bool.{OnFalse}
 use Rattle.ra_ap_intern.specs.Handle.{ref_name}
-use Rattle.types.specs.Types.{unknown, shape_at}
+use Rattle.types.specs.Types.{shape_at, unknown_shape}
 use Rattle.types.specs.Unifying.{replaced}
 use Rattle.types.proofs.Occurring.{AreWithin, IsWithin, within_popped, within_push, parts_within, never}
-use Rattle.types.proofs.Trees.{same_name}
+use Rattle.types.proofs.Pairs.{same_name}
 use Rattle.types.proofs.Searching.{IsSearched, Walked, walked_past, listed_before, searched, search_parted, leaf_is_without, other_is_without}
 use Rattle.types.proofs.Sets.{found_if, inserted}
 use Rattle.types.proofs.Solving.{bound_is_solvable, open_is_free}
@@ -18,7 +18,7 @@ returns-in_default-pop-clause-binds c v =
     (λ h. (still.0 (bound.0 h).0, (bound.0 h).1), λ h. bound.1 (still.1 h.0, h.1))
 
 pub returns-in_default-pop-clause-solvable : goal.returns-in_default-pop-clause-solvable
-returns-in_default-pop-clause-solvable c tree solvable =
+returns-in_default-pop-clause-solvable c t solvable =
     let s = c.args.types.now in
     let number = c.args.unknown.0 in
     let now = c.loop.unknowns in
@@ -30,8 +30,8 @@ returns-in_default-pop-clause-solvable c tree solvable =
     (c.loop.invariant.2 v solvable.1)) in
     bound_is_solvable s now c.bind.new.self number (ref_name c.args.handle) v
     (still_principal s c.args.unknowns.now number now still v solvable.1) (open_is_free now number still.open_here)
-    (c.bind.ensures.binds s) c.bind.ensures.free tree
-    (λ occurs. searched_all (replaced v tree.0, (tree.0, tree.1, refl), occurs))
+    (c.bind.ensures.binds s) c.bind.ensures.free t
+    (λ occurs. searched_all (replaced v t.0, (t.0, t.1, refl), occurs))
 
 pub returns-in_err-push-clause-refused : goal.returns-in_err-push-clause-refused
 returns-in_err-push-clause-refused c = wants_memory _ _ c.from_residual.ensures.1
@@ -89,8 +89,8 @@ loop-preserved-in-Some-number_of c =
     (λ v principal. inr (other_is_without s v number part other at
     (principal.free other (still.free other
     (open_is_free c.loop.unknowns other (c.lower.ensures.nothing.0 c.if-not-lower.false)))) (λ is.
-    let name = same_name s _ c.number-number.ensures.state c.types_are_their_shapes.ensures (unknown number) part
-    (ref_name c.args.unknown.1) (subst (λ k. shape_at s part ≡ Some (unknown k)) is at) c.requires.unknown in
+    let name = same_name s _ c.number-number.ensures.state c.types_are_their_shapes.ensures (unknown_shape number) part
+    (ref_name c.args.unknown.1) (subst (λ k. shape_at s part ≡ Some (unknown_shape k)) is at) c.requires.unknown in
     let same = (c.references_are_names.ensures.equal c.in-Some-pop.part c.args.unknown.1).1 name in
     let differ = sym c.eq.ensures ∙ c.if-eq.false in
     absurd (cc))))

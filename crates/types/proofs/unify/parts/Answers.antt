@@ -1,4 +1,4 @@
-use Rattle.types.proofs.Trees.{apart, no_parts}
+use Rattle.types.proofs.Pairs.{apart, no_parts}
 use Rattle.types.proofs.unify.parts.Goals as goal
 
 pub returns-in_default-clause-none : goal.returns-in_default-clause-none

@@ -9,6 +9,6 @@ returns-clause-ok c =
     rw (← all, ← c.as_slice.ensures.value) c.collect-2.ensures.ok
 
 pub returns-clause-trees : goal.returns-clause-trees
-returns-clause-trees c name tree =
-    declares_collected c.args.self.now name tree c.collect-2.new.self c.collect-2.result
+returns-clause-trees c name t =
+    declares_collected c.args.self.now name t c.collect-2.new.self c.collect-2.result
     (returns-clause-ok c) c.collect-2.ensures.err

@@ -1,6 +1,6 @@
 use Rattle.types.proofs.session.Session.declare.Goals as goal
 
 pub returns : goal.returns
-returns c other tree apart d =
-    (c.collect_if_many.ensures other tree).0
-    (c.tell.ensures other tree apart (c.infer-inferred.ensures.trees other tree d))
+returns c other t apart d =
+    (c.collect_if_many.ensures other t).0
+    (c.tell.ensures other t apart (c.infer-inferred.ensures.trees other t d))
