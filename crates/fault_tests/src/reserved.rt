@@ -7,8 +7,8 @@ use crate::scene::room;
 use crate::values::text_of;
 use intern_fixtures::Unhashed;
 use ra_ap_intern::{
-    FixedState, InternSliceStorage, InternStorage, Internable, Interned, Kind, Layout, NearSliceStorage,
-    Refused, SliceInternable, Storage, Symbol, SymbolTable, Text,
+    FixedState, InternSliceStorage, InternStorage, Internable, Interned, Kind, Layout,
+    NearSliceStorage, Refused, SliceInternable, Storage, Symbol, SymbolTable, Text,
 };
 use std::alloc::Global;
 
