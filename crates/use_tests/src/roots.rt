@@ -96,6 +96,7 @@ fn a_counted_name_stays(rt: HostRuntime) {
     let held = word(&rt, alloc, names, "held");
     let owner = held.to_owned(names).expect(&rt, "owned");
 
+    assert!(rt; GarbageCollector::distinct(&code));
     let told = collect(alloc, &mut code, deque, size).expect(&rt, "memory");
     assert_eq!(rt; (told.visits, told.removed), (7, 3));
     let names = &mut code.first.first;
