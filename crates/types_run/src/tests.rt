@@ -8,7 +8,6 @@ use ra_ap_intern::{SymbolRef, SymbolTable};
 use std::alloc::Global;
 use std::process::Abort;
 use types::environment::Environment;
-use types::fault::Fault;
 use types::session::answer_all;
 use types::store::Types;
 use types::value::{TypeNode, TypeRef};
@@ -148,20 +147,21 @@ fn has_parts(types: &Types, handle: TypeRef, first: TypeRef, second: TypeRef) ->
 
 // An environment in which the first name is declared anew, so that nothing needs the last type.
 fn declared(
+    rt: &impl Abort,
     alloc: Global,
     first: SymbolRef,
     second: SymbolRef,
-) -> Result<(Environment, [TypeRef; 4]), Fault> {
+) -> (Environment, [TypeRef; 4]) {
     let mut environment = Environment::new(alloc, 2);
     let types = &mut environment.types;
-    let integer = types.make(TypeNode::Integer)?;
-    let pair = types.pair(integer, integer)?;
-    let kept = types.function(pair, integer)?;
-    let gone = types.function(pair, kept)?;
-    environment.declare(first, gone)?;
-    environment.declare(second, integer)?;
-    environment.declare(first, kept)?;
-    Ok((environment, [integer, pair, kept, gone]))
+    let integer = types.make(TypeNode::Integer).expect(rt, "memory");
+    let pair = types.pair(integer, integer).expect(rt, "memory");
+    let kept = types.function(pair, integer).expect(rt, "memory");
+    let gone = types.function(pair, kept).expect(rt, "memory");
+    for (name, handle) in [(first, gone), (second, integer), (first, kept)] {
+        environment.declare(name, handle).expect(rt, "memory");
+    }
+    (environment, [integer, pair, kept, gone])
 }
 
 #[test]
@@ -169,8 +169,7 @@ fn a_collection_keeps_what_is_declared(rt: HostRuntime) {
     let names = SymbolTable::new(rt.alloc(), 1);
     let first = names.get("i32").expect(&rt, "a preset");
     let second = names.get("str").expect(&rt, "a preset");
-    let made = declared(rt.alloc(), first, second);
-    let (mut environment, [integer, pair, kept, gone]) = made.expect(&rt, "memory");
+    let (mut environment, [integer, pair, kept, gone]) = declared(&rt, rt.alloc(), first, second);
     let told = environment.collect(rt.alloc()).expect(&rt, "memory");
     assert_eq!(rt; (told.visits, told.removed), (3, 1));
     assert!(rt; environment.look_up(first) == Some(kept));

@@ -2,10 +2,10 @@ use Rattle.std.proofs.Common.{◌+◌, ◌*◌}
 use Rattle.types_run.proofs.tests.reference.Reference.+infer.Given as goal
 
 abbrev pub decreases-two : goal.decreases-two
-decreases-two l = 2 * l.fuel + 1
+decreases-two g l = 2 * l.fuel + 1
 
 abbrev pub decreases-within : goal.decreases-within
-decreases-within l = 2 * l.fuel + 1
+decreases-within g l = 2 * l.fuel + 1
 
 abbrev pub decreases-infer : goal.decreases-infer
-decreases-infer l = 2 * l.fuel
+decreases-infer g l = 2 * l.fuel

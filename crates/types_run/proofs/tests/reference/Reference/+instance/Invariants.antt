@@ -1,4 +1,4 @@
 use Rattle.types_run.proofs.tests.reference.Reference.+instance.Given as goal
 
 abbrev pub decreases-instance : goal.decreases-instance
-decreases-instance l = l.fuel
+decreases-instance g l = l.fuel

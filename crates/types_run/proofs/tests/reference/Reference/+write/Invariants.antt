@@ -1,4 +1,4 @@
 use Rattle.types_run.proofs.tests.reference.Reference.+write.Given as goal
 
 abbrev pub decreases-write : goal.decreases-write
-decreases-write l = l.fuel
+decreases-write g l = l.fuel
