@@ -93,9 +93,10 @@ pub fn read(lists: &Lists, list: ListRef) -> Option<(u32, &[u64])>
     Some((*read.header.header, read.slice))
 }
 
-/// Whether two handles are of one list. It reads neither.
+/// Whether two handles are equal, which they are exactly if their lists are. It reads neither.
 pub fn is_same(lists: &Lists, first: ListRef, second: ListRef) -> bool
-    ensures { (v w : Labelled) →
+    ensures names { (result ≡ true) ↔ (ref_name first ≡ ref_name second) }
+    ensures lists { (v w : Labelled) →
         reads lists.now (ref_name first) ≡ Some v → reads lists.now (ref_name second) ≡ Some w →
         (result ≡ true) ↔ (v ≡ w) }
 {

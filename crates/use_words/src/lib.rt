@@ -75,7 +75,7 @@ impl Words {
         Some(handle.get(&self.words)?.as_str())
     }
 
-    /// One more handle of a word. Refused: `Foreign`, `Gone`, `CountFull`.
+    /// One more handle of a word; each reads what it read. Refused: `Foreign`, `Gone`, `CountFull`.
     pub fn share(&mut self, handle: &Interned<Text>) -> Result<Interned<Text>, Refusal>
         ensures name { IfOk result (λ h. name_of h ≡ name_of handle.now) }
         ensures refused { Owes result (due self.old (name_of handle.now) (full self.old.top)) }
@@ -87,7 +87,7 @@ impl Words {
         Ok(second)
     }
 
-    /// Gives a handle up. The last one frees its word, which comes back.
+    /// Gives a handle up. The last one frees its word, which comes back; other words stay.
     /// Refused, with the handle back: `Foreign`, `Gone`, `CountZero`.
     pub fn release(
         &mut self,
