@@ -18,6 +18,7 @@ HasNoParts t = (kind : Kind) × (shape t ≡ (kind, []))
 abbrev HasTwo : TypeNode → Type 0
 HasTwo t = (kind : Bool) × (a b : Name) × (shape t ≡ two kind a b)
 
+-- a type has no parts, or two
 none_or_two : (t : TypeNode) → HasNoParts t ⊎ HasTwo t
 none_or_two Integer = inl (integer, ap open_shape outs-Integer)
 none_or_two Boolean = inl (boolean, ap open_shape outs-Boolean)
@@ -60,7 +61,6 @@ module _ (s : State TypeNode) where
       → t ≡ tree kind no_more
   leaf_tree n kind t at u = one_tree declared_by kind_of s t (tree kind no_more) n u (unfolds n kind [] no_more at tt)
 
-  -- a type has no parts, or two
   abbrev pub IsLeaf : Name → Type 0
   IsLeaf n = (kind : Kind) × (shape_at s n ≡ Some (kind, []))
 

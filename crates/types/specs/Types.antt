@@ -33,6 +33,7 @@ open_shape (TypeNode-F.Pair first second) = (pair, ref_name first ∷ ref_name s
 abbrev pub shape : TypeNode → Shape
 shape t = open_shape (out-TypeNode t)
 
+-- a type's kind
 abbrev pub kind_of : TypeNode → Kind
 kind_of t = (shape t).0
 

@@ -24,6 +24,7 @@ abbrev mutual
   pub replaced : (ℕ → Tree) → Tree → Tree
   replaced v (tree kind parts) = placed v kind (all_replaced v parts)
 
+  -- and in all of these
   pub all_replaced : (ℕ → Tree) → Trees Kind → Trees Kind
   all_replaced v no_more = no_more
   all_replaced v (one_more t ts) = one_more (replaced v t) (all_replaced v ts)
@@ -80,11 +81,12 @@ IsFree u number = (handle : Ref (Values TypeNode)) → slice_get u.known.items n
 abbrev pub IsOpen : Unknowns → ℕ → Type 0
 IsOpen u number = (level : ℕ) × (slice_get u.known.items number ≡ Some (known.Nothing level))
 
--- a function, or a pair
+-- whether it is a function, or else a pair
 abbrev pub either : Bool → Kind
 either true = function
 either false = pair
 
+-- a function or a pair of these
 abbrev pub two : Bool → Name → Name → Shape
 two kind first second = (either kind, first ∷ second ∷ [])
 
