@@ -72,25 +72,6 @@ fn keeps_four(rt: &impl Abort, shelf: Shelf, nodes: Nodes, alloc: Global) {
     is_equal(rt, (told.visits, told.mark_calls, told.removed), (5, 4, 1));
 }
 
-/// A triple of nodes, declared in order.
-#[derive(Drop)]
-struct Tray {
-    nodes: (InternedRef<Node>, InternedRef<Node>, InternedRef<Node>),
-}
-
-impl GcInternedVisit for Tray {
-    ghost use Rattle.std.specs.Prelude.{◌++◌};
-    ghost use Rattle.collection_tests.specs.declared.shelves.Tray.{out-Tray};
-    ghost use Rattle.ra_ap_intern.specs.Visitors.{own_name};
-
-    ghost children = { λ tray. let nodes = (out-Tray tray).nodes in
-        own_name nodes.0 ++ own_name nodes.1 ++ own_name nodes.2 };
-
-    fn visit_with(&self, gc: &mut GarbageCollector) {
-        self.nodes.visit_with(gc);
-    }
-}
-
 #[test]
 fn each_part_of_a_triple_is_visited(rt: HostRuntime) {
     let alloc = rt.alloc();
@@ -99,8 +80,7 @@ fn each_part_of_a_triple_is_visited(rt: HostRuntime) {
     let b = intern_leaf(&rt, alloc, &mut nodes, 1, 1);
     let c = intern_leaf(&rt, alloc, &mut nodes, 2, 2);
     let _alone = intern_leaf(&rt, alloc, &mut nodes, 3, 3);
-    let tray = Tray { nodes: (a, b, c) };
-    collects_from(&rt, alloc, &mut nodes, &tray, (3, 0, 1));
+    collects_from(&rt, alloc, &mut nodes, &(a, b, c), (3, 0, 1));
     assert!(rt; nodes.contains(a) && nodes.contains(b) && nodes.contains(c));
     drop_values(nodes);
 }
