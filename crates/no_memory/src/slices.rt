@@ -61,6 +61,7 @@ fn check_calls(
     handles: &Handles,
 ) -> Result<(), Fault> {
     check_storage(rt, alloc, storage, handles)?;
+    check_find(rt, storage, handles)?;
     check_reads(rt, storage, handles)?;
     check_interning(rt, alloc, storage, handles)?;
     check_owning(rt, storage, handles)?;
@@ -155,10 +156,6 @@ fn check_storage(
     ensure(
         storage.get(&live, ITEMS) == Some(handles.live.as_ref()) && storage.get(&live, &[]) == None,
     )?;
-    takes_none(rt, "InternSliceStorage::find");
-    ensure(
-        storage.find(LIVE, ITEMS) == Some(handles.live.as_ref()) && storage.find(GONE, &[]) == None,
-    )?;
     takes_none(rt, "InternSliceStorage::iter");
     ensure(storage.iter().count() == 3)?;
     takes_none(rt, "InternSliceStorage::count");
@@ -166,6 +163,13 @@ fn check_storage(
         storage.count(handles.full.as_ref()) == Some(2)
             && storage.count(handles.gone.as_ref()) == None
             && storage.count(handles.foreign.as_ref()) == None,
+    )
+}
+
+fn check_find(rt: &impl Eprint, storage: &Storage, handles: &Handles) -> Result<(), Fault> {
+    takes_none(rt, "InternSliceStorage::find");
+    ensure(
+        storage.find(LIVE, ITEMS) == Some(handles.live.as_ref()) && storage.find(GONE, &[]) == None,
     )
 }
 
