@@ -3,8 +3,8 @@
 
 ghost use Rattle.std.specs.Prelude.{◌≡◌, false, IfOk, option_copied};
 ghost use Rattle.ra_ap_intern.specs.Handle.{name_of};
-ghost use Rattle.ra_ap_intern.specs.Outcome.{Becomes};
-ghost use Rattle.ra_ap_intern.specs.State.{reads, interned_name, interned_counted};
+ghost use Rattle.ra_ap_intern.specs.Outcome.{Becomes, MayWantBack};
+ghost use Rattle.ra_ap_intern.specs.State.{reads, is_new, interned_name, interned_counted, due_interning, full};
 
 use ra_ap_intern::{InternStorage, Internable, Interned, Refused};
 use std::cmp::PartialEq;
@@ -19,13 +19,17 @@ impl Internable for Word {
     ghost USE_GC = { false };
 }
 
-/// The handle of a word, counted once more. The word comes back if it is stored, or can't be.
+/// The handle of a word, counted once more. The word comes back if it is stored already. Refused,
+/// with the word back: `CountFull` where it is stored; `NumbersUsedUp` and `OutOfMemory` where it isn't.
 pub fn handle_of(
     words: &mut InternStorage<Word>,
     word: Word,
 ) -> Result<(Interned<Word>, Option<Word>), Refused<Word>>
     ensures name { let eq = ⟦<Word as PartialEq>⟧.eq in
         IfOk result (λ r. name_of r.0 ≡ interned_name eq words.old word) }
+    ensures refused { let eq = ⟦<Word as PartialEq>⟧.eq in
+        MayWantBack result (due_interning eq words.old word (full words.old.top))
+        (is_new eq words.old word) word }
     ensures state { let eq = ⟦<Word as PartialEq>⟧.eq in
         Becomes result words.old words.new (interned_counted eq words.old word) }
 {

@@ -4,7 +4,7 @@ ghost use Rattle.std.specs.Option.{option_map};
 ghost use Rattle.std.specs.FinMap as map;
 ghost use Rattle.std.specs.declared.ops.ControlFlow.TheVariants.{Continue, Break};
 ghost use Rattle.intern_store.specs.Named.{key_name};
-ghost use Rattle.intern_marks.specs.Marks.{fresh, added, is_next, placed, mark, marks_now, untold, root, begun};
+ghost use Rattle.intern_marks.specs.Marks.{IsSound, fresh, added, is_next, placed, mark, marks_now, untold, root, begun};
 ghost use Rattle.intern_marks.specs.Names.{has};
 
 use crate::find::{fill, find, locate};
@@ -134,10 +134,12 @@ impl Marks {
         fill(&self.slots, &mut self.table);
     }
 
-    /// How many names are registered.
+    /// How many names are registered. Only these are marked, each once, and what was visited is marked.
     pub fn len(&self) -> usize
         ensures size { result ≡ map.len self.now.registered }
+        ensures sound { IsSound self.now.registered self.now.marked }
         ensures within { length self.now.marked ≤ result }
+        ensures visited { self.now.visits ≤ length self.now.marked }
     {
         self.size
     }

@@ -9,7 +9,8 @@ use thiserror::Error;
 /// Why a call was refused. A refused call leaves the storage as it was, but for that of many values,
 /// which keeps what it stored before.
 ///
-/// The reasons are looked for in this order, and a call answers the first that holds.
+/// Of a handle or a value the reasons are looked for in this order, and the first that holds is
+/// answered. A call on many asks of one after the other.
 #[derive(Clone, Copy, Debug, PartialEq, Eq, Error)]
 pub enum Refusal {
     /// The handle is of a storage of another number.

@@ -342,7 +342,8 @@ impl<B: BuildHasher> TermStore<B> {
 
     /// Does the same, and leaves the trees of what a visitor declares too: a [`TermRef`], or an option,
     /// a pair, an array, a vector or a slice of such, or a value of a type with a visitor of its own.
-    /// A term of another store, one that is gone, or one that is declared twice, adds nothing.
+    /// A term of another store, one that is gone, or one that is declared twice, adds nothing. Refused as
+    /// [`TermStore::collect`].
     pub fn collect_from<R: GcInternedVisit>(&mut self, roots: &R) -> Result<Collected, AllocError>
         ensures ok { IfOk result (λ told. (names : List TermName)
             × IsCollection (starts_with (R.children roots.now) (terms_of self.old))
@@ -355,7 +356,7 @@ impl<B: BuildHasher> TermStore<B> {
         GarbageCollector::new(self.alloc).collect_from(&mut self.terms, roots)
     }
 
-    /// Does the same with these terms.
+    /// Does the same with these terms. Refused as [`TermStore::collect`].
     pub fn collect_keeping(&mut self, roots: &[TermRef]) -> Result<Collected, AllocError>
         ensures ok { IfOk result (λ told. (names : List TermName)
             × IsCollection (starts_with (list_map term_name roots.now) (terms_of self.old))

@@ -24,6 +24,7 @@ use Rattle.queries.specs.Cache.{queries_of}
 use Rattle.queries.specs.Needed.{AreNeeded, HasHandle, IsFormulaCell, IsNeeded, LeadsTo, TakesReads}
 use Rattle.queries.specs.Sheet.{Formulas, reads_of}
 use Rattle.queries.specs.Spreadsheet.{IsCleared}
+use Rattle.queries.specs.declared.cache.Counts.{Counts}
 use Rattle.queries.specs.declared.key.Key.{Key}
 use Rattle.queries.specs.declared.key.Key.TheVariants.{Cell}
 use Rattle.queries.specs.declared.place.Place.{Place}
@@ -314,10 +315,12 @@ module _ (sheet : Formulas) (old new : State Key) (listed names : List Name) (to
       go (parent ∷ before) path =
           let none = sym (ap (λ cs. has cs name) (no_children old parent)) ∙ path.1 in absurd (cc)
 
-  pub cleared : (gone : ℕ) → gone ≡ told.removed
-      → IsCleared (record { sheet = sheet; keys = old }) (record { sheet = sheet; keys = new }) gone
-  cleared gone same = record {
+  pub cleared : (gone : ℕ) → gone ≡ told.removed → (before after : Counts) → after ≡ before
+      → IsCleared (record { sheet = sheet; keys = old; counts = before })
+      (record { sheet = sheet; keys = new; counts = after }) gone
+  cleared gone same before after stays = record {
     sheet = refl;
+    counts = stays;
     names = names;
     keys = left;
     needed = λ name key read. (

@@ -71,6 +71,15 @@ one_computed c = record { computed = one_more c.computed; verified = c.verified;
 abbrev pub one_verified : Counts → Counts
 one_verified c = record { computed = c.computed; verified = one_more c.verified; reused = c.reused }
 
+-- no query was answered
+abbrev pub no_counts : Counts
+no_counts = record { computed = 0; verified = 0; reused = 0 }
+
+-- no count has fallen
+abbrev pub CountsOn : Counts → Counts → Type 0
+CountsOn old new =
+    (old.computed ≤ new.computed) × (old.verified ≤ new.verified) × (old.reused ≤ new.reused)
+
 -- the queries, as a collection sees them: none has parts
 abbrev pub queries_of : State Key → List Entry
 queries_of keys = entries_of (λ key. []) keys

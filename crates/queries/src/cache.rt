@@ -4,7 +4,7 @@ ghost use Rattle.ra_ap_intern.specs.Handle.{ref_name};
 ghost use Rattle.ra_ap_intern.specs.Name.{Name as KeyName};
 ghost use Rattle.ra_ap_intern.specs.Named.{same_name};
 ghost use Rattle.ra_ap_intern.specs.State.{IsState, new_state, reads, name_of_value};
-ghost use Rattle.queries.specs.Cache.{Handle, memo_at, IsMemo, IsCache, IsCollected, ReadsOn, HasGiven, current_answer, one_computed, one_verified};
+ghost use Rattle.queries.specs.Cache.{Handle, memo_at, IsMemo, IsCache, IsCollected, CountsOn, ReadsOn, HasGiven, current_answer, no_counts, one_computed, one_verified};
 ghost use Rattle.queries.specs.Evaluation.{Evaluates, IsRight, LeadsToCycle};
 ghost use Rattle.queries.specs.Path.{WaitsFor, IsWaiting, IsFrame, IsPath, IsStuck, GoesOn};
 ghost use Rattle.queries.specs.Sheet.{Formulas, formula_at, same_place, gives};
@@ -83,6 +83,7 @@ impl Cache {
     /// Nothing is known.
     pub fn new(alloc: Global) -> Cache
         ensures keys { result.keys ≡ new_state 1 u64.MAX u64.MAX }
+        ensures counts { result.counts ≡ no_counts }
         ensures cache { (sheet : Formulas) → IsCache sheet result }
     {
         Cache {
@@ -101,6 +102,7 @@ impl Cache {
             ((p : PlaceType) → same_place place p ≡ false → formula_at new p ≡ formula_at old p) →
             IsCache new self.new) }
         ensures keys { self.new.keys ≡ self.old.keys }
+        ensures counts { self.new.counts ≡ self.old.counts }
         ensures err { OnErr result (self.new ≡ self.old) }
         ensures used_up { IsErrOf result Fault.RevisionsUsedUp ↔ (self.old.revision ≡ u64.MAX) }
         ensures otherwise { IsOkUnless result Fault.RevisionsUsedUp }
@@ -117,6 +119,7 @@ impl Cache {
     fn forget(&mut self, key: Key)
         ensures keys { self.new.keys ≡ self.old.keys }
         ensures revision { self.new.revision ≡ self.old.revision }
+        ensures counts { self.new.counts ≡ self.old.counts }
         ensures gone { (h : Handle) → reads self.old.keys (ref_name h) ≡ Some key →
             memo_at self.new (ref_name h) ≡ None }
         ensures kept { (h : Handle) (memo : MemoType) → memo_at self.new (ref_name h) ≡ Some memo →
@@ -136,6 +139,7 @@ impl Cache {
         requires { IsCache sheet.now self.old }
         ensures right { IfOk result (IsRight sheet.now root) }
         ensures on { ReadsOn self.old.keys self.new.keys }
+        ensures counts { CountsOn self.old.counts self.new.counts }
         ensures cache { IsCache sheet.now self.new }
     {
         let handle = self.handle(root)?;
@@ -158,6 +162,7 @@ impl Cache {
     fn handle(&mut self, key: Key) -> Result<KeyRef, Refusal>
         ensures stored { IfOk result (λ handle. reads self.new.keys (ref_name handle) ≡ Some key) }
         ensures on { ReadsOn self.old.keys self.new.keys }
+        ensures counts { self.new.counts ≡ self.old.counts }
         ensures keyed { OnOk result (IsState same_key self.new.keys) }
         ensures found { IfOk result (λ handle.
             name_of_value same_key self.new.keys key ≡ Some (ref_name handle)) }
@@ -232,6 +237,7 @@ impl Cache {
         requires path { (first : KeyType)
             × IsPath sheet.now self.old.keys first path.old.frames.items top.key }
         ensures on { ReadsOn self.old.keys self.new.keys }
+        ensures counts { CountsOn self.old.counts self.new.counts }
         ensures cache { IsCache sheet.now self.new }
         ensures goes_on { (root : KeyType) →
             IsPath sheet.now self.old.keys root path.old.frames.items top.key →
@@ -261,6 +267,7 @@ impl Cache {
         requires path { (first : KeyType)
             × IsPath sheet.now self.old.keys first path.old.frames.items top.key }
         ensures on { ReadsOn self.old.keys self.new.keys }
+        ensures counts { CountsOn self.old.counts self.new.counts }
         ensures cache { IsCache sheet.now self.new }
         ensures goes_on { (root : KeyType) →
             IsPath sheet.now self.old.keys root path.old.frames.items top.key →
@@ -283,6 +290,7 @@ impl Cache {
     // The query that waited for this answer goes on with it.
     fn resume(&mut self, path: &Path, mut top: Frame, answer: Answer) -> Result<Progress, Fault>
         ensures keys { self.new.keys ≡ self.old.keys }
+        ensures counts { CountsOn self.old.counts self.new.counts }
         ensures cache { (sheet : Formulas) (first key : KeyType) → IsCache sheet self.old →
             IsFrame sheet self.old.keys top →
             IsPath sheet self.old.keys first path.now.frames.items top.key → WaitsFor top key →
@@ -340,6 +348,7 @@ impl Cache {
         requires frame { IsFrame sheet.now self.old.keys top }
         requires complete { slice_get top.wants.items (length top.values.items) ≡ None }
         ensures keys { self.new.keys ≡ self.old.keys }
+        ensures counts { CountsOn self.old.counts self.new.counts }
         ensures cache { IsCache sheet.now self.new }
         ensures goes_on { (root : KeyType) →
             IsPath sheet.now self.old.keys root path.old.frames.items top.key →
@@ -372,6 +381,7 @@ impl Cache {
         ensures computed { OnOk result
             ((HasGiven self.old (ref_name frame.handle) frame.values.items → ⊥) →
             self.new.counts ≡ one_computed self.old.counts) }
+        ensures counts { CountsOn self.old.counts self.new.counts }
         ensures keys { self.new.keys ≡ self.old.keys }
         ensures settled { OnOk result (IsSettled self.old (ref_name frame.handle) self.new) }
         ensures cache { IsCache sheet.now self.new }
@@ -398,6 +408,7 @@ impl Cache {
         ensures computed { let name = ref_name frame.now.handle in
             (HasGiven self.old name frame.now.values.items → ⊥) →
             self.new.counts ≡ one_computed self.old.counts }
+        ensures counts { CountsOn self.old.counts self.new.counts }
         ensures keys { self.new.keys ≡ self.old.keys }
         ensures memos { self.new.memos ≡ self.old.memos }
         ensures revision { self.new.revision ≡ self.old.revision }
@@ -432,6 +443,7 @@ impl Cache {
     // None of the queries on the path has a value.
     fn give_up(&mut self, path: &Path, top: Frame, through: Key) -> Result<(), AllocError>
         ensures keys { self.new.keys ≡ self.old.keys }
+        ensures counts { self.new.counts ≡ self.old.counts }
         ensures cache { (sheet : Formulas) → IsCache sheet self.old →
             IsStuck sheet self.old.keys through top →
             All (IsStuck sheet self.old.keys through) path.now.frames.items →
@@ -447,6 +459,7 @@ impl Cache {
     // A query has no value at this revision.
     fn put_cycle(&mut self, handle: KeyRef, through: Key) -> Result<(), AllocError>
         ensures keys { self.new.keys ≡ self.old.keys }
+        ensures counts { self.new.counts ≡ self.old.counts }
         ensures cache { (sheet : Formulas) (key : KeyType) → IsCache sheet self.old →
             reads self.old.keys (ref_name handle) ≡ Some key → LeadsToCycle sheet key through →
             IsCache sheet self.new }
@@ -465,6 +478,7 @@ impl Cache {
         ensures ok { IfOk result
             (IsCollected (list_map ref_name needed.now) self.old self.new) }
         ensures err { OnErr result (self.new ≡ self.old) }
+        ensures counts { self.new.counts ≡ self.old.counts }
         ensures right { (sheet : Formulas) → IsCache sheet self.old → IsCache sheet self.new }
     {
         let collected = GarbageCollector::new(self.alloc).collect_from(&mut self.keys, &needed)?;

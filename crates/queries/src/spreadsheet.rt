@@ -3,7 +3,7 @@ ghost use Rattle.std.specs.Prelude.{◌≡◌, ◌↔◌, [], Some, None, Contai
 ghost use Rattle.std.specs.FinMap as map;
 ghost use Rattle.std.specs.List.Sorted.{IsStrictlySortedBy};
 ghost use Rattle.ra_ap_intern.specs.State.{new_state};
-ghost use Rattle.queries.specs.Cache.{ReadsOn};
+ghost use Rattle.queries.specs.Cache.{CountsOn, ReadsOn, no_counts};
 ghost use Rattle.queries.specs.Evaluation.{Answers};
 ghost use Rattle.queries.specs.Spreadsheet.{IsCleared};
 ghost use Rattle.queries.specs.Sheet.{formula_at, same_place, place_order};
@@ -34,6 +34,7 @@ impl Model for Spreadsheet {
     ghost use Rattle.queries.specs.Cache.{IsCache};
     ghost use Rattle.queries.specs.Formula.{postfix_code};
     ghost use Rattle.queries.specs.Spreadsheet.{Book, book_code};
+    ghost use Rattle.queries.specs.contracts.cache.Counts as counts;
     ghost use Rattle.queries.specs.contracts.formula.Step as step;
     ghost use Rattle.queries.specs.contracts.key.Key as key;
     ghost use Rattle.queries.specs.contracts.place.Place as place;
@@ -41,9 +42,14 @@ impl Model for Spreadsheet {
     ghost Value = { Book };
 
     ghost coded = { book_code (coded_list (coded× place.the_row.coded
-        (postfix_code key.the_row.coded step.the_row.coded))) key.the_row.coded };
+        (postfix_code key.the_row.coded step.the_row.coded))) key.the_row.coded
+        counts.the_row.coded };
 
-    ghost view = { λ a. record { sheet = a.sheet; keys = a.cache.keys } };
+    ghost view = { λ a. record {
+      sheet = a.sheet;
+      keys = a.cache.keys;
+      counts = a.cache.counts;
+    } };
 
     ghost invariant = { λ a. IsCache a.sheet a.cache };
 }
@@ -53,6 +59,7 @@ impl Spreadsheet {
     pub fn new(alloc: Global) -> Spreadsheet
         ensures sheet { result.sheet ≡ [] }
         ensures queries { result.keys ≡ new_state 1 u64.MAX u64.MAX }
+        ensures counts { result.counts ≡ no_counts }
     {
         Spreadsheet {
             alloc,
@@ -67,6 +74,7 @@ impl Spreadsheet {
         ensures ok { OnOk result ((p : PlaceType) → formula_at self.new.sheet p
             ≡ (if same_place place p then Some formula else formula_at self.old.sheet p)) }
         ensures queries { self.new.keys ≡ self.old.keys }
+        ensures counts { self.new.counts ≡ self.old.counts }
         ensures err { OnErr result (self.new ≡ self.old) }
     {
         self.cache.raise(place)?;
@@ -79,6 +87,7 @@ impl Spreadsheet {
         ensures ok { OnOk result ((p : PlaceType) → formula_at self.new.sheet p
             ≡ (if same_place place p then None else formula_at self.old.sheet p)) }
         ensures queries { self.new.keys ≡ self.old.keys }
+        ensures counts { self.new.counts ≡ self.old.counts }
         ensures err { OnErr result (self.new ≡ self.old) }
     {
         self.cache.raise(place)?;
@@ -91,6 +100,7 @@ impl Spreadsheet {
         ensures answer { IfOk result (Answers self.old.sheet (cell_key place)) }
         ensures sheet { self.new.sheet ≡ self.old.sheet }
         ensures queries { ReadsOn self.old.keys self.new.keys }
+        ensures counts { CountsOn self.old.counts self.new.counts }
     {
         self.cache.answer(&self.sheet, Key::Cell(place))
     }
@@ -105,7 +115,9 @@ impl Spreadsheet {
     }
 
     /// How queries were answered so far.
-    pub fn counts(&self) -> Counts {
+    pub fn counts(&self) -> Counts
+        ensures { result ≡ self.now.counts }
+    {
         self.cache.counts
     }
 

@@ -208,8 +208,8 @@ impl GarbageCollector {
 
     /// Removes every entry of a family that no path of declared children reaches from a counted
     /// entry. Counts stay, births are not given again, and what was marked before is forgotten.
-    /// Where there is no memory, `AllocError`, and the family is as it was: all memory is asked for
-    /// before the first mark call.
+    /// Where there is no memory, or the family has 2^48 places or more, `AllocError`, and the family is
+    /// as it was: all memory is asked for before the first mark call.
     ///
     /// No two storages of the family may have one number ([`GarbageCollector::distinct`]).
     pub fn collect<F: Family>(self, family: &mut F) -> Result<Collected, AllocError>
@@ -224,7 +224,8 @@ impl GarbageCollector {
     }
 
     /// Does the same, and begins paths also at the entries whose names are in a list. A listed name
-    /// without an entry, or one that is listed twice, adds nothing.
+    /// without an entry, or one that is listed twice, adds nothing. Refused as
+    /// [`GarbageCollector::collect`].
     pub fn collect_keeping<F: Family>(
         mut self,
         family: &mut F,
@@ -245,7 +246,7 @@ impl GarbageCollector {
 
     /// Does the same, and begins paths also at what a visitor declares: a handle of any kind, or an
     /// option, a pair, an array, a vector, a slice or a hash map of such. Paths begin at the entry of
-    /// an owned handle anyway, as long as it is counted.
+    /// an owned handle anyway, as long as it is counted. Refused as [`GarbageCollector::collect`].
     pub fn collect_from<F: Family, R: GcInternedVisit>(
         mut self,
         family: &mut F,
@@ -263,8 +264,8 @@ impl GarbageCollector {
     }
 
     /// Finds what [`GarbageCollector::collect_from`] would leave, and removes nothing: what is to go
-    /// can be read, and what it owns be given up, before [`Trace::sweep`] removes it. Where there is
-    /// no memory, `AllocError`; the sweep asks for none.
+    /// can be read, and what it owns be given up, before [`Trace::sweep`] removes it. Refused as
+    /// [`GarbageCollector::collect`]; the sweep can't be refused.
     ///
     /// No two storages of the family may have one number ([`GarbageCollector::distinct`]).
     pub fn trace<F: Family, R: GcInternedVisit>(

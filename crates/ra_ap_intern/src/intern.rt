@@ -102,7 +102,7 @@ impl<T: Internable + Drop, B: BuildHasher> InternStorage<T, B> {
 
 impl<T: Internable, B: BuildHasher> Reserved<Values<T>, B> {
     /// Counted mode: what [`Interned::new`] does. Where there is room, a value that isn't stored
-    /// takes of it, and is not refused with `OutOfMemory`.
+    /// takes of it. Refused as there, but with `OutOfMemory` only where there is no room.
     pub fn intern(&mut self, obj: T) -> Result<(Interned<T>, Option<T>), Refused<T>>
         requires { T.Internable.USE_GC ≡ false }
         ensures name { IfOk result (λ r.
@@ -124,7 +124,7 @@ impl<T: Internable, B: BuildHasher> Reserved<Values<T>, B> {
     }
 
     /// Collected mode: what [`Interned::new_gc`] does. Where there is room, a value that isn't
-    /// stored takes of it, and is not refused with `OutOfMemory`.
+    /// stored takes of it. Refused as there, but with `OutOfMemory` only where there is no room.
     pub fn intern_gc(&mut self, obj: T) -> Result<(InternedRef<T>, Option<T>), Refused<T>>
         requires { T.Internable.USE_GC ≡ true }
         ensures name { IfOk result (λ r.

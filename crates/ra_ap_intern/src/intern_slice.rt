@@ -136,8 +136,8 @@ impl<T: SliceInternable, L: Layout<T::SliceType>, B: BuildHasher> Reserved<Slice
     }
 
     /// What [`InternedSlice::from_header_and_slice`] does. Where there is room for an entry and for
-    /// those of its items that don't lie in the entry, a pair that isn't stored takes of it, and is
-    /// not refused with `OutOfMemory`.
+    /// those of its items that don't lie in the entry, a slice that isn't stored takes of it. Refused
+    /// as there, but with `OutOfMemory` only where there is no such room.
     pub fn intern(
         &mut self,
         header: T::Header,

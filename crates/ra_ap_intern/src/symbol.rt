@@ -202,7 +202,7 @@ impl<B: BuildHasher> SymbolTable<B> {
 
     /// A reference to the symbol of a text, which the table keeps from then on: unless it is a
     /// preset, it is counted once more, and nobody gives that count up. For tables that only grow.
-    /// Refused as [`Symbol::intern`].
+    /// Refused as [`Symbol::intern`]: `CountFull`, `NumbersUsedUp`, `OutOfMemory`.
     pub fn get_or_intern(&mut self, text: &str) -> Result<SymbolRef, Refusal>
         ensures ok { IfOk result (λ r.
             symbol_ref_name r ≡ (symbol_in self.old text.now).symbol) }
@@ -266,7 +266,8 @@ impl<'a, B: BuildHasher> IntoIterator for &'a SymbolTable<B> {
 
 impl<B: BuildHasher> ReservedTexts<B> {
     /// What [`Symbol::intern`] does. Where there is room, a text of up to 24 bytes that isn't stored
-    /// takes of it, and is not refused with `OutOfMemory`.
+    /// takes of it. Refused as there, but with `OutOfMemory` only where there is no room, or the text
+    /// is longer.
     pub fn intern(&mut self, text: &str) -> Result<Symbol, Refusal>
         ensures ok { IfOk result (λ s.
             symbol_name s ≡ (symbol_in self.old.store.state text.now).symbol) }

@@ -47,7 +47,8 @@ impl<B: BuildHasher> InternStorage<Text, B> {
 
 impl<B: BuildHasher> Reserved<Values<Text>, B> {
     /// What [`InternStorage::intern_text`] does. Where there is room, a text of up to 24 bytes that
-    /// isn't stored takes of it, and is not refused with `OutOfMemory`.
+    /// isn't stored takes of it. Refused as there, but with `OutOfMemory` only where there is no room,
+    /// or the text is longer.
     pub fn intern_text(&mut self, text: &str) -> Result<Interned<Text>, Refusal>
         ensures name { IfOk result (λ h.
             name_of h ≡ interned_name bytes_eq self.old.store.state text.now) }

@@ -9,17 +9,17 @@ ghost use Rattle.ra_ap_intern.specs.State.{new_state};
 ghost use Rattle.ra_ap_intern.specs.Symbols.{symbol_in, due_symbol};
 ghost use Rattle.ra_ap_intern.specs.Under.{under_text};
 
+use indexmap::IndexMap;
 use ra_ap_intern::{Refusal, Symbol, SymbolRef, SymbolTable, laws};
 use std::alloc::Global;
-use std::collections::HashMap;
 
 /// A scope: what is declared, under the symbols of a table.
 #[derive(Drop)]
 pub struct Scope<V> {
     /// The names.
     pub names: SymbolTable,
-    /// What is declared under each.
-    pub values: HashMap<SymbolRef, V>,
+    /// What is declared under each, in the order in which names came up first.
+    pub values: IndexMap<SymbolRef, V>,
 }
 
 impl<V: Drop> Scope<V> {
@@ -30,7 +30,7 @@ impl<V: Drop> Scope<V> {
     {
         Scope {
             names: SymbolTable::new(alloc, number),
-            values: HashMap::new(alloc),
+            values: IndexMap::new(alloc),
         }
     }
 

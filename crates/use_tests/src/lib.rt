@@ -32,6 +32,8 @@ mod terms;
 #[cfg(test)]
 mod types;
 #[cfg(test)]
+mod unwraps;
+#[cfg(test)]
 mod visitors;
 #[cfg(test)]
 mod words;

@@ -1,6 +1,7 @@
 //! An expression is stored once.
 use ra_ap_intern::{InternStorage, Refusal};
 use use_nodes::{add, number, parts};
+use use_sums::find_sum;
 
 #[test]
 fn equal_expressions_have_one_handle(rt: HostRuntime) -> Result<(), Refusal> {
@@ -14,6 +15,8 @@ fn equal_expressions_have_one_handle(rt: HostRuntime) -> Result<(), Refusal> {
     assert!(rt; sum != turned);
     assert!(rt; parts(&exprs, sum) == Some((one, two)));
     assert!(rt; parts(&exprs, one).is_none());
+    assert!(rt; find_sum(&exprs, one, two) == Some(sum));
+    assert!(rt; find_sum(&exprs, one, one).is_none());
     assert_eq!(rt; exprs.len(), 4);
     Ok(())
 }

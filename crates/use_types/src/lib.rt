@@ -84,8 +84,8 @@ pub fn find_function(types: &Types, from: TypeRef, to: TypeRef) -> Option<TypeRe
     types.get(&TypeNode::Function(from, to))
 }
 
-/// Removes every type but the listed ones and what they are made of. Where there is no memory,
-/// `AllocError`, and the store is as it was.
+/// Removes every type that is neither listed nor counted, nor a part of what stays. Where there is
+/// no memory, `AllocError`, and the store is as it was.
 pub fn collect(alloc: Global, types: &mut Types, roots: &[TypeRef]) -> Result<Collected, AllocError>
     ensures ok { let begins = starts_with (list_map ref_name roots.now) (types_of types.old) in
         IfOk result (λ told. (names : List TypeName)

@@ -92,7 +92,8 @@ impl<T: Internable + Drop, B: BuildHasher> InternStorage<T, B> {
     ///
     /// It asks for room in the list first, for all handles at once: where there is none, the first
     /// value comes back with `OutOfMemory`, and nothing has changed. A value is refused as
-    /// [`Interned::new`] and [`Interned::new_gc`] refuse it. It comes back then: the handles of those
+    /// [`Interned::new`] (`CountFull`, `NumbersUsedUp`, `OutOfMemory`) and [`Interned::new_gc`]
+    /// (`NumbersUsedUp`, `OutOfMemory`) refuse it. It comes back then: the handles of those
     /// before it are in the list, and those behind it are left in the iterator.
     pub fn extend<H: InternHandle<T>>(
         &mut self,

@@ -1,5 +1,5 @@
 use Rattle.std.proofs.Common.{◌∷◌}
-use Rattle.queries.specs.Cache.{IsCache, ReadsOn}
+use Rattle.queries.specs.Cache.{CountsOn, IsCache, ReadsOn}
 use Rattle.queries.specs.Path.{IsFrame, IsPath}
 use Rattle.queries.specs.Steps.{steps_left}
 use Rattle.queries.proofs.cache.Cache.answer.Given as goal
@@ -9,6 +9,7 @@ abbrev pub invariant-steps : goal.invariant-steps
 invariant-steps l = record {
   cache : IsCache l.fn.sheet l.self;
   on : ReadsOn l.fn.self.keys l.self.keys;
+  counts : CountsOn l.fn.self.counts l.self.counts;
   frame : IsFrame l.fn.sheet l.self.keys l.top;
   path : IsPath l.fn.sheet l.self.keys l.fn.root l.path.frames.items l.top.key;
 }

@@ -8,6 +8,7 @@ use Rattle.queries.proofs.cache.Cache.give_up.Given as goal
 abbrev pub invariant-loop-frame : goal.invariant-loop-frame
 invariant-loop-frame l = record {
   keys : l.self.keys ≡ l.fn.self.keys;
+  counts : l.self.counts ≡ l.fn.self.counts;
   cache : (sheet : Formulas) → IsCache sheet l.fn.self
       → IsStuck sheet l.fn.self.keys l.fn.through l.fn.top
       → All (IsStuck sheet l.fn.self.keys l.fn.through) l.fn.path.frames.items

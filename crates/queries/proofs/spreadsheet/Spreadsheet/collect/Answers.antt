@@ -14,6 +14,8 @@ returns-clause-ok c =
     let needed = subst (λ handles. AreNeeded sheet old (map ref_name handles))
     (sym c.as_slice.ensures.value) c.in_ok-needed.ensures in
     if_ok _ _ (λ gone kept.
-    subst (λ b. IsCleared b (record { sheet = sheet; keys = new }) gone) c.self.view_is
-    (cleared sheet old new _ kept.names kept.told kept.reached kept.keys needed gone kept.count))
+    subst (λ b. IsCleared b (record { sheet = sheet; keys = new; counts = c.collect.new.self.counts }) gone)
+    c.self.view_is
+    (cleared sheet old new _ kept.names kept.told kept.reached kept.keys needed gone kept.count _ _
+    c.collect.ensures.counts))
     c.collect.result c.collect.ensures.ok
