@@ -11,13 +11,14 @@ use Rattle.ra_ap_intern.specs.Named.{same_name}
 use Rattle.ra_ap_intern.specs.State.{State, IsState, reads, interned, name_of_value}
 use Rattle.ra_ap_intern.specs.Under.{under_name}
 use Rattle.ra_ap_intern.proofs.CallerLemmas.{names_same, some_read, interned_reads_on, found_itself, kept_was_read}
+use Rattle.ra_ap_intern.specs.Interning.{ReadsOn}
 use Rattle.queries.specs.declared.cache.Memo.{Memo}
 use Rattle.queries.specs.declared.key.Key.{Key}
 use Rattle.queries.specs.declared.key.Key.TheVariants.{Cell, Total}
 use Rattle.queries.specs.declared.place.Place.{Place}
 use Rattle.queries.specs.declared.value.Answer.TheVariants as answer
 use Rattle.queries.specs.declared.value.Value.{Value}
-use Rattle.queries.specs.Cache.{Handle, IsMemo, AreMemos, ReadsOn}
+use Rattle.queries.specs.Cache.{Handle, IsMemo, AreMemos}
 use Rattle.queries.specs.Evaluation.{IsRight}
 use Rattle.queries.specs.Sheet.{Formulas, formula_at, same_place, cell_value, gives}
 

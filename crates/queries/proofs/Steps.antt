@@ -13,6 +13,7 @@ use Rattle.ra_ap_intern.specs.Name.{Name}
 use Rattle.ra_ap_intern.specs.Named.{same_name}
 use Rattle.ra_ap_intern.specs.State.{State, IsState, any_count, due_interning, interned, reads, name_of_value}
 use Rattle.ra_ap_intern.proofs.CallerLemmas.{equality_tested, found_itself, found_reads, names_same, same_names, read_found, state_interned, viewed_equivalence}
+use Rattle.ra_ap_intern.specs.Interning.{ReadsOn}
 use Rattle.queries.specs.declared.cache.Cache.{Cache}
 use Rattle.queries.specs.declared.cache.Memo.{Memo}
 use Rattle.queries.specs.declared.cache.Progress.{Progress}
@@ -25,7 +26,7 @@ use Rattle.queries.specs.declared.path.Frame.{Frame}
 use Rattle.queries.specs.declared.place.Block.{Block}
 use Rattle.queries.specs.declared.place.Place.{Place}
 use Rattle.queries.specs.declared.value.Value.{Value}
-use Rattle.queries.specs.Cache.{memo_at, current_answer, ReadsOn}
+use Rattle.queries.specs.Cache.{memo_at, current_answer}
 use Rattle.queries.specs.Path.{Chain, IsFrame, IsPath, IsWaiting, WaitsFor}
 use Rattle.queries.specs.Sheet.{Formulas, column_cells, formula_reads, reads_of, same_place}
 use Rattle.queries.specs.Steps.{function_number, same_block, same_key, cells_in, read_by, reachable, is_begun, steps_ahead, steps_within, steps_left, KeepsBegun, IsSettled, IsNearer}

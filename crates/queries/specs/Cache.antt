@@ -47,10 +47,6 @@ AreMemos sheet keys revision memos = (handle : Handle) (memo : Memo)
 abbrev pub IsCache : Formulas → Cache → Type 0
 IsCache sheet cache = AreMemos sheet cache.keys cache.revision cache.memos
 
--- each name reads what it did
-abbrev pub ReadsOn : State Key → State Key → Type 0
-ReadsOn old new = (name : Name) (key : Key) → reads old name ≡ Some key → reads new name ≡ Some key
-
 -- the answer of a memo of this revision
 abbrev pub current_answer : Option Memo → ℕ → Option Answer
 current_answer None revision = None

@@ -1,10 +1,11 @@
 //! The cache: what each query came to, and when that was last known to be right.
 ghost use Rattle.std.specs.Prelude.{◌≡◌, ◌↔◌, ◌⊎◌, ◌∷◌, Bool, true, false, List, [], map as list_map, Some, None, All, IsErrOf, IfOk, IsOkUnless, OnOk, OnErr, IfSome, IsSome, length, slice_get, option_copied, if◌then◌else◌};
 ghost use Rattle.ra_ap_intern.specs.Handle.{ref_name};
+ghost use Rattle.ra_ap_intern.specs.Interning.{ReadsOn};
 ghost use Rattle.ra_ap_intern.specs.Name.{Name as KeyName};
 ghost use Rattle.ra_ap_intern.specs.Named.{same_name};
 ghost use Rattle.ra_ap_intern.specs.State.{IsState, new_state, reads, name_of_value};
-ghost use Rattle.queries.specs.Cache.{Handle, memo_at, IsMemo, IsCache, IsCollected, CountsOn, ReadsOn, HasGiven, current_answer, no_counts, one_computed, one_verified};
+ghost use Rattle.queries.specs.Cache.{Handle, memo_at, IsMemo, IsCache, IsCollected, CountsOn, HasGiven, current_answer, no_counts, one_computed, one_verified};
 ghost use Rattle.queries.specs.Evaluation.{Evaluates, IsRight, LeadsToCycle};
 ghost use Rattle.queries.specs.Path.{WaitsFor, IsWaiting, IsFrame, IsPath, IsStuck, GoesOn};
 ghost use Rattle.queries.specs.Sheet.{Formulas, formula_at, same_place, gives};

@@ -2,8 +2,9 @@
 ghost use Rattle.std.specs.Prelude.{◌≡◌, ◌↔◌, [], Some, None, Contains, IsSome, IfOk, OnOk, OnErr, if◌then◌else◌};
 ghost use Rattle.std.specs.FinMap as map;
 ghost use Rattle.std.specs.List.Sorted.{IsStrictlySortedBy};
+ghost use Rattle.ra_ap_intern.specs.Interning.{ReadsOn};
 ghost use Rattle.ra_ap_intern.specs.State.{new_state};
-ghost use Rattle.queries.specs.Cache.{CountsOn, ReadsOn, no_counts};
+ghost use Rattle.queries.specs.Cache.{CountsOn, no_counts};
 ghost use Rattle.queries.specs.Evaluation.{Answers};
 ghost use Rattle.queries.specs.Spreadsheet.{IsCleared};
 ghost use Rattle.queries.specs.Sheet.{formula_at, same_place, place_order};

@@ -1,6 +1,6 @@
 -- What is known of values that are equal exactly if they are seen as the same, and what a collection
 -- leaves of them.
-use Rattle.std.proofs.Common.{◌≡◌, ◌↔◌, Bool, true, false, ◌&&◌, List, [], ◌∷◌, map, Option, Some, None, IsSome, is_some, Result, Ok, Err, IfOk, OnErr, refl, sym, ap, subst, ◌∙◌}
+use Rattle.std.proofs.Common.{rules, ◌≡◌, ◌↔◌, Bool, true, false, ◌&&◌, List, [], ◌∷◌, map, Option, Some, None, IsSome, is_some, Result, Ok, Err, IfOk, OnErr, refl, sym, ap, subst, ◌∙◌}
 use Rattle.std.specs.Cmp.{IsEquivalence}
 use Rattle.std.specs.List.{flat_map}
 use Rattle.std.specs.Option.{option_eq, option_map}
@@ -8,17 +8,23 @@ use Rattle.std.specs.declared.alloc.AllocError.{AllocError}
 use Rattle.std.proofs.lemmas.Bool.{and_parts, and_from}
 use Rattle.std.proofs.lemmas.Option.{same_Some}
 use Rattle.ra_ap_intern.specs.Families.{IsCollection, entries_of, kept_named}
+use Rattle.ra_ap_intern.specs.Handle.{ref_name}
+use Rattle.ra_ap_intern.specs.Interning.{Makes}
 use Rattle.ra_ap_intern.specs.Name.{Name}
 use Rattle.ra_ap_intern.specs.Named.{same_name}
 use Rattle.ra_ap_intern.specs.Names.{has}
+use Rattle.ra_ap_intern.specs.Outcome.{Becomes, MayWant}
 use Rattle.ra_ap_intern.specs.Reach.{Entry, IsReachedSet, Reached, is_entry, starts_with}
-use Rattle.ra_ap_intern.specs.State.{State, IsState, reads, counts, interned, interned_name, name_of_value}
+use Rattle.ra_ap_intern.specs.State.{State, IsState, reads, counts, is_new, interned, interned_name, name_of_value, due_interning, any_count}
+use Rattle.ra_ap_intern.specs.Refusal.{Refusal}
 use Rattle.ra_ap_intern.specs.declared.gc.Collected.{Collected}
+use Rattle.ra_ap_intern.specs.declared.kind.Values.{Values}
+use Rattle.ra_ap_intern.specs.declared.storage.Ref.{Ref}
 use Rattle.intern_store.proofs.Named.{names_same, same_names}
 use Rattle.intern_store.proofs.Reading.{interned_reads}
 use Rattle.ra_ap_intern.proofs.CallerCollections.{kept_reads, kept_counts, root_reads, child_kept, children_read, entry_read}
 use Rattle.ra_ap_intern.proofs.CallerInterning.{found_reads, none_found, read_found}
-use Rattle.ra_ap_intern.proofs.CallerReads.{read_once}
+use Rattle.ra_ap_intern.proofs.CallerReads.{interned_reads_on, read_once}
 
 -- two names are those of two others
 pub names_same_both : (a b x y : Name) → (same_name a x && same_name b y) ≡ true
@@ -103,6 +109,26 @@ module _ {V X : Type 0} (eq : V → V → Bool) (view : V → X) (alike : (v w :
       let r = interned_reads eq viewed_equivalence s v in
       (λ i. option_map view (reads (now i) (named i)))
       ∙ ap (option_map view) r.1 ∙ ap Some (sym ((alike v r.0).0 r.2))
+
+  -- a call with these clauses of interning makes a value
+  pub makes : (s : State V) → IsState eq s → (v : V) (result : Result (Ref (Values V)) Refusal)
+      (new : State V) → IfOk result (λ r. ref_name r ≡ interned_name eq s v)
+      → MayWant result (due_interning eq s v any_count) (is_new eq s v)
+      → Becomes result s new (interned eq s v).state → Makes eq view result s new v
+  makes s ok v (Ok r) new name refused state = record {
+    name = name;
+    refused = refused;
+    state = state;
+    stands = interned_view s new v (ref_name r) name state;
+    stays = λ n w read. ap (λ t. reads t n) state ∙ interned_reads_on eq s ok v n w read;
+  }
+  makes s ok v (Err why) new name refused state = record {
+    name = name;
+    refused = refused;
+    state = state;
+    stands = search rules;
+    stays = λ n w read. ap (λ t. reads t n) state ∙ read;
+  }
 
   -- what a look-up answers is seen as what was looked up
   pub found_view : (s : State V) (v : V) (name : Name) → name_of_value eq s v ≡ Some name

@@ -1,14 +1,33 @@
--- Values that are interned in turn.
-use Rattle.std.specs.Prelude.{◌≡◌, ◌⊎◌, ⊤, ℕ, Bool, List, [], ◌∷◌, ◌++◌, Option, None}
+-- What a call comes to that interns a value, or values in turn.
+use Rattle.std.specs.Prelude.{◌≡◌, ◌⊎◌, ⊤, ℕ, Bool, List, [], ◌∷◌, ◌++◌, Option, None, Some, Result, IfOk}
 use Rattle.std.specs.List.{fold}
-use Rattle.intern_store.specs.Outcome.{IsWhy}
-use Rattle.intern_store.specs.State.{State, is_new, interned_name, due_interning}
+use Rattle.std.specs.Option.{option_map}
+use Rattle.intern_store.specs.Outcome.{Becomes, IsWhy, MayWant}
+use Rattle.intern_store.specs.State.{State, reads, is_new, interned, interned_name, due_interning, any_count}
 use Rattle.intern_store.specs.declared.names.Name.{Name}
 use Rattle.intern_store.specs.declared.refusal.Refusal.{Refusal}
 use Rattle.intern_store.specs.declared.refusal.Refusal.TheVariants.{OutOfMemory}
 use Rattle.intern_store.specs.declared.refusal.Refused.{Refused}
+use Rattle.ra_ap_intern.specs.Handle.{ref_name}
+use Rattle.ra_ap_intern.specs.declared.kind.Values.{Values}
+use Rattle.ra_ap_intern.specs.declared.storage.Ref.{Ref}
 
 module _ {V : Type 0} where
+  -- what was read is read
+  abbrev pub ReadsOn : State V → State V → Type 0
+  ReadsOn old new = (n : Name) (v : V) → reads old n ≡ Some v → reads new n ≡ Some v
+
+  -- in collected mode a value is stored unless an equal one is, and the reference that is answered
+  -- stands for it, as far as it is seen
+  pub record Makes {X : Type 0} (eq : V → V → Bool) (view : V → X)
+      (result : Result (Ref (Values V)) Refusal) (old new : State V) (v : V) : Type 0
+    where
+      pub name : IfOk result (λ r. ref_name r ≡ interned_name eq old v)
+      pub refused : MayWant result (due_interning eq old v any_count) (is_new eq old v)
+      pub state : Becomes result old new (interned eq old v).state
+      pub stands : IfOk result (λ r. option_map view (reads new (ref_name r)) ≡ Some (view v))
+      pub stays : ReadsOn old new
+
   -- the names that values get in turn, where this is the state after each
   abbrev pub names_in_turn : (State V → V → State V) → (V → V → Bool) → State V → List V → List Name
   names_in_turn after eq s [] = []

@@ -3,15 +3,15 @@
 
 ghost use Rattle.std.specs.Prelude.{◌≡◌, ◌↔◌, true, Some, IfOk};
 ghost use Rattle.ra_ap_intern.specs.Handle.{ref_name};
-ghost use Rattle.ra_ap_intern.specs.Outcome.{Becomes, MayWant};
-ghost use Rattle.ra_ap_intern.specs.State.{reads, is_new, interned, interned_name, due_interning, any_count};
+ghost use Rattle.ra_ap_intern.specs.Interning.{Makes};
+ghost use Rattle.ra_ap_intern.specs.State.{reads};
 ghost use Rattle.ra_ap_intern.specs.declared.kind.Values.{Values as ValueKind};
 ghost use Rattle.ra_ap_intern.specs.declared.storage.Ref.{Ref as Reference};
 ghost use Rattle.use_nodes.specs.Parts.{Parts, number as a_number, sum, parts_in, parts_at, summands};
 ghost use Rattle.use_nodes.specs.declared.Expr.{Expr as Node};
 ghost use Rattle.use_nodes.specs.declared.Expr.TheVariants.{Number as of_number, Add as of_sum};
 
-use ra_ap_intern::{InternStorage, Internable, Interned, InternedRef, Refusal, laws};
+use ra_ap_intern::{InternStorage, Internable, InternedRef, Refusal, laws};
 use std::cmp::PartialEq;
 
 /// An expression over others.
@@ -32,20 +32,24 @@ impl Internable for Expr {
     ghost USE_GC = { true };
 }
 
+/// The handle of an expression, which is stored unless an equal one is. Refused: `NumbersUsedUp`,
+/// `OutOfMemory`.
+pub fn make(exprs: &mut InternStorage<Expr>, expr: Expr) -> Result<ExprRef, Refusal>
+    ensures { Makes ⟦<Expr as PartialEq>⟧.eq parts_in result exprs.old exprs.new expr }
+{
+    // What these say is used here: that no two expressions are equal, and what expressions are.
+    expressions_are_their_parts();
+    let _number = exprs.number();
+    exprs.get_or_intern_gc(expr)
+}
+
 /// The expression of a number. Refused: `NumbersUsedUp`, `OutOfMemory`.
 pub fn number(exprs: &mut InternStorage<Expr>, value: u64) -> Result<ExprRef, Refusal>
-    ensures name { let eq = ⟦<Expr as PartialEq>⟧.eq in
-        IfOk result (λ e. ref_name e ≡ interned_name eq exprs.old (of_number value)) }
-    ensures refused { let eq = ⟦<Expr as PartialEq>⟧.eq in
-        MayWant result (due_interning eq exprs.old (of_number value) any_count)
-        (is_new eq exprs.old (of_number value)) }
-    ensures state { let eq = ⟦<Expr as PartialEq>⟧.eq in
-        Becomes result exprs.old exprs.new (interned eq exprs.old (of_number value)).state }
+    ensures makes { Makes ⟦<Expr as PartialEq>⟧.eq parts_in result exprs.old exprs.new
+        (of_number value) }
     ensures reads { IfOk result (λ e. parts_at exprs.new (ref_name e) ≡ Some (a_number value)) }
 {
-    expressions_are_their_parts();
-    let (handle, _) = Interned::new_gc(exprs, Expr::Number(value))?;
-    Ok(handle)
+    make(exprs, Expr::Number(value))
 }
 
 /// The sum of two expressions. Refused: `NumbersUsedUp`, `OutOfMemory`.
@@ -54,19 +58,12 @@ pub fn add(
     left: ExprRef,
     right: ExprRef,
 ) -> Result<ExprRef, Refusal>
-    ensures name { let eq = ⟦<Expr as PartialEq>⟧.eq in
-        IfOk result (λ e. ref_name e ≡ interned_name eq exprs.old (of_sum left right)) }
-    ensures refused { let eq = ⟦<Expr as PartialEq>⟧.eq in
-        MayWant result (due_interning eq exprs.old (of_sum left right) any_count)
-        (is_new eq exprs.old (of_sum left right)) }
-    ensures state { let eq = ⟦<Expr as PartialEq>⟧.eq in
-        Becomes result exprs.old exprs.new (interned eq exprs.old (of_sum left right)).state }
+    ensures makes { Makes ⟦<Expr as PartialEq>⟧.eq parts_in result exprs.old exprs.new
+        (of_sum left right) }
     ensures reads { IfOk result (λ e.
         parts_at exprs.new (ref_name e) ≡ Some (sum (ref_name left) (ref_name right))) }
 {
-    expressions_are_their_parts();
-    let (handle, _) = Interned::new_gc(exprs, Expr::Add(left, right))?;
-    Ok(handle)
+    make(exprs, Expr::Add(left, right))
 }
 
 /// The parts of a sum. None for any other handle.

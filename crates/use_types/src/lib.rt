@@ -5,19 +5,20 @@ ghost use Rattle.std.specs.Prelude.{◌≡◌, ◌↔◌, true, List, map as lis
 ghost use Rattle.std.specs.Option.{option_map};
 ghost use Rattle.ra_ap_intern.specs.Families.{IsCollection, kept_named};
 ghost use Rattle.ra_ap_intern.specs.Handle.{ref_name};
+ghost use Rattle.ra_ap_intern.specs.Interning.{Makes};
 ghost use Rattle.ra_ap_intern.specs.Name.{Name as TypeName};
 ghost use Rattle.ra_ap_intern.specs.Names.{has};
 ghost use Rattle.ra_ap_intern.specs.Reach.{Reached, starts_with};
 ghost use Rattle.ra_ap_intern.specs.State.{State, IsState, reads, name_of_value};
 ghost use Rattle.ra_ap_intern.specs.declared.kind.Values.{Values as ValueKind};
 ghost use Rattle.ra_ap_intern.specs.declared.storage.Ref.{Ref as Reference};
-ghost use Rattle.use_types.specs.Types.{Makes, Shape, shape, shape_at, types_of};
+ghost use Rattle.use_types.specs.Types.{Shape, shape, shape_at, types_of};
 ghost use Rattle.use_types.specs.declared.TypeNode.{TypeNode as Node};
 ghost use Rattle.use_types.specs.declared.TypeNode.TheVariants.{Function as function_node};
 
 use ra_ap_intern::{
-    Collected, GarbageCollector, GcInternedVisit, InternStorage, Internable, Interned, InternedRef,
-    Refusal, SymbolRef, laws,
+    Collected, GarbageCollector, GcInternedVisit, InternStorage, Internable, InternedRef, Refusal,
+    SymbolRef, laws,
 };
 use std::alloc::{AllocError, Global};
 use std::cmp::PartialEq;
@@ -59,18 +60,17 @@ impl GcInternedVisit for TypeNode {
 /// The handle of a type, which is stored unless an equal one is. Refused: `NumbersUsedUp`,
 /// `OutOfMemory`.
 pub fn make(types: &mut Types, node: TypeNode) -> Result<TypeRef, Refusal>
-    ensures { Makes ⟦<TypeNode as PartialEq>⟧.eq result types.old types.new node }
+    ensures { Makes ⟦<TypeNode as PartialEq>⟧.eq shape result types.old types.new node }
 {
     // What these say is used here: that no two types are equal, and what types are.
     types_are_their_shapes();
     let _number = types.number();
-    let (handle, _) = Interned::new_gc(types, node)?;
-    Ok(handle)
+    types.get_or_intern_gc(node)
 }
 
 /// The type of the functions from a type to another, made as by `make`.
 pub fn function(types: &mut Types, from: TypeRef, to: TypeRef) -> Result<TypeRef, Refusal>
-    ensures { Makes ⟦<TypeNode as PartialEq>⟧.eq result types.old types.new
+    ensures { Makes ⟦<TypeNode as PartialEq>⟧.eq shape result types.old types.new
         (function_node from to) }
 {
     make(types, TypeNode::Function(from, to))

@@ -1,5 +1,6 @@
 use Rattle.std.proofs.Common.{◌∷◌}
-use Rattle.queries.specs.Cache.{CountsOn, IsCache, ReadsOn}
+use Rattle.ra_ap_intern.specs.Interning.{ReadsOn}
+use Rattle.queries.specs.Cache.{CountsOn, IsCache}
 use Rattle.queries.specs.Path.{IsFrame, IsPath}
 use Rattle.queries.specs.Steps.{steps_left}
 use Rattle.queries.proofs.cache.Cache.answer.Given as goal
