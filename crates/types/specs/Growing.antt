@@ -1,6 +1,6 @@
 -- What inference leaves of an environment.
 use Rattle.std.specs.Prelude.{◌≡◌}
-use Rattle.types.specs.Making.{ReadsOn}
+use Rattle.ra_ap_intern.specs.Interning.{ReadsOn}
 use Rattle.types.specs.declared.environment.Environment.{Environment}
 
 -- what is declared is as it was, and so is each type; types may have been made

@@ -1,6 +1,5 @@
 pub mod Environment
 pub mod Growing
-pub mod Making
 pub mod Tree
 pub mod Types
 pub mod Unifying

@@ -1,5 +1,5 @@
 //! Copies of types with other leaves, each part copied once.
-ghost use Rattle.types.specs.Making.{ReadsOn};
+ghost use Rattle.ra_ap_intern.specs.Interning.{ReadsOn};
 
 use crate::error::TypeError;
 use crate::store::Types;

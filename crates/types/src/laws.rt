@@ -2,13 +2,13 @@
 ghost use Rattle.std.specs.Prelude.{◌≡◌, ◌↔◌, Bool, true, List};
 ghost use Rattle.ra_ap_intern.specs.Families.{kept_named};
 ghost use Rattle.ra_ap_intern.specs.Handle.{ref_name};
+ghost use Rattle.ra_ap_intern.specs.Interning.{ReadsOn};
 ghost use Rattle.ra_ap_intern.specs.Name.{Name as TypeName};
 ghost use Rattle.ra_ap_intern.specs.Names.{has};
 ghost use Rattle.ra_ap_intern.specs.Reach.{IsReachedSet};
 ghost use Rattle.ra_ap_intern.specs.State.{State, IsState};
 ghost use Rattle.ra_ap_intern.specs.declared.kind.Values.{Values as ValueKind};
 ghost use Rattle.ra_ap_intern.specs.declared.storage.Ref.{Ref as Reference};
-ghost use Rattle.types.specs.Making.{ReadsOn};
 ghost use Rattle.types.specs.Tree.{Tree, UnfoldsTo};
 ghost use Rattle.types.specs.Types.{shape, types_of};
 ghost use Rattle.types.specs.declared.value.TypeNode.{TypeNode as Node};

@@ -3,18 +3,18 @@ ghost use Rattle.std.specs.Prelude.{◌≡◌, List, map as list_map, IfOk, OnEr
 ghost use Rattle.std.specs.FinMap as map;
 ghost use Rattle.ra_ap_intern.specs.Families.{IsCollection, kept_named};
 ghost use Rattle.ra_ap_intern.specs.Handle.{ref_name};
+ghost use Rattle.ra_ap_intern.specs.Interning.{Makes};
 ghost use Rattle.ra_ap_intern.specs.Name.{Name as TypeName};
 ghost use Rattle.ra_ap_intern.specs.Names.{has};
 ghost use Rattle.ra_ap_intern.specs.Reach.{Reached, starts_with};
 ghost use Rattle.ra_ap_intern.specs.State.{IsState, new_state, reads};
-ghost use Rattle.types.specs.Making.{Makes};
-ghost use Rattle.types.specs.Types.{types_of};
+ghost use Rattle.types.specs.Types.{shape, types_of};
 ghost use Rattle.types.specs.declared.value.TypeNode.TheVariants.{Function as function_node, Pair as pair_node};
 
 use crate::laws;
 use crate::value::{TypeNode, TypeRef};
 use crate::written::Written;
-use ra_ap_intern::{Collected, GarbageCollector, InternStorage, Interned, Refusal};
+use ra_ap_intern::{Collected, GarbageCollector, InternStorage, Refusal};
 use std::alloc::{AllocError, Global};
 use std::cmp::PartialEq;
 use std::marker::Model;
@@ -59,7 +59,7 @@ impl Types {
 
     /// The functions from a type to another.
     pub fn function(&mut self, from: TypeRef, to: TypeRef) -> Result<TypeRef, Refusal>
-        ensures { Makes ⟦<TypeNode as PartialEq>⟧.eq result self.old self.new
+        ensures { Makes ⟦<TypeNode as PartialEq>⟧.eq shape result self.old self.new
             (function_node from to) }
     {
         self.make(TypeNode::Function(from, to))
@@ -67,7 +67,7 @@ impl Types {
 
     /// The pairs of two types.
     pub fn pair(&mut self, first: TypeRef, second: TypeRef) -> Result<TypeRef, Refusal>
-        ensures { Makes ⟦<TypeNode as PartialEq>⟧.eq result self.old self.new
+        ensures { Makes ⟦<TypeNode as PartialEq>⟧.eq shape result self.old self.new
             (pair_node first second) }
     {
         self.make(TypeNode::Pair(first, second))
@@ -75,13 +75,12 @@ impl Types {
 
     /// The handle of a type, which is stored unless an equal one is.
     pub fn make(&mut self, node: TypeNode) -> Result<TypeRef, Refusal>
-        ensures { Makes ⟦<TypeNode as PartialEq>⟧.eq result self.old self.new node }
+        ensures { Makes ⟦<TypeNode as PartialEq>⟧.eq shape result self.old self.new node }
     {
         // What these say is used here: that no two types are equal, and what types are.
         laws::types_are_their_shapes();
         let _number = self.types.number();
-        let (handle, _) = Interned::new_gc(&mut self.types, node)?;
-        Ok(handle)
+        self.types.get_or_intern_gc(node)
     }
 
     /// The type that a handle stands for. None for one of another store, or one that is gone.
@@ -107,8 +106,8 @@ impl Types {
         self.types.len()
     }
 
-    /// Removes every type but the listed ones and what they are made of. Where there is no memory,
-    /// `AllocError`, and the store is as it was.
+    /// Removes every type that is neither listed nor counted, nor a part of what stays. Where there is
+    /// no memory, `AllocError`, and the store is as it was.
     pub fn collect(&mut self, roots: &[TypeRef]) -> Result<Collected, AllocError>
         ensures ok { IfOk result (λ told. (names : List TypeName)
             × IsCollection (starts_with (list_map ref_name roots.now) (types_of self.old))

@@ -1,4 +1,4 @@
-use Rattle.types.specs.Making.{ReadsOn}
+use Rattle.ra_ap_intern.specs.Interning.{ReadsOn}
 use Rattle.types.proofs.copy.Copies.run.Given as goal
 
 -- what was read is read

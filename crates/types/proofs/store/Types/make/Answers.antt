@@ -1,16 +1,10 @@
-use Rattle.std.proofs.Common.{rules}
-use Rattle.ra_ap_intern.proofs.CallerLemmas.{interned_view, interned_reads_on}
+use Rattle.ra_ap_intern.proofs.CallerLemmas.{makes}
+use Rattle.types.specs.Types.{shape}
 use Rattle.types.proofs.store.Types.make.Goals as goal
 
 pub returns : goal.returns
-returns c = record {
-  name = search rules;
-  refused = search rules;
-  state = search rules;
-  stands =
-      interned_view _ _ c.types_are_their_shapes.ensures c.self.inside.types _ c.args.node _
-      c.in_ok-handle.ensures.name c.in_ok-handle.ensures.state;
-  stays =
-      rw (← c.self.view_is, c.in_ok-handle.ensures.state)
-      (interned_reads_on _ c.self.inside.types c.number-number.ensures.state c.args.node);
-}
+returns c =
+    let made = c.get_or_intern_gc.ensures in
+    rw (← c.self.view_is)
+    (makes _ shape c.types_are_their_shapes.ensures _ c.number-number.ensures.state _ _ _ made.name
+    made.refused made.state)
