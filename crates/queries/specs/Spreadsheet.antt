@@ -21,8 +21,8 @@ pub record Book : Type 0 where
 
 abbrev pub book_code : Coded Formulas → Coded Key → Coded Counts → Coded Book
 book_code sheet key counts =
-    code_by (Formulas × State Key × Counts) (coded× sheet (coded× (state_code key) counts))
-    (λ b. (b.sheet, b.keys, b.counts))
+    code_by (Formulas × (State Key × Counts)) (coded× sheet (coded× (state_code key) counts))
+    (λ b. (b.sheet, (b.keys, b.counts)))
     (λ p. record { sheet = p.0; keys = p.1.0; counts = p.1.1 }) (λ _. refl)
 
 -- what a collection leaves: the queries that are needed, and those that are counted, under their

@@ -7,6 +7,7 @@ returns-in_err-put_cycle-clause-cache c sheet is top all =
 pub loop-frame-init : goal.loop-frame-init
 loop-frame-init c = record {
   keys = c.in_ok-put_cycle.ensures.keys;
+  counts = c.in_ok-put_cycle.ensures.counts;
   cache = λ sheet is top all.
       c.put_cycle.ensures.cache sheet c.args.top.key is top.stored top.cyclic;
 }
