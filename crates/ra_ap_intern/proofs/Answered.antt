@@ -1,8 +1,8 @@
 -- Two answers to collections of one family, from the same roots.
-use Rattle.std.proofs.Common.{◌≡◌, ◌-◌, ◌^◌, min, Bool, true, false, ◌||◌, List, [], ◌∷◌, length, refl, sym, ◌∙◌, ap, subst, inl, inr, arith}
+use Rattle.std.proofs.Common.{◌≡◌, ◌-◌, ◌^◌, min, Bool, true, false, List, [], ◌∷◌, length, refl, sym, ◌∙◌, ap, subst, inl, inr, arith}
 use Rattle.std.specs.List.{IsDistinct, AllByRecursion, filter}
 use Rattle.std.specs.List.Sorted.{IsPermutation}
-use Rattle.std.proofs.lemmas.Bool.{cases_Bool, or_cases}
+use Rattle.std.proofs.lemmas.Bool.{or_cases}
 use Rattle.std.proofs.lemmas.List.Sorted.{IsPermutation-refl, IsPermutation-sym, IsPermutation-trans, IsPermutation-cons, IsPermutation-middle, sum_by-IsPermutation, length_permutation, list_any-IsPermutation}
 use Rattle.std.proofs.lemmas.Map.Keys.{IsDistinct-head, IsDistinct-tail, IsDistinct-IsPermutation}
 use Rattle.intern_store.specs.Named.{same_name}
@@ -27,15 +27,12 @@ taken_out (y ∷ ys) x there = elim (or_cases (same_name x y) (has ys x) there) 
 
 absent : (x : Name) (xs : List Name) → AllByRecursion (λ y. same_name x y ≡ false) xs → has xs x ≡ false
 absent x [] all = refl
-absent x (y ∷ ys) all = ap (λ b. b || has ys x) all.0 ∙ absent x ys all.1
+absent x (y ∷ ys) all = grind (arith, all.0, absent x ys all.1)
 
 -- lists that agree in their first name, which is not behind, agree behind it
 alike_behind : (x : Name) (xs zs : List Name) → has xs x ≡ false → has zs x ≡ false
     → ((n : Name) → has (x ∷ xs) n ≡ has (x ∷ zs) n) → (n : Name) → has xs n ≡ has zs n
-alike_behind x xs zs one two same n = elim (cases_Bool (same_name n x)) [
-  | inl is ↦ let here = names_same n x is in ap (has xs) here ∙ one ∙ sym (ap (has zs) here ∙ two)
-  | inr not ↦ sym (ap (λ b. b || has xs n) not) ∙ same n ∙ ap (λ b. b || has zs n) not
-]
+alike_behind x xs zs one two same n = grind (arith, names_same n x, same n)
 
 -- lists without doubles that have the same names are one in two orders
 one_in_two_orders : (xs ys : List Name) → IsDistinct same_name xs → IsDistinct same_name ys

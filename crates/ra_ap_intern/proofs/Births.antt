@@ -1,18 +1,14 @@
 -- The next birth after each change of a storage.
-use Rattle.std.proofs.Common.{◌≡◌, ℕ, ◌+◌, Bool, true, false, cond, List, Option, Some, None, refl, ap, ◌∙◌}
+use Rattle.std.proofs.Common.{◌≡◌, ℕ, ◌+◌, Bool, List, Some, None, refl, ap, ◌∙◌, arith}
 use Rattle.std.specs.Str.{bytes_eq}
 use Rattle.intern_presets.specs.Presets.{place_of}
-use Rattle.intern_store.specs.State.{State, counted_down, taken, released, is_last, birth_of, or_added, interned, name_in}
+use Rattle.intern_store.specs.State.{State, released, birth_of, or_added, interned, name_in}
 use Rattle.ra_ap_intern.specs.Symbols.{Named, symbol_at, symbol_in, at_entry}
 use Rattle.ra_ap_intern.specs.Symbols.Named.{preset, entry}
 
 module _ {V : Type 0} where
   pub next-released : (stays : Bool) (s : State V) (b : ℕ) → (released stays s b).next ≡ s.next
-  next-released stays s b = go (is_last stays s b)
-    where
-      go : (t : Bool) → (cond t (taken s b) (counted_down s b)).next ≡ s.next
-      go true = refl
-      go false = refl
+  next-released stays s b = grind arith
 
   -- a value without a birth gets the next one, which is past it then
   pub birth-fresh : (eq : V → V → Bool) (s : State V) (v : V) → birth_of eq s v ≡ None → (interned eq s v).birth ≡ s.next
@@ -37,11 +33,7 @@ next-symbol_given s t other is =
 
 pub next-symbol_stored : (s : State (List ℕ)) (t : List ℕ) (b : ℕ) → birth_of bytes_eq s t ≡ Some b
     → (symbol_in s t).table.next ≡ s.next
-next-symbol_stored s t b is = go (place_of t)
-  where
-    go : (p : Option ℕ) → (symbol_at p s t).table.next ≡ s.next
-    go (Some place) = refl
-    go None = let i = interned bytes_eq s t in next-stored bytes_eq s t b is
+next-symbol_stored s t b is = grind arith
 
 pub next-at_entry : (change : State (List ℕ) → ℕ → State (List ℕ)) → ((s : State (List ℕ)) (b : ℕ) → (change s b).next ≡ s.next)
     → (s : State (List ℕ)) (a : Named) → (at_entry change s a).next ≡ s.next

@@ -1,7 +1,7 @@
 -- What a collector sees of a storage, and what a collection leaves.
-use Rattle.std.proofs.Common.{◌≡◌, ℕ, ◌<◌, Bool, true, false, not, cond, ◌==◌, List, [], ◌∷◌, ◌++◌, Option, Some, None, is_some, refl, sym, ap, ◌∙◌, arith}
-use Rattle.std.specs.Option.{option_map}
-use Rattle.std.proofs.lemmas.Bool.{and_from, or_left, or_right, eq-eqb, ne_eqb}
+use Rattle.std.proofs.Common.{◌≡◌, ℕ, ◌<◌, Bool, true, false, cond, ◌==◌, List, [], ◌∷◌, ◌++◌, Some, None, is_some, ap, ◌∙◌, arith}
+use Rattle.std.proofs.lemmas.Bool.{and_from, or_left, or_right}
+use Rattle.std.proofs.lemmas.Bool.Decides.{nat_tests}
 use Rattle.ra_ap_intern.specs.Families.{entries_of, kept_named, has_number, are_distinct}
 use Rattle.ra_ap_intern.specs.Kept.{Kept}
 use Rattle.ra_ap_intern.specs.Name.{Name}
@@ -16,40 +16,24 @@ use Rattle.ra_ap_intern.proofs.CallerReads.{read_at}
 
 -- a count above zero is one that counts
 pub is_more : (c : ℕ) → 0 < c → is_counted c ≡ true
-is_more c some = ap not (ne_eqb c 0 (λ none. absurd (omega arith)))
+is_more c some = grind (arith, nat_tests)
 
 module _ {V : Type 0} where
   -- a name is that of an entry where it reads something
   pub entry_read : (children : V → List Name) (s : State V) (name : Name)
       → is_entry (entries_of children s) name ≡ is_some (reads s name)
-  entry_read children s name =
-      ap is_some (entry_named children s name)
-      ∙ go (name.storage == s.number) (entry_at s name.birth)
-    where
-      go : (t : Bool) (o : Option (Kept V))
-          → is_some (cond t (option_map (as_entry children s name.birth) o) None)
-          ≡ is_some (cond t (option_map (λ k. k.value) o) None)
-      go true (Some k) = refl
-      go true None = refl
-      go false o = refl
+  entry_read children s name = grind (arith, entry_named children s name)
 
   -- the entry of a name, as a collection sees it
   pub seen_there : (children : V → List Name) (s : State V) (name : Name) (k : Kept V)
       → name.storage ≡ s.number → entry_at s name.birth ≡ Some k
       → entry_of (entries_of children s) name ≡ Some (as_entry children s name.birth k)
-  seen_there children s name k home at =
-      entry_named children s name
-      ∙ ap (λ t. cond t (option_map (as_entry children s name.birth) (entry_at s name.birth)) None)
-      (eq-eqb name.storage s.number home)
-      ∙ ap (option_map (as_entry children s name.birth)) at
+  seen_there children s name k home at = grind (arith, nat_tests, entry_named children s name)
 
   -- a name of another storage has none
   pub seen_elsewhere : (children : V → List Name) (s : State V) (name : Name)
       → (name.storage == s.number) ≡ false → entry_of (entries_of children s) name ≡ None
-  seen_elsewhere children s name foreign =
-      entry_named children s name
-      ∙ ap (λ t. cond t (option_map (as_entry children s name.birth) (entry_at s name.birth)) None)
-      foreign
+  seen_elsewhere children s name foreign = grind (arith, entry_named children s name)
 
   -- the children of an entry are those that its value declares
   pub children_read : (children : V → List Name) (s : State V) (name : Name) (v : V)
@@ -61,17 +45,7 @@ module _ {V : Type 0} where
   -- a collection begins at a name that is counted
   pub counted_starts : (children : V → List Name) (s : State V) (name : Name) (n : ℕ)
       → counts s name ≡ Some n → 0 < n → starts (entries_of children s) name ≡ true
-  counted_starts children s name n is some =
-      ap counted_entry (entry_named children s name)
-      ∙ go (name.storage == s.number) (entry_at s name.birth) is
-    where
-      go : (t : Bool) (o : Option (Kept V))
-          → cond t (option_map (λ k. k.count) o) None ≡ Some n
-          → counted_entry (cond t (option_map (as_entry children s name.birth) o) None) ≡ true
-      go true (Some k) h =
-          let same : k.count ≡ n = cc in is_more k.count (omega arith)
-      go true None h = absurd (cc)
-      go false o h = absurd (cc)
+  counted_starts children s name n is some = grind (arith, nat_tests, entry_named children s name)
 
   -- ---- what a collection leaves
 
@@ -83,11 +57,7 @@ module _ {V : Type 0} where
   -- so what it reads was read, under a name of the set
   pub kept_was_read : (s : State V) (set : Name → Bool) (name : Name) (v : V)
       → reads (kept_named s set) name ≡ Some v → (set name ≡ true) × (reads s name ≡ Some v)
-  kept_was_read s set name v is = go (set name) (sym (reads-kept_named s set name) ∙ is)
-    where
-      go : (t : Bool) → cond t (reads s name) None ≡ Some v → (t ≡ true) × (reads s name ≡ Some v)
-      go true read = (refl, read)
-      go false read = absurd (cc)
+  kept_was_read s set name v is = grind (arith, reads-kept_named s set name)
 
   -- and its counts
   pub counts-kept_named : (s : State V) (set : Name → Bool) (name : Name)
@@ -97,14 +67,12 @@ module _ {V : Type 0} where
   -- a name of the set reads what it read
   pub kept_reads : (s : State V) (set : Name → Bool) (name : Name) → set name ≡ true
       → reads (kept_named s set) name ≡ reads s name
-  kept_reads s set name has =
-      reads-kept_named s set name ∙ ap (λ t. cond t (reads s name) None) has
+  kept_reads s set name has = grind (arith, reads-kept_named s set name)
 
   -- and has the count that it had
   pub kept_counts : (s : State V) (set : Name → Bool) (name : Name) → set name ≡ true
       → counts (kept_named s set) name ≡ counts s name
-  kept_counts s set name has =
-      counts-kept_named s set name ∙ ap (λ t. cond t (counts s name) None) has
+  kept_counts s set name has = grind (arith, counts-kept_named s set name)
 
 module _ (begins : Name → Bool) (family : List Entry) (names : List Name) (is : IsReachedSet begins family names) where
   -- a name at which the collection begins is reached
@@ -139,21 +107,9 @@ pub root_reads : {V : Type 0} (children : V → List Name) (s : State V) (family
     → (name : Name) → has listed name ≡ true
     → (is_entry (entries_of children s) name ≡ true → is_entry family name ≡ true)
     → reads (kept_named s (has names)) name ≡ reads s name
-root_reads {V} children s family listed names is name among part = go (reads s name) refl
-  where
-    nothing : (t : Bool) → cond {A = Option V} t None None ≡ None
-    nothing true = refl
-    nothing false = refl
-
-    go : (o : Option V) → reads s name ≡ o
-        → reads (kept_named s (has names)) name ≡ reads s name
-    go (Some v) at =
-        kept_reads s (has names) name
-        (root_kept listed family names is name among
-        (part (entry_read children s name ∙ ap is_some at)))
-    go None at =
-        reads-kept_named s (has names) name ∙ ap (λ o. cond (has names name) o None) at
-        ∙ nothing (has names name) ∙ sym at
+root_reads children s family listed names is name among part =
+    let kept = root_kept listed family names is name among in
+    grind (arith, kept, part, entry_read children s name, reads-kept_named s (has names) name)
 
 -- ---- a storage within a pair of families: what is known of its part is known of the whole
 
@@ -167,12 +123,7 @@ module _ (xs ys : List Entry) (name : Name) where
 
   -- a counted entry of the first part is counted in both, and declares what it did
   pub counted_first : starts xs name ≡ true → starts (xs ++ ys) name ≡ true
-  counted_first counted =
-      ap counted_entry (in_first xs ys name (there (entry_of xs name) counted)) ∙ counted
-    where
-      there : (o : Option Entry) → counted_entry o ≡ true → is_some o ≡ true
-      there (Some e) h = refl
-      there None h = absurd (cc)
+  counted_first counted = grind (arith, in_first xs ys name)
 
   pub children_first : is_entry xs name ≡ true
       → children_in (xs ++ ys) name ≡ children_in xs name

@@ -1,26 +1,21 @@
 -- What interning gives, what look-ups answer, and whether two names are one.
-use Rattle.std.proofs.Common.{◌≡◌, ℕ, ◌+◌, ◌<◌, Bool, true, false, cond, Option, Some, None, IsSome, is_some, Result, Ok, Err, ◌⊎◌, inl, inr, refl, sym, ap, subst, ◌∙◌, arith}
+use Rattle.std.proofs.Common.{◌≡◌, ℕ, ◌+◌, ◌<◌, Bool, true, false, Option, Some, None, IsSome, is_some, Result, Ok, Err, ◌⊎◌, refl, sym, ap, subst, ◌∙◌, arith}
 use Rattle.std.specs.Prelude.{◌↔◌}
 use Rattle.std.specs.Option.{option_map}
 use Rattle.std.specs.Cmp.{IsEquivalence}
-use Rattle.std.proofs.lemmas.Bool.{and_from, eq-eqb}
-use Rattle.std.proofs.lemmas.Option.{same_Some}
+use Rattle.std.proofs.lemmas.Bool.Decides.{nat_tests}
 use Rattle.intern_store.specs.declared.refusal.Refused.{Refused}
 use Rattle.intern_store.proofs.Births.{not_stored, is_stored}
 use Rattle.intern_store.proofs.Named.{names_same}
 use Rattle.intern_store.proofs.Reading.{interned_reads, equal_read}
-use Rattle.ra_ap_intern.specs.Kept.{is_at}
 use Rattle.ra_ap_intern.specs.Name.{Name}
-use Rattle.ra_ap_intern.specs.Named.{same_name}
 use Rattle.ra_ap_intern.specs.Outcome.{OwesBack, Becomes}
 use Rattle.ra_ap_intern.specs.State.{State, IsState, name_in, reads, counts, counted_up, due, zero_count, added, or_added, interned, interned_name, interned_counted, released, birth_of, name_of_value}
-use Rattle.ra_ap_intern.proofs.CallerReads.{read_at, read_below, read_once, reads-added, counts_read, counts-recounted, due_counted, counted_up_reads, interned_reads_given, interned_reads_on, interned_counted_reads_on}
+use Rattle.ra_ap_intern.proofs.CallerReads.{some_read, read_at, read_below, read_once, reads-added, counts_read, counts-recounted, due_counted, counted_up_reads, interned_reads_given, interned_reads_on, interned_counted_reads_on}
 
 same_members : {X : Type 0} (a b : Option X) → ((x : X) → a ≡ Some x → b ≡ Some x)
     → ((x : X) → b ≡ Some x → a ≡ Some x) → a ≡ b
-same_members (Some x) b there back = sym (there x refl)
-same_members None (Some y) there back = back y refl
-same_members None None there back = refl
+same_members a b there back = grind (arith, there, back)
 
 module _ {V : Type 0} (eq : V → V → Bool) where
   -- a value equal to v is read under a name
@@ -52,20 +47,7 @@ module _ {V : Type 0} (eq : V → V → Bool) where
       let i = interned eq s v in
       let name = interned_name eq s v in
       let c = counts_read i.state name (interned_is_read laws s v) in
-      let here : same_name name (name_in i.state i.birth) ≡ true =
-      and_from _ _ (eq-eqb s.number i.state.number (sym number)) (eq-eqb i.birth i.birth refl) in (
-        c.0,
-        counts-recounted (λ n. n + 1) i.state i.birth name
-            ∙ ap (λ t. cond t (option_map (λ n. n + 1) (counts i.state name)) (counts i.state name)) here
-            ∙ ap (option_map (λ n. n + 1)) c.1,
-      )
-    where
-      number : (interned eq s v).state.number ≡ s.number
-      number = go (birth_of eq s v)
-        where
-          go : (o : Option ℕ) → (or_added o s v).state.number ≡ s.number
-          go (Some b) = refl
-          go None = refl
+      (c.0, grind (arith, nat_tests, c.1, counts-recounted (λ n. n + 1) i.state i.birth name))
 
   pub interned_counted_due : IsEquivalence eq → (s : State V) (v : V)
       → due (interned_counted eq s v) (interned_name eq s v) zero_count ≡ None
@@ -91,38 +73,28 @@ module _ {V : Type 0} (eq : V → V → Bool) where
   -- it reads an equal value
   pub found_reads : (s : State V) (v : V) (name : Name) → name_of_value eq s v ≡ Some name
       → ReadsEqual s name v
-  found_reads s v name is = go (birth_of eq s v) refl is
-    where
-      go : (o : Option ℕ) → birth_of eq s v ≡ o → option_map (name_in s) o ≡ Some name
-          → ReadsEqual s name v
-      go (Some b) stored h =
-          let same : name_in s b ≡ name = cc in
-          subst (λ n. ReadsEqual s n v) same (equal_read eq s v b (is_stored eq s v b stored))
-      go None stored h = absurd (cc)
+  found_reads s v name is =
+      let b = some_read (birth_of eq s v) (grind arith) in
+      let same : name_in s b.0 ≡ name = grind (arith, b.1) in
+      subst (λ n. ReadsEqual s n v) same (equal_read eq s v b.0 (is_stored eq s v b.0 b.1))
 
   -- where it answers nothing, no name reads an equal value
   pub none_found : (s : State V) (v : V) → name_of_value eq s v ≡ None → (name : Name) (w : V)
       → reads s name ≡ Some w → eq v w ≡ false
-  none_found s v none name w read = go (birth_of eq s v) refl none
-    where
-      go : (o : Option ℕ) → birth_of eq s v ≡ o → option_map (name_in s) o ≡ None
-          → eq v w ≡ false
-      go (Some b) is h = absurd (cc)
-      go None is h =
-          let r = read_at s name w read in
-          ap (eq v) (sym r.same) ∙ sym (ap (is_at eq v) r.at) ∙ not_stored eq s v is name.birth
+  none_found s v none name w read =
+      let stored : birth_of eq s v ≡ None = grind arith in
+      let other = not_stored eq s v stored name.birth in
+      let r = read_at s name w read in grind (arith, r.at, r.same, other)
 
   -- the look-up of what is read answers its name
   pub read_found : IsEquivalence eq → (s : State V) → IsState eq s → (v : V) (name : Name) (w : V)
       → reads s name ≡ Some w → eq v w ≡ true → name_of_value eq s v ≡ Some name
-  read_found laws s ok v name w read same = go (name_of_value eq s v) refl
-    where
-      go : (o : Option Name) → name_of_value eq s v ≡ o → o ≡ Some name
-      go None none = let no = none_found s v none name w read in absurd (cc)
-      go (Some n) is =
-          let r = found_reads s v n is in
-          let alike = sym (laws.congr v r.0 w r.2) ∙ same in
-          ap Some (read_once eq s ok n name r.0 w r.1 read alike)
+  read_found laws s ok v name w read same =
+      let some = λ (none : name_of_value eq s v ≡ None). none_found s v none name w read in
+      let n = some_read (name_of_value eq s v) (grind (arith, some)) in
+      let r = found_reads s v n.0 n.1 in
+      let alike = sym (laws.congr v r.0 w r.2) ∙ same in
+      n.1 ∙ ap Some (read_once eq s ok n.0 name r.0 w r.1 read alike)
 
   -- ---- whether two names are one
 
@@ -148,30 +120,17 @@ module _ {V : Type 0} (eq : V → V → Bool) where
   -- what is read of a state with a new entry is that entry, or was read
   new_or_old : (s : State V) (v : V) (name : Name) (w : V) → reads (added s v) name ≡ Some w
       → ((name ≡ name_in s s.next) × (v ≡ w)) ⊎ (reads s name ≡ Some w)
-  new_or_old s v name w read =
-      go (same_name name (name_in s s.next)) refl (sym (reads-added s v name) ∙ read)
-    where
-      go : (t : Bool) → same_name name (name_in s s.next) ≡ t
-          → cond t (Some v) (reads s name) ≡ Some w
-          → ((name ≡ name_in s s.next) × (v ≡ w)) ⊎ (reads s name ≡ Some w)
-      go true here h = inl (names_same _ _ here, same_Some _ _ h)
-      go false other h = inr h
+  new_or_old s v name w read = grind (arith, reads-added s v name, names_same)
 
   -- what is read after an interning is what was interned, under a new name, or was read
   pub interned_new_or_read : (s : State V) (v : V) (name : Name) (w : V)
       → reads (interned eq s v).state name ≡ Some w
       → ((name ≡ name_in s s.next) × (v ≡ w)) ⊎ (reads s name ≡ Some w)
-  interned_new_or_read s v name w = go (birth_of eq s v)
-    where
-      go : (o : Option ℕ) → reads (or_added o s v).state name ≡ Some w
-          → ((name ≡ name_in s s.next) × (v ≡ w)) ⊎ (reads s name ≡ Some w)
-      go (Some b) read = inr read
-      go None read = new_or_old s v name w read
+  interned_new_or_read s v name w read = grind (arith, new_or_old s v name w)
 
   pub interned_or_read : (s : State V) (v : V) (name : Name) (w : V)
       → reads (interned eq s v).state name ≡ Some w → (v ≡ w) ⊎ (reads s name ≡ Some w)
-  interned_or_read s v name w read =
-      elim (interned_new_or_read s v name w read) [ inl new ↦ inl new.1 | inr old ↦ inr old ]
+  interned_or_read s v name w read = grind (arith, interned_new_or_read s v name w read)
 
   -- ---- what look-ups of other values answer after an interning
 
@@ -183,10 +142,7 @@ module _ {V : Type 0} (eq : V → V → Bool) where
   found_elsewhere laws s t v ok is on back w other = same_members _ _
       (λ n at.
       let r = found_reads t w n at in
-      elim (back n r.0 r.1) [
-        | inl same ↦ let no : eq v w ≡ true = laws.symm v w ∙ ap (eq w) same ∙ r.2 in absurd (cc)
-        | inr read ↦ read_found laws s ok w n r.0 read r.2
-      ])
+      grind (arith, back n r.0 r.1, laws.symm v w, r.2, read_found laws s ok w n r.0))
       (λ n at. let r = found_reads s w n at in read_found laws t is w n r.0 (on n r.0 r.1) r.2)
 
   pub interned_found_elsewhere : IsEquivalence eq → (s : State V) (v : V) → IsState eq s
@@ -207,26 +163,17 @@ module _ {V : Type 0} (eq : V → V → Bool) where
   added_telling : IsEquivalence eq → (s : State V) (v : V) → IsTelling s
       → name_of_value eq s v ≡ None → IsTelling (added s v)
   added_telling laws s v is none = record {
-    below = λ name w read. elim (new_or_old s v name w read) [
-      | inl new ↦ let birth = ap (λ (n : Name). n.birth) new.0 in omega arith
-      | inr old ↦ let below = is.below name w old in omega arith
-    ];
-    apart = λ n m x y first second same. elim (new_or_old s v n x first) [
-      | inl new ↦ elim (new_or_old s v m y second) [
-        | inl too ↦ new.0 ∙ sym too.0
-        | inr old ↦
-            let no = none_found s v none m y old in
-            let yes : eq v y ≡ true = ap (λ z. eq z y) new.1 ∙ same in
-            absurd (cc)
-      ]
-      | inr was ↦ elim (new_or_old s v m y second) [
-        | inl too ↦
-            let no = none_found s v none n x was in
-            let yes : eq v x ≡ true = laws.symm v x ∙ ap (eq x) too.1 ∙ same in
-            absurd (cc)
-        | inr old ↦ is.apart n m x y was old same
-      ]
-    ];
+    below = λ name w read. grind (arith, new_or_old s v name w read, is.below name w);
+    apart = λ n m x y first second same.
+        grind (
+          arith,
+          new_or_old s v n x first,
+          new_or_old s v m y second,
+          is.apart n m x y,
+          none_found s v none m y,
+          none_found s v none n x,
+          laws.symm v x,
+        );
   }
 
   pub interned_telling : IsEquivalence eq → (s : State V) (v : V) → IsTelling s
@@ -237,21 +184,25 @@ module _ {V : Type 0} (eq : V → V → Bool) where
       go (Some b) found = is
       go None none = added_telling laws s v is (ap (option_map (name_in s)) none)
 
+  -- names of values that are equal to two others are one exactly if those two are equal
+  pub telling_alike : IsEquivalence eq → (s : State V) → IsTelling s → (n m : Name) (v w x y : V)
+      → reads s n ≡ Some x → eq v x ≡ true → reads s m ≡ Some y → eq w y ≡ true
+      → (n ≡ m) ↔ (eq v w ≡ true)
+  telling_alike laws s is n m v w x y first one second two = (
+    λ same. grind (arith, first, second, laws.congr v x w one, laws.symm x w, two),
+    λ alike.
+        is.apart n m x y first second
+        (sym (laws.congr v x y one) ∙ laws.congr v w y alike ∙ two),
+  )
+
   -- a value that is interned gets the name of what is read exactly if the two are equal
   named_alike : IsEquivalence eq → (s : State V) (name : Name) (v x w : V) → IsTelling s
       → reads s name ≡ Some x → eq v x ≡ true → (name ≡ interned_name eq s w) ↔ (eq v w ≡ true)
   named_alike laws s name v x w is read same =
-      let t = (interned eq s w).state in
       let r = interned_reads eq laws s w in
-      let stays = interned_reads_given eq s w name (is.below name x read) ∙ read in (
-        λ one.
-            let both : x ≡ r.0 =
-            same_Some _ _ (sym stays ∙ ap (reads t) one ∙ r.1) in
-            laws.congr v x w same ∙ laws.symm x w ∙ ap (eq w) both ∙ r.2,
-        λ alike.
-            (interned_telling laws s w is).apart name (interned_name eq s w) x r.0 stays r.1
-            (sym (laws.congr v x r.0 same) ∙ laws.congr v w r.0 alike ∙ r.2),
-      )
+      telling_alike laws (interned eq s w).state (interned_telling laws s w is) name
+      (interned_name eq s w) v w x r.0
+      (interned_reads_given eq s w name (is.below name x read) ∙ read) same r.1 r.2
 
   -- two values that are interned one after the other get one name exactly if they are equal
   pub interned_twice : IsEquivalence eq → (s : State V) → IsState eq s → (v w : V)

@@ -1,5 +1,5 @@
 -- Maps under handles and symbols: what they have under each name, value and text after a change.
-use Rattle.std.proofs.Common.{◌≡◌, ◌↔◌, ℕ, Bool, true, false, cond, List, Result, Ok, Err, OnErr, Option, Some, None, is_some, refl, sym, ap, subst, ◌∙◌}
+use Rattle.std.proofs.Common.{◌≡◌, ◌↔◌, ℕ, Bool, true, false, cond, List, Result, Ok, Err, OnErr, Option, Some, None, is_some, refl, sym, ap, subst, ◌∙◌, arith}
 use Rattle.std.specs.Cmp.{IsEquivalence}
 use Rattle.std.specs.HashMap.{HashMap, get, get_by}
 use Rattle.std.specs.List.{filter}
@@ -130,24 +130,8 @@ changed_through : {X A M : Type 0} (like : X → X → Bool) (same : A → A →
     → ((y : X) (b : A) → now y ≡ Some b → same a b ≡ true → like x y ≡ true) → same a a ≡ true
     → ((b : A) → new b ≡ cond (same a b) value (old b)) → (y : X)
     → option_and_then new (now y) ≡ cond (like x y) value (option_and_then old (found y))
-changed_through {X} {A} like same found now old new x a value here there once itself put y =
-    go (like x y) refl
-  where
-    apart : (b : A) (t : Bool) → now y ≡ Some b → like x y ≡ false → same a b ≡ t → t ≡ false
-    apart b false at differs is = refl
-    apart b true at differs is = let one = once y b at is in absurd (cc)
-
-    other : (o : Option A) → now y ≡ o → like x y ≡ false
-        → option_and_then new o ≡ option_and_then old o
-    other None at differs = refl
-    other (Some b) at differs =
-        put b ∙ ap (λ t. cond t value (old b)) (apart b _ at differs refl)
-
-    go : (t : Bool) → like x y ≡ t
-        → option_and_then new (now y) ≡ cond t value (option_and_then old (found y))
-    go true is =
-        ap (option_and_then new) (here y is) ∙ put a ∙ ap (λ t. cond t value (old a)) itself
-    go false is = ap (option_and_then new) (there y is) ∙ other (found y) (there y is) is
+changed_through like same found now old new x a value here there once itself put y =
+    grind (arith, here y, there y, once y, itself, put)
 
 module _ {K V M S : Type 0} (eq : V → V → Bool) (laws : IsEquivalence eq) (test : Ref K → Ref K → Bool) (alike : (a b : Ref K) → (test a b ≡ true) ↔ (ref_name a ≡ ref_name b)) where
   -- a value is put under the reference of one that is read, and look-ups of others find what they found
@@ -163,9 +147,7 @@ module _ {K V M S : Type 0} (eq : V → V → Bool) (laws : IsEquivalence eq) (t
       (λ u is. read_found eq laws t ok u (ref_name key) w read (sym (laws.congr v u w is) ∙ same)) there
       (λ u n at is.
       let r = found_reads eq t u n at in
-      let one : Some w ≡ Some r.0 = sym read ∙ ap (reads t) (names_same _ n is) ∙ r.1 in
-      let like : eq v r.0 ≡ true = cc in
-      laws.symm v u ∙ laws.congr u r.0 v r.2 ∙ laws.symm r.0 v ∙ like)
+      grind (arith, read, same, names_same _ n is, r.1, r.2, laws.symm v u, laws.congr u r.0 v, laws.symm r.0 v))
       (same_names (ref_name key) (ref_name key) refl) (names_changed test alike old new key value put)
 
   -- a value is put under the reference of one that is interned in collected mode
@@ -211,9 +193,7 @@ pub value_retained : {K V M S : Type 0} (eq : V → V → Bool) → IsEquivalenc
 value_retained eq laws s t ok back old new kept v n at =
     let r = found_reads eq t v n at in
     let found = read_found eq laws s ok v n r.0 (back n r.0 r.1) r.2 in
-    ap (option_and_then (under_name new)) at ∙ kept n
-    ∙ ap (λ o. cond (is_some o) (under_name old n) None) r.1
-    ∙ sym (ap (option_and_then (under_name old)) found)
+    grind (arith, kept n, r.1, found)
 
 module _ {M S : Type 0} (eq : SymbolRef → SymbolRef → Bool) (alike : (a b : SymbolRef) → (eq a b ≡ true) ↔ (symbol_ref_name a ≡ symbol_ref_name b)) where
   -- a value is put under the symbol of a text that is interned

@@ -1,24 +1,20 @@
 -- Storages whose values declare earlier ones: what keeps that, and the lines of values that lead up
 -- from a name.
-use Rattle.std.proofs.Common.{◌≡◌, ◌↔◌, ℕ, zero, suc, ◌<◌, nat_eq, Bool, true, false, cond, ◌==◌, List, [], ◌∷◌, ◌++◌, Option, Some, None, IsSome, is_some, Result, inl, inr, refl, sym, ap, subst, ◌∙◌, append_assoc, arith}
+use Rattle.std.proofs.Common.{◌≡◌, ◌↔◌, ℕ, zero, suc, ◌<◌, Bool, true, List, [], ◌∷◌, ◌++◌, Option, Some, None, IsSome, is_some, Result, refl, sym, ap, ◌∙◌, append_assoc, arith}
 use Rattle.std.specs.FinMap.{get-empty}
 use Rattle.std.specs.Option.{option_map}
-use Rattle.std.specs.Ordering.{nat_cmp}
 use Rattle.std.specs.declared.alloc.AllocError.{AllocError}
-use Rattle.std.proofs.lemmas.Bool.{or_cases, or_left}
-use Rattle.std.proofs.lemmas.Option.{same_Some}
+use Rattle.std.proofs.lemmas.Bool.Decides.{nat_tests}
 use Rattle.ra_ap_intern.specs.Families.{entries_of, kept_named}
-use Rattle.ra_ap_intern.specs.Kept.{Kept}
 use Rattle.ra_ap_intern.specs.Name.{Name}
 use Rattle.ra_ap_intern.specs.Named.{same_name}
 use Rattle.ra_ap_intern.specs.Names.{has}
 use Rattle.ra_ap_intern.specs.Order.{IsBefore, Falls, IsBuilt, due_parent, line_from, line_at, line_within, line, line_rest, steps_left}
 use Rattle.ra_ap_intern.specs.Reach.{Entry, IsReachedSet, IsPath, Reached}
-use Rattle.ra_ap_intern.specs.State.{State, IsState, new_state, name_in, entry_at, reads, counted_up, counted_down, taken, released, interned, interned_counted}
+use Rattle.ra_ap_intern.specs.State.{State, IsState, new_state, name_in, reads, counted_up, counted_down, taken, released, interned, interned_counted}
 use Rattle.ra_ap_intern.specs.Visitors.{of_name}
 use Rattle.ra_ap_intern.specs.declared.gc.Collected.{Collected}
 use Rattle.intern_store.proofs.Compared.{get-removed}
-use Rattle.intern_store.proofs.Later.{neither}
 use Rattle.intern_store.proofs.Named.{names_same, same_names}
 use Rattle.ra_ap_intern.proofs.CallerCollections.{child_kept, children_read, entry_read, kept_reads, kept_was_read, reads-kept_named}
 use Rattle.ra_ap_intern.proofs.CallerInterning.{interned_new_or_read}
@@ -39,27 +35,18 @@ behind_kept begins family names is name kept m path = go path.0 m path.1
 
 -- a parent is declared
 pub parent_declared : (o : Option Name) (name : Name) → o ≡ Some name → has (of_name o) name ≡ true
-parent_declared None name is = absurd (cc)
-parent_declared (Some parent) name is =
-    or_left _ _ (same_names name parent (sym (same_Some _ _ is)))
+parent_declared o name is = grind (arith, same_names name name refl)
 
 -- where nothing is due of a parent, it is read
 pub parent_read : {V : Type 0} (s : State V) (o : Option Name) → due_parent s o ≡ None
     → (name : Name) → has (of_name o) name ≡ true → IsSome (reads s name)
 parent_read s None free name declared = absurd (cc)
-parent_read s (Some parent) free name declared = elim (or_cases _ _ declared) [
-  | inl same ↦
-      subst (λ n. IsSome (reads s n)) (sym (names_same name parent same)) (read_due s parent free)
-  | inr none ↦ absurd (cc)
-]
+parent_read s (Some parent) free name declared = grind (arith, names_same name parent, read_due s parent free)
 
 module _ {V : Type 0} where
   new_reads : (number top numbers : ℕ) (name : Name)
       → ◌≡◌ {A = Option V} (reads (new_state number top numbers) name) None
-  new_reads number top numbers name =
-      ap (λ o. cond (name.storage == number) (option_map (λ (k : Kept V). k.value) o) None)
-      (get-empty nat_cmp name.birth)
-      ∙ neither (name.storage == number)
+  new_reads number top numbers name = grind (arith, get-empty)
 
   -- what is read is before all that is interned later
   pub read_before : (eq : V → V → Bool) (s : State V) → IsState eq s → (name : Name)
@@ -71,83 +58,20 @@ module _ {V : Type 0} where
   -- what is read after an entry was taken out was read
   taken_was_read : (s : State V) (b : ℕ) (name : Name) (v : V) → reads (taken s b) name ≡ Some v
       → reads s name ≡ Some v
-  taken_was_read s b name v read =
-      go (name.storage == s.number) (nat_eq name.birth b) (entry_at s name.birth)
-      (sym (ap (λ o. cond (name.storage == s.number) (option_map (λ (k : Kept V). k.value) o) None)
-      (get-removed s.map b name.birth)) ∙ read)
-    where
-      go : (t u : Bool) (o : Option (Kept V))
-          → cond t (option_map (λ k. k.value) (cond u None o)) None ≡ Some v
-          → cond t (option_map (λ k. k.value) o) None ≡ Some v
-      go true true o h = absurd (cc)
-      go true false o h = h
-      go false u o h = absurd (cc)
+  taken_was_read s b name v read = grind (arith, nat_tests, get-removed s.map b name.birth)
 
 -- ---- the line that leads up from a name
 
 module _ {X : Type 0} where
-  -- what is above decides
-  from_same : (x : X) (f g : Name → Option (List X)) (p : Option Name)
-      → ((m : Name) → p ≡ Some m → f m ≡ g m) → line_from x f p ≡ line_from x g p
-  from_same x f g None same = refl
-  from_same x f g (Some m) same = ap (option_map (λ xs. x ∷ xs)) (same m refl)
-
   from_some : (x : X) (f : Name → Option (List X)) (p : Option Name)
       → ((m : Name) → p ≡ Some m → IsSome (f m)) → IsSome (line_from x f p)
-  from_some x f None some = refl
-  from_some x f (Some m) some =
-      let xs = some_read (f m) (some m refl) in
-      ap (λ o. is_some (option_map (λ ys. x ∷ ys) o)) xs.1
-
-  -- it is none, or what is seen first and what is above
-  is_longer : (x : X) (xs : List X) (o : Option (List X)) → option_map (λ ys. x ∷ ys) o ≡ Some xs
-      → (ys : List X) × (o ≡ Some ys) × (x ∷ ys ≡ xs)
-  is_longer x xs None is = absurd (cc)
-  is_longer x xs (Some ys) is = (ys, refl, same_Some _ _ is)
-
-  from_on : (x : X) (f g : Name → Option (List X)) (p : Option Name) (xs : List X)
-      → ((m : Name) (ys : List X) → f m ≡ Some ys → g m ≡ Some ys)
-      → line_from x f p ≡ Some xs → line_from x g p ≡ Some xs
-  from_on x f g None xs on is = is
-  from_on x f g (Some m) xs on is =
-      let ys = is_longer x xs (f m) is in
-      ap (option_map (λ zs. x ∷ zs)) (on m ys.0 ys.1) ∙ ap Some ys.2
-
-  -- and begins with something
-  from_more : (x : X) (f : Name → Option (List X)) (p : Option Name)
-      → line_from x f p ≡ Some [] → ⊥
-  from_more x f None is = absurd (cc)
-  from_more x f (Some m) is = let ys = is_longer x [] (f m) is in let no = ys.2 in absurd (cc)
-
-  -- two that are one see one first, and have one parent
-  from_one : (x y : X) (f g : Name → Option (List X)) (p q : Option Name) (xs : List X)
-      → ((m : Name) → f m ≡ Some [] → ⊥) → ((m : Name) → g m ≡ Some [] → ⊥)
-      → ((m n : Name) (ys : List X) → f m ≡ Some ys → g n ≡ Some ys → m ≡ n)
-      → line_from x f p ≡ Some xs → line_from y g q ≡ Some xs → (p ≡ q) × (x ≡ y)
-  from_one x y f g None None xs some more one a b = (refl, cc)
-  from_one x y f g None (Some n) xs some more one a b =
-      let zs = is_longer y xs (g n) b in
-      let tails : zs.0 ≡ [] = let same = zs.2 in cc in
-      absurd (more n (zs.1 ∙ ap Some tails))
-  from_one x y f g (Some m) None xs some more one a b =
-      let ys = is_longer x xs (f m) a in
-      let tails : ys.0 ≡ [] = let same = ys.2 in cc in
-      absurd (some m (ys.1 ∙ ap Some tails))
-  from_one x y f g (Some m) (Some n) xs some more one a b =
-      let ys = is_longer x xs (f m) a in
-      let zs = is_longer y xs (g n) b in
-      let same : x ∷ ys.0 ≡ y ∷ zs.0 = ys.2 ∙ sym zs.2 in
-      let tails : ys.0 ≡ zs.0 = cc in
-      (ap Some (one m n zs.0 (ys.1 ∙ ap Some tails) zs.1), cc)
+  from_some x f p some = grind (arith, some)
 
 module _ {V X : Type 0} (parent : V → Option Name) (see : V → X) where
-  at_same : (f g : Name → Option (List X)) (o p : Option V) → o ≡ p
-      → ((v : V) (m : Name) → p ≡ Some v → parent v ≡ Some m → f m ≡ g m)
-      → line_at parent see f o ≡ line_at parent see g p
-  at_same f g o None is same = ap (line_at parent see f) is
-  at_same f g o (Some v) is same =
-      ap (line_at parent see f) is
-      ∙ from_same (see v) f g (parent v) (λ m at. same v m refl at)
+  at_same : (f g : Name → Option (List X)) (o : Option V)
+      → ((v : V) (m : Name) → o ≡ Some v → parent v ≡ Some m → f m ≡ g m)
+      → line_at parent see f o ≡ line_at parent see g o
+  at_same f g o same = grind (arith, same)
 
   -- a line has a first value
   is_line : (f : Name → Option (List X)) (o : Option V) (xs : List X)
@@ -170,18 +94,12 @@ module _ {V X : Type 0} (parent : V → Option Name) (see : V → X) where
   pub line_top : (s : State V) (name : Name) (v : V) → reads s name ≡ Some v → parent v ≡ None
       → line parent see s name ≡ Some (see v ∷ [])
   unfolding line
-  line_top s name v read top =
-      ap (line_at parent see (line_within parent see s name.birth)) read
-      ∙ ap (line_from (see v) (line_within parent see s name.birth)) top
+  line_top s name v read top = grind (arith, read, top)
 
   -- a loop that begins at a name has its line ahead
   pub rest_begun : (s : State V) (name : Name)
       → line_rest parent see s [] (Some name) ≡ line parent see s name
-  rest_begun s name = go (line parent see s name)
-    where
-      go : (o : Option (List X)) → option_map (λ ys. [] ++ ys) o ≡ o
-      go None = refl
-      go (Some ys) = refl
+  rest_begun s name = grind arith
 
   -- and ends in none where nothing is read
   pub rest_none : (s : State V) (xs : List X) (name : Name) → reads s name ≡ None
@@ -199,10 +117,7 @@ module _ {V X : Type 0} (parent : V → Option Name) (see : V → X) where
       within : (k : ℕ) (n : Name) (xs : List X) → line_within parent see s k n ≡ Some xs
           → line_within parent see t k n ≡ Some xs
       within zero n xs is = absurd (cc)
-      within (suc k) n xs is =
-          let v = is_line (line_within parent see s k) (reads s n) xs is in
-          ap (line_at parent see (line_within parent see t k)) (on n v.0 v.1)
-          ∙ from_on (see v.0) _ _ (parent v.0) xs (within k) v.2
+      within (suc k) n xs is = grind (arith, on n, within k)
 
 module _ {V X : Type 0} (children : V → List Name) (parent : V → Option Name) (see : V → X)
     (declares : (v : V) (name : Name) → parent v ≡ Some name → has (children v) name ≡ true)
@@ -213,7 +128,7 @@ module _ {V X : Type 0} (children : V → List Name) (parent : V → Option Name
   enough zero l name lt more = absurd (omega arith)
   enough (suc k) zero name lt more = absurd (omega arith)
   enough (suc k) (suc l) name lt more =
-      at_same parent see _ _ (reads s name) (reads s name) refl (λ v m at is.
+      at_same parent see _ _ (reads s name) (λ v m at is.
       let below = (falls name m v at (declares v m is)).birth in
       enough k l m (omega arith) (omega arith))
 
@@ -231,12 +146,12 @@ module _ {V X : Type 0} (children : V → List Name) (parent : V → Option Name
   -- so that a loop has fewer steps left at the parent, and ends
   pub steps_fewer : (name : Name) (v : V) → reads s name ≡ Some v
       → steps_left (parent v) < steps_left (Some name)
-  steps_fewer name v read = go (parent v) refl
-    where
-      go : (p : Option Name) → parent v ≡ p → steps_left p < suc name.birth
-      go None is = omega arith
-      go (Some above) is =
-          let below = (falls name above v read (declares v above is)).birth in omega arith
+  steps_fewer name v read =
+      grind (
+        arith,
+        (λ (above : Name) (is : parent v ≡ Some above).
+            (falls name above v read (declares v above is)).birth),
+      )
 
   -- and what it has seen and what is ahead stay one line
   pub rest_up : (xs : List X) (name : Name) (v : V) → reads s name ≡ Some v
@@ -244,17 +159,11 @@ module _ {V X : Type 0} (children : V → List Name) (parent : V → Option Name
       ≡ line_rest parent see s (xs ++ (see v ∷ [])) (parent v)
   rest_up xs name v read = go (parent v) refl
     where
-      longer : (o : Option (List X)) → option_map (λ ys. xs ++ ys) (option_map (λ ys. see v ∷ ys) o)
-          ≡ option_map (λ ys. (xs ++ (see v ∷ [])) ++ ys) o
-      longer None = refl
-      longer (Some ys) = ap Some (sym (append_assoc xs (see v ∷ []) ys))
-
       go : (p : Option Name) → parent v ≡ p → line_rest parent see s xs (Some name)
           ≡ line_rest parent see s (xs ++ (see v ∷ [])) p
       go None is = ap (option_map (λ ys. xs ++ ys)) (line_top parent see s name v read is)
       go (Some above) is =
-          ap (option_map (λ ys. xs ++ ys)) (line_up name above v read is)
-          ∙ longer (line parent see s above)
+          grind (arith, line_up name above v read is, append_assoc {A = X} xs (see v ∷ []))
 
   -- there is one of all that is read
   pub line_read : IsBuilt children s → (name : Name) → IsSome (reads s name)
@@ -279,9 +188,7 @@ module _ {V X : Type 0} (eq : V → V → Bool) (parent : V → Option Name) (se
     (s : State V) (ok : IsState eq s) where
   not_empty : (k : ℕ) (name : Name) → line_within parent see s k name ≡ Some [] → ⊥
   not_empty zero name is = absurd (cc)
-  not_empty (suc k) name is =
-      let v = is_line parent see (line_within parent see s k) (reads s name) [] is in
-      from_more (see v.0) (line_within parent see s k) (parent v.0) v.2
+  not_empty (suc k) name is = grind arith
 
   one_name : (k l : ℕ) (n m : Name) (xs : List X) → line_within parent see s k n ≡ Some xs
       → line_within parent see s l m ≡ Some xs → n ≡ m
@@ -290,9 +197,16 @@ module _ {V X : Type 0} (eq : V → V → Bool) (parent : V → Option Name) (se
   one_name (suc k) (suc l) n m xs a b =
       let v = is_line parent see (line_within parent see s k) (reads s n) xs a in
       let w = is_line parent see (line_within parent see s l) (reads s m) xs b in
-      let same = from_one (see v.0) (see w.0) _ _ (parent v.0) (parent w.0) xs (not_empty k)
-      (not_empty l) (one_name k l) v.2 w.2 in
-      read_once eq s ok n m v.0 w.0 v.1 w.1 ((alike v.0 w.0).1 same)
+      grind (
+        arith,
+        v.2,
+        w.2,
+        not_empty k,
+        not_empty l,
+        one_name k l,
+        alike v.0 w.0,
+        read_once eq s ok n m v.0 w.0 v.1 w.1,
+      )
 
   -- names are equal exactly if their lines are, where there is one
   pub lines_tell : (n m : Name) → IsSome (line parent see s n)
@@ -315,20 +229,14 @@ module _ {V : Type 0} (children : V → List Name) where
 
   pub falls_new : (number top numbers : ℕ) → Falls children (new_state number top numbers)
   falls_new number top numbers name child v read declared =
-      let none = new_reads number top numbers name in
-      let no : ◌≡◌ {A = Option V} None (Some v) = sym none ∙ read in absurd (cc)
+      absurd (grind (arith, new_reads {V = V} number top numbers name))
 
   -- after an interning of a value whose children are before it
   pub falls_interned : (eq : V → V → Bool) (s : State V) (w : V) → Falls children s
       → ((child : Name) → has (children w) child ≡ true → IsBefore child (name_in s s.next))
       → Falls children (interned eq s w).state
   falls_interned eq s w falls before name child v read declared =
-      elim (interned_new_or_read eq s w name v read) [
-        | inl new ↦
-            subst (IsBefore child) (sym new.0)
-            (before child (ap (λ x. has (children x) child) new.1 ∙ declared))
-        | inr old ↦ falls name child v old declared
-      ]
+      grind (arith, interned_new_or_read eq s w name v read, before child, falls name child v)
 
   pub falls_counted_up : (s : State V) (b : ℕ) → Falls children s → Falls children (counted_up s b)
   falls_counted_up s b =
@@ -368,15 +276,13 @@ module _ {V : Type 0} (children : V → List Name) where
   built_same s t same built = record {
     falls = falls_less s t (λ name v read. sym (same name) ∙ read) built.falls;
     stands = λ name child v read declared.
-        ap is_some (same child) ∙ built.stands name child v (sym (same name) ∙ read) declared;
+        grind (arith, same child, same name, built.stands name child v);
   }
 
   pub built_new : (number top numbers : ℕ) → IsBuilt children (new_state number top numbers)
   built_new number top numbers = record {
     falls = falls_new number top numbers;
-    stands = λ name child v read declared.
-        let none = new_reads number top numbers name in
-        let no : ◌≡◌ {A = Option V} None (Some v) = sym none ∙ read in absurd (cc);
+    stands = λ name child v read declared. grind (arith, new_reads {V = V} number top numbers name);
   }
 
   -- after an interning of a value whose children are read
@@ -388,12 +294,13 @@ module _ {V : Type 0} (children : V → List Name) where
     falls = falls_interned eq s w built.falls
         (λ child declared. read_before eq s ok child (there child declared));
     stands = λ name child v read declared.
-        let was : IsSome (reads s child) = elim (interned_new_or_read eq s w name v read) [
-          | inl new ↦ there child (ap (λ x. has (children x) child) new.1 ∙ declared)
-          | inr old ↦ built.stands name child v old declared
-        ] in
-        let x = some_read (reads s child) was in
-        ap is_some (interned_reads_on eq s ok w child x.0 x.1);
+        grind (
+          arith,
+          interned_new_or_read eq s w name v read,
+          there child,
+          built.stands name child v,
+          interned_reads_on eq s ok w child,
+        );
   }
 
   pub built_counted_up : (s : State V) (b : ℕ) → IsBuilt children s
@@ -429,9 +336,13 @@ module _ {V : Type 0} (children : V → List Name) where
       falls = falls_kept s (has names) built.falls;
       stands = λ name child v read declared.
           let was = kept_was_read s (has names) name v read in
-          let there = built.stands name child v was.1 declared in
-          ap is_some (kept_reads s (has names) child
-          (declared_kept name child v was.0 was.1 declared there)) ∙ there;
+          grind (
+            arith,
+            was,
+            built.stands name child v,
+            declared_kept name child v,
+            kept_reads s (has names) child,
+          );
     }
 
     -- and so is the line that leads up from a name that is kept
@@ -446,23 +357,25 @@ module _ {V : Type 0} (children : V → List Name) where
         t = kept_named s (has names)
 
         parent_kept : (k : ℕ) (m : Name) → (IsSome (reads s m) → has names m ≡ true)
-            → (has names m ≡ true
-            → line_within parent see t k m ≡ line_within parent see s k m) → (o : Option V)
-            → reads s m ≡ o → line_within parent see t k m ≡ line_within parent see s k m
-        parent_kept k m too same (Some w) at = same (too (ap is_some at))
-        parent_kept k m too same None at =
-            within_none parent see t k m (reads-kept_named s (has names) m
-            ∙ ap (λ o. cond (has names m) o None) at ∙ neither (has names m))
-            ∙ sym (within_none parent see s k m at)
+            → (has names m ≡ true → line_within parent see t k m ≡ line_within parent see s k m)
+            → line_within parent see t k m ≡ line_within parent see s k m
+        parent_kept k m too same =
+            grind (
+              arith,
+              too,
+              same,
+              within_none parent see t k m,
+              within_none parent see s k m,
+              reads-kept_named s (has names) m,
+            )
 
         within : (k : ℕ) (n : Name) → has names n ≡ true
             → line_within parent see t k n ≡ line_within parent see s k n
         within zero n kept = refl
         within (suc k) n kept =
-            at_same parent see _ _ (reads t n) (reads s n) (kept_reads s (has names) n kept)
-            (λ v m at is.
-            parent_kept k m (declared_kept n m v kept at (declares v m is)) (within k m)
-            (reads s m) refl)
+            ap (line_at parent see (line_within parent see t k)) (kept_reads s (has names) n kept)
+            ∙ at_same parent see _ _ (reads s n) (λ v m at is.
+            parent_kept k m (declared_kept n m v kept at (declares v m is)) (within k m))
 
   -- what a collection leaves, or that it does nothing
   module _ (begins : Name → Bool) (s t : State V) (r : Result Collected AllocError)

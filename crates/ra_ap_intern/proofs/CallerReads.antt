@@ -1,16 +1,19 @@
 -- What names read, and what they read after each change of a storage.
-use Rattle.std.proofs.Common.{◌≡◌, ◌≢◌, ℕ, ◌+◌, ◌-◌, ◌<◌, Bool, true, false, cond, not, ◌&&◌, ◌==◌, Option, Some, None, IsSome, is_some, nat_eq, refl, sym, ap, subst, ◌∙◌, arith, lt_irrefl}
-use Rattle.std.specs.Option.{option_map, option_eq}
-use Rattle.std.proofs.lemmas.Bool.{and_parts, and_right, eq-eqb, eqb-true, ne_eqb}
-use Rattle.std.proofs.lemmas.Option.{same_Some}
+use Rattle.std.proofs.Common.{◌≡◌, ◌≢◌, ℕ, ◌+◌, ◌-◌, ◌<◌, Bool, true, false, cond, ◌==◌, Option, Some, None, IsSome, is_some, refl, sym, ap, ◌∙◌, arith}
+use Rattle.std.specs.Option.{option_map}
+use Rattle.std.proofs.lemmas.Bool.Decides.{nat_tests}
 use Rattle.intern_store.proofs.Compared.{get-inserted, get-removed, get-modified}
 use Rattle.intern_store.proofs.Reading.{recounted_reads}
 use Rattle.ra_ap_intern.specs.Kept.{Kept, recount}
 use Rattle.ra_ap_intern.specs.Name.{Name}
 use Rattle.ra_ap_intern.specs.Named.{same_name}
 use Rattle.ra_ap_intern.specs.Refusal.{Refusal}
-use Rattle.ra_ap_intern.specs.Refusal.TheVariants.{Foreign, CountZero}
-use Rattle.ra_ap_intern.specs.State.{State, IsState, entry_at, name_in, reads, counts, count_at, with_count, counted_up, counted_down, taken, is_last, released, due, due_at, any_count, zero_count, added, or_added, interned, interned_counted, birth_of}
+use Rattle.ra_ap_intern.specs.State.{State, IsState, entry_at, name_in, reads, counts, count_at, with_count, counted_up, counted_down, taken, is_last, released, due, any_count, zero_count, added, interned, interned_counted}
+
+-- some value, where there is one
+pub some_read : {V : Type 0} (o : Option V) → IsSome o → (v : V) × (o ≡ Some v)
+some_read (Some v) is = (v, refl)
+some_read None is = absurd (cc)
 
 module _ {V : Type 0} where
   abbrev value : Option (Kept V) → Option V
@@ -24,23 +27,9 @@ module _ {V : Type 0} where
     pub same : kept.value ≡ v
 
   pub read_at : (s : State V) (name : Name) (v : V) → reads s name ≡ Some v → IsReadAt s name v
-  read_at s name v is = go (name.storage == s.number) (entry_at s name.birth) refl refl is
-    where
-      go : (t : Bool) (o : Option (Kept V)) → (name.storage == s.number) ≡ t
-          → entry_at s name.birth ≡ o → cond t (value o) None ≡ Some v → IsReadAt s name v
-      go true (Some k) home at h = record {
-        home = eqb-true _ _ home;
-        kept = k;
-        at = at;
-        same = cc;
-      }
-      go true None home at h = absurd (cc)
-      go false o home at h = absurd (cc)
-
-  -- some value, where there is one
-  pub some_read : (o : Option V) → IsSome o → (v : V) × (o ≡ Some v)
-  some_read (Some v) is = (v, refl)
-  some_read None is = absurd (cc)
+  read_at s name v is =
+      let k = some_read (entry_at s name.birth) (grind arith) in
+      record { home = grind (arith, nat_tests); kept = k.0; at = k.1; same = grind (arith, k.1) }
 
   -- the birth of what is read was given
   pub read_below : (eq : V → V → Bool) (s : State V) → IsState eq s → (name : Name)
@@ -71,84 +60,36 @@ module _ {V : Type 0} where
   -- where nothing is due
   pub is_there : (s : State V) (name : Name) (test : ℕ → Option Refusal) → due s name test ≡ None
       → IsThere s name test
-  is_there s name test is = go (name.storage == s.number) (entry_at s name.birth) refl refl is
-    where
-      go : (t : Bool) (o : Option (Kept V)) → (name.storage == s.number) ≡ t
-          → entry_at s name.birth ≡ o → cond t (due_at o test) (Some Foreign) ≡ None
-          → IsThere s name test
-      go true (Some k) home at h = record {
-        kept = k;
-        home = eqb-true name.storage s.number home;
-        at = at;
-        passes = h;
-      }
-      go true None home at h = absurd (cc)
-      go false o home at h = absurd (cc)
+  is_there s name test is =
+      let k = some_read (entry_at s name.birth) (grind arith) in
+      record { kept = k.0; home = grind (arith, nat_tests); at = k.1; passes = grind (arith, k.1) }
 
   -- a name is read where nothing is due of it
   pub read_due : (s : State V) (name : Name) → due s name any_count ≡ None → IsSome (reads s name)
-  read_due s name is =
-      let there = is_there s name any_count is in
-      ap (λ t. is_some (cond t (value (entry_at s name.birth)) None)) (eq-eqb _ _ there.home)
-      ∙ ap (λ o. is_some (value o)) there.at
+  read_due s name is = grind arith
 
   -- a new entry reads its value, and each other name what it read
   pub reads-added : (s : State V) (w : V) (name : Name)
       → reads (added s w) name ≡ cond (same_name name (name_in s s.next)) (Some w) (reads s name)
-  reads-added s w name =
-      ap (λ o. cond (name.storage == s.number) (value o) None)
-      (get-inserted s.map s.next (record { value = w; count = 0 }) name.birth)
-      ∙ go (name.storage == s.number) (nat_eq name.birth s.next)
-    where
-      go : (t u : Bool)
-          → cond t (value (cond u (Some (record { value = w; count = 0 })) (entry_at s name.birth))) None
-          ≡ cond (t && u) (Some w) (cond t (value (entry_at s name.birth)) None)
-      go true true = refl
-      go true false = refl
-      go false u = refl
+  reads-added s w name = grind (arith, get-inserted s.map s.next (record { value = w; count = 0 }) name.birth)
 
   -- ---- counts
 
   -- what is read has a count
   pub counts_read : (s : State V) (name : Name) → IsSome (reads s name)
       → (n : ℕ) × (counts s name ≡ Some n)
-  counts_read s name is = go (name.storage == s.number) (entry_at s name.birth) is
-    where
-      go : (t : Bool) (o : Option (Kept V)) → IsSome (cond t (value o) None)
-          → (n : ℕ) × (cond t (option_map (λ k. k.count) o) None ≡ Some n)
-      go true (Some k) h = (k.count, refl)
-      go true None h = absurd (cc)
-      go false o h = absurd (cc)
+  counts_read s name is = some_read (counts s name) (grind arith)
 
   -- a handle whose entry has a count can be released
   pub due_counted : (s : State V) (name : Name) (n : ℕ) → counts s name ≡ Some (n + 1)
       → due s name zero_count ≡ None
-  due_counted s name n is = go (name.storage == s.number) (entry_at s name.birth) is
-    where
-      go : (t : Bool) (o : Option (Kept V)) → cond t (option_map (λ k. k.count) o) None ≡ Some (n + 1)
-          → cond t (due_at o zero_count) (Some Foreign) ≡ None
-      go true (Some k) h =
-          let same : k.count ≡ n + 1 = same_Some _ _ h in
-          ap (λ t. cond t (Some CountZero) None) (ne_eqb k.count 0 (λ none. absurd (omega (arith, same, none))))
-      go true None h = absurd (cc)
-      go false o h = absurd (cc)
+  due_counted s name n is = grind (arith, nat_tests)
 
   -- a change of a count changes that of its name alone
   pub counts-recounted : (f : ℕ → ℕ) (s : State V) (b : ℕ) (name : Name)
       → counts (with_count f s b (entry_at s b)) name
       ≡ cond (same_name name (name_in s b)) (option_map f (counts s name)) (counts s name)
-  counts-recounted f s b name =
-      ap (λ o. cond (name.storage == s.number) (option_map (λ (k : Kept V). k.count) o) None)
-      (get-modified (recount f) s.map b name.birth)
-      ∙ go (name.storage == s.number) (nat_eq name.birth b) (entry_at s name.birth)
-    where
-      go : (t u : Bool) (o : Option (Kept V))
-          → cond t (option_map (λ k. k.count) (cond u (option_map (recount f) o) o)) None
-          ≡ cond (t && u) (option_map f (cond t (option_map (λ k. k.count) o) None)) (cond t (option_map (λ k. k.count) o) None)
-      go true true (Some k) = refl
-      go true true None = refl
-      go true false o = refl
-      go false u o = refl
+  counts-recounted f s b name = grind (arith, get-modified (recount f) s.map b name.birth)
 
   -- ---- after a count
 
@@ -165,18 +106,7 @@ module _ {V : Type 0} where
   -- a name whose birth was given reads what it read
   pub interned_reads_given : (eq : V → V → Bool) (s : State V) (w : V) (name : Name)
       → name.birth < s.next → reads (interned eq s w).state name ≡ reads s name
-  interned_reads_given eq s w name given = go (birth_of eq s w)
-    where
-      other : (t : Bool) → same_name name (name_in s s.next) ≡ t
-          → cond t (Some w) (reads s name) ≡ reads s name
-      other true here =
-          let birth : name.birth ≡ s.next = eqb-true _ _ (and_parts _ _ here).1 in
-          absurd (lt_irrefl s.next (subst (λ b. b < s.next) birth given))
-      other false differs = refl
-
-      go : (o : Option ℕ) → reads (or_added o s w).state name ≡ reads s name
-      go (Some b) = refl
-      go None = reads-added s w name ∙ other (same_name name (name_in s s.next)) refl
+  interned_reads_given eq s w name given = grind (arith, nat_tests, reads-added s w name)
 
   -- the same where it is counted once more
   pub interned_counted_reads_given : (eq : V → V → Bool) (s : State V) (w : V) (name : Name)
@@ -211,10 +141,7 @@ module _ {V : Type 0} where
   taken_sees : {X : Type 0} (see : Kept V → X) (s : State V) (b : ℕ) (name : Name) → name.birth ≢ b
       → cond (name.storage == s.number) (option_map see (entry_at (taken s b) name.birth)) None
       ≡ cond (name.storage == s.number) (option_map see (entry_at s name.birth)) None
-  taken_sees see s b name other =
-      ap (λ o. cond (name.storage == s.number) (option_map see o) None)
-      (get-removed s.map b name.birth
-      ∙ ap (λ t. cond t None (entry_at s name.birth)) (ne_eqb name.birth b other))
+  taken_sees see s b name other = grind (arith, nat_tests, get-removed s.map b name.birth)
 
   -- a name of another birth reads what it read
   pub taken_reads : (s : State V) (b : ℕ) (name : Name) → name.birth ≢ b
@@ -237,26 +164,17 @@ module _ {V : Type 0} where
   released_counts stays s b name other =
       released_either (λ t. counts t name ≡ counts s name) stays s b
       (taken_counts s b name other)
-      (counts-recounted (λ n. n - 1) s b name
-      ∙ ap (λ t. cond (name.storage == s.number && t) (option_map (λ n. n - 1) (counts s name))
-      (counts s name)) (ne_eqb name.birth b other)
-      ∙ ap (λ t. cond t (option_map (λ n. n - 1) (counts s name)) (counts s name))
-      (and_right (name.storage == s.number) false refl))
+      (grind (arith, nat_tests, counts-recounted (λ n. n - 1) s b name))
 
   -- where the entry isn't taken out, each name reads what it read
   pub released_reads_all : (stays : Bool) (s : State V) (b : ℕ) → is_last stays s b ≡ false
       → (name : Name) → reads (released stays s b) name ≡ reads s name
-  released_reads_all stays s b more name =
-      ap (λ t. reads (cond t (taken s b) (counted_down s b)) name) more
-      ∙ counted_down_reads s b name
+  released_reads_all stays s b more name = grind (arith, counted_down_reads s b name)
 
   -- an entry that is counted more than once isn't taken out
   pub not_last : (stays : Bool) (s : State V) (b n : ℕ) → count_at s b ≡ Some n → 1 < n
       → is_last stays s b ≡ false
-  not_last stays s b n is more =
-      ap (λ o. not stays && option_eq ◌==◌ o (Some 1)) is
-      ∙ ap (λ t. not stays && t) (ne_eqb n 1 (λ same. absurd (omega (arith, same, more))))
-      ∙ and_right (not stays) false refl
+  not_last stays s b n is more = grind (arith, nat_tests)
 
   -- nor is one in collected mode
   pub stays_not_last : (s : State V) (b : ℕ) → is_last true s b ≡ false

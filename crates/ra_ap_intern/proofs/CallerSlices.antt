@@ -1,5 +1,5 @@
 -- Equal slices: equal headers, and items that are equal one by one.
-use Rattle.std.proofs.Common.{◌≡◌, ◌↔◌, Bool, true, ◌&&◌, List, [], ◌∷◌, length, map, refl}
+use Rattle.std.proofs.Common.{◌≡◌, ◌↔◌, Bool, true, ◌&&◌, List, [], ◌∷◌, length, map, refl, arith}
 use Rattle.std.proofs.lemmas.Bool.{and_parts, and_from}
 use Rattle.std.specs.Cmp.{IsEquivalence}
 use Rattle.std.specs.Cmp.Lexicographic.{pointwise, as_long, lists_equiv}
@@ -13,16 +13,8 @@ pointwise_views eq view alike [] [] = (λ is. refl, λ same. refl)
 pointwise_views eq view alike [] (y ∷ ys) = (λ is. absurd (cc), λ same. absurd (cc))
 pointwise_views eq view alike (x ∷ xs) [] = (λ is. absurd (cc), λ same. absurd (cc))
 pointwise_views eq view alike (x ∷ xs) (y ∷ ys) =
-    let rest = pointwise_views eq view alike xs ys in (
-      λ is.
-          let both = and_parts _ _ is in
-          let first = (alike x y).0 both.0 in
-          let others = rest.0 both.1 in λ i. first i ∷ others i,
-      λ same.
-          let first : view x ≡ view y = cc in
-          let others : map view xs ≡ map view ys = cc in
-          and_from _ _ ((alike x y).1 first) (rest.1 others),
-    )
+    let rest = pointwise_views eq view alike xs ys in
+    (λ is. grind (arith, alike x y, rest), λ same. grind (arith, alike x y, rest))
 
 module _ {H I : Type 0} (h : H → H → Bool) (i : I → I → Bool) where
   -- it is an equivalence where the equalities of headers and of items are

@@ -1,18 +1,15 @@
 -- What a storage keeps true of its entries, after each change.
-use Rattle.std.proofs.Common.{◌≡◌, ℕ, ◌+◌, ◌-◌, ◌<◌, Bool, true, false, cond, Option, Some, None, inl, inr, refl, sym, ap, subst, ◌∙◌, arith}
+use Rattle.std.proofs.Common.{◌≡◌, ℕ, ◌+◌, ◌-◌, ◌<◌, Bool, Option, Some, None, refl, sym, ap, subst, ◌∙◌, arith}
 use Rattle.std.specs.Prelude.{option_and_then}
-use Rattle.std.specs.Option.{option_map}
 use Rattle.std.specs.Cmp.{IsEquivalence}
 use Rattle.std.specs.FinMap as map
-use Rattle.std.proofs.lemmas.Bool.{eq-eqb, cases_eq}
-use Rattle.std.proofs.lemmas.Option.{same_Some}
+use Rattle.std.proofs.lemmas.Bool.Decides.{nat_tests}
 use Rattle.intern_store.proofs.Births.{not_stored}
-use Rattle.intern_store.proofs.States.{empty_state, fresh_state, taken_state, kept_state, changed_state, counted_up-interned, counted_up-stored, changed_count, count_within, raised_below, raised_within, full_at}
+use Rattle.intern_store.proofs.States.{empty_state, fresh_state, taken_state, kept_state, changed_state, counted_up-interned, counted_up-stored, changed_count, count_within, raised_below, raised_within}
 use Rattle.ra_ap_intern.specs.Name.{Name}
-use Rattle.ra_ap_intern.proofs.CallerReads.{is_there}
-use Rattle.ra_ap_intern.specs.Kept.{Kept, raised, recounted}
-use Rattle.ra_ap_intern.specs.Refusal.TheVariants.{NumbersUsedUp}
-use Rattle.ra_ap_intern.specs.State.{State, IsState, new_state, entry_at, count_at, counted_up, counted_down, taken, kept, is_last, released, due, full, due_adding, due_interning, interned_counted, due_found, any_count, or_added, interned, birth_of}
+use Rattle.ra_ap_intern.proofs.CallerReads.{released_either, is_there}
+use Rattle.ra_ap_intern.specs.Kept.{raised, recounted}
+use Rattle.ra_ap_intern.specs.State.{State, IsState, new_state, entry_at, count_at, counted_up, counted_down, taken, kept, released, due, full, due_adding, due_interning, interned_counted, due_found, any_count, or_added, interned, birth_of}
 
 module _ {V : Type 0} (eq : V → V → Bool) where
   -- an empty storage
@@ -20,12 +17,7 @@ module _ {V : Type 0} (eq : V → V → Bool) where
   state_new number top numbers room = empty_state eq number top numbers map.empty room refl
 
   room : (s : State V) → IsState eq s → due_adding s ≡ None → s.next < s.numbers
-  room s ok free = elim (cases_eq s.next s.numbers) [
-    | inl full ↦
-        let no = ap (λ t. cond t (Some NumbersUsedUp) None) (eq-eqb s.next s.numbers full) in
-        absurd (cc)
-    | inr differs ↦ let within = ok.within in omega arith
-  ]
+  room s ok free = grind (arith, nat_tests, ok.within)
 
   -- an interning that nothing refuses
   pub state_interned : IsEquivalence eq → (s : State V) (v : V) → IsState eq s
@@ -48,18 +40,14 @@ module _ {V : Type 0} (eq : V → V → Bool) where
       (changed_state eq (raised s.top) s b m ok (raised_within s.top) refl)
     where
       below : (n : ℕ) → count_at s b ≡ Some n → full s.top n ≡ None → n < s.top
-      below n is none = elim (cases_eq n s.top) [
-        | inl at_top ↦ let no = full_at n s.top at_top in absurd (cc)
-        | inr differs ↦ let fits = count_within eq s b n ok is in omega arith
-      ]
+      below n is none = grind (arith, nat_tests, count_within eq s b n ok is)
 
   pub state_counted_up : (s : State V) (name : Name) → IsState eq s
       → due s name (full s.top) ≡ None → IsState eq (counted_up s name.birth)
   state_counted_up s name ok free =
       let there = is_there s name (full s.top) free in
       raised_state s name.birth ok (λ n is.
-      let same = same_Some _ _ (ap (option_map (λ (k : Kept V). k.count)) (sym there.at) ∙ is) in
-      ap (full s.top) (sym same) ∙ there.passes)
+      grind (arith, there.at, there.passes))
 
   -- an interning in counted mode that nothing refuses
   pub state_interned_counted : IsEquivalence eq → (s : State V) (v : V) → IsState eq s
@@ -88,11 +76,8 @@ module _ {V : Type 0} (eq : V → V → Bool) where
   -- a release
   pub state_released : (stays : Bool) (s : State V) (b : ℕ) → IsState eq s
       → IsState eq (released stays s b)
-  state_released stays s b ok = go (is_last stays s b)
-    where
-      go : (t : Bool) → IsState eq (cond t (taken s b) (counted_down s b))
-      go true = state_taken s b ok
-      go false = state_counted_down s b ok
+  state_released stays s b ok =
+      released_either (IsState eq) stays s b (state_taken s b ok) (state_counted_down s b ok)
 
   -- a sweep
   pub state_kept : (s : State V) (marked : ℕ → Bool) → IsState eq s → IsState eq (kept s marked)

@@ -1,5 +1,5 @@
 -- Symbols and the texts that they name: what a table names after an interning.
-use Rattle.std.proofs.Common.{◌≡◌, ◌↔◌, ℕ, ◌-◌, ◌^◌, Bool, true, false, List, Option, Some, None, refl, sym, ap, ◌∙◌}
+use Rattle.std.proofs.Common.{◌≡◌, ◌↔◌, ℕ, ◌-◌, ◌^◌, Bool, true, false, List, Option, Some, None, refl, sym, ap, ◌∙◌, arith}
 use Rattle.std.specs.Option.{option_map}
 use Rattle.std.specs.Str.{bytes_eq}
 use Rattle.std.specs.Cmp.Lexicographic.{nat_list_eq_equiv}
@@ -7,14 +7,13 @@ use Rattle.std.proofs.lemmas.Bool.{eq-eqb, eqb-true}
 use Rattle.std.proofs.lemmas.Option.{same_Some}
 use Rattle.std.proofs.lemmas.Slice.Eq.{bytes_eq-Decides}
 use Rattle.ra_ap_intern.specs.Presets.{place_of}
-use Rattle.ra_ap_intern.specs.Name.{Name}
 use Rattle.ra_ap_intern.specs.State.{State, IsState, reads, name_of_value}
 use Rattle.ra_ap_intern.specs.Symbols.{Named, same_named, source_of, symbol_ref_name, text_of, named_in, named_at, symbol_in, symbol_at, due_symbol, due_symbol_at}
 use Rattle.ra_ap_intern.specs.Symbols.Named.{preset, entry}
 use Rattle.ra_ap_intern.specs.declared.symbol.SymbolRef.{SymbolRef}
 use Rattle.intern_store.proofs.Named.{names_same, same_names}
 use Rattle.ra_ap_intern.proofs.CallerInterning.{found_reads, read_found, interned_counted_reads, interned_counted_found_elsewhere}
-use Rattle.ra_ap_intern.proofs.CallerReads.{interned_counted_reads_on}
+use Rattle.ra_ap_intern.proofs.CallerReads.{some_read, interned_counted_reads_on}
 use Rattle.ra_ap_intern.proofs.CallerStates.{state_interned_counted}
 use Rattle.ra_ap_intern.proofs.CallerViews.{equality_tested}
 use Rattle.ra_ap_intern.proofs.Texts.{reads_back as symbol_reads}
@@ -89,15 +88,10 @@ named_reads s text a is = go (place_of text) (symbol_reads s text) is
     go : (q : Option ℕ) → text_of (symbol_at q s text).table (symbol_at q s text).symbol ≡ Some text
         → named_at q s text ≡ Some a → text_of s a ≡ Some text
     go (Some p) read h = ap (text_of s) (sym (same_Some _ _ h)) ∙ read
-    go None read h = stored (name_of_value bytes_eq s text) refl h
-      where
-        stored : (o : Option Name) → name_of_value bytes_eq s text ≡ o
-            → option_map entry o ≡ Some a → text_of s a ≡ Some text
-        stored (Some n) at e =
-            let r = found_reads bytes_eq s text n at in
-            ap (text_of s) (sym (same_Some _ _ e)) ∙ r.1
-            ∙ ap Some (sym ((bytes_eq-Decides text r.0).0 r.2))
-        stored None at e = absurd (cc)
+    go None read h =
+        let n = some_read (name_of_value bytes_eq s text) (grind arith) in
+        let r = found_reads bytes_eq s text n.0 n.1 in
+        grind (arith, n.1, r.1, r.2, bytes_eq-Decides text r.0)
 
 -- two texts of one symbol are equal
 pub named_once : (s : State (List ℕ)) (text other : List ℕ) (a b : Named)

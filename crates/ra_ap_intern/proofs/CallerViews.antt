@@ -1,12 +1,10 @@
 -- What is known of values that are equal exactly if they are seen as the same, and what a collection
 -- leaves of them.
-use Rattle.std.proofs.Common.{rules, ◌≡◌, ◌↔◌, Bool, true, false, ◌&&◌, List, [], ◌∷◌, map, Option, Some, None, IsSome, is_some, Result, Ok, Err, IfOk, OnErr, refl, sym, ap, subst, ◌∙◌}
+use Rattle.std.proofs.Common.{rules, ◌≡◌, ◌↔◌, Bool, true, ◌&&◌, List, [], ◌∷◌, map, Option, Some, None, IsSome, Result, Ok, Err, IfOk, OnErr, refl, sym, ap, subst, ◌∙◌, arith}
 use Rattle.std.specs.Cmp.{IsEquivalence}
 use Rattle.std.specs.List.{flat_map}
 use Rattle.std.specs.Option.{option_eq, option_map}
 use Rattle.std.specs.declared.alloc.AllocError.{AllocError}
-use Rattle.std.proofs.lemmas.Bool.{and_parts, and_from}
-use Rattle.std.proofs.lemmas.Option.{same_Some}
 use Rattle.ra_ap_intern.specs.Families.{IsCollection, entries_of, kept_named}
 use Rattle.ra_ap_intern.specs.Handle.{ref_name}
 use Rattle.ra_ap_intern.specs.Interning.{Makes}
@@ -29,20 +27,15 @@ use Rattle.ra_ap_intern.proofs.CallerReads.{interned_reads_on, read_once}
 -- two names are those of two others
 pub names_same_both : (a b x y : Name) → (same_name a x && same_name b y) ≡ true
     → (a ≡ x) × (b ≡ y)
-names_same_both a b x y is =
-    let both = and_parts _ _ is in (names_same a x both.0, names_same b y both.1)
+names_same_both a b x y is = grind (arith, names_same a x, names_same b y)
 
 pub same_names_both : (a b x y : Name) → (a ≡ x) × (b ≡ y)
     → (same_name a x && same_name b y) ≡ true
-same_names_both a b x y is = and_from _ _ (same_names a x is.0) (same_names b y is.1)
+same_names_both a b x y is = grind (arith, same_names a x, same_names b y)
 
 -- two names, if there are any, are one
 pub optional_names : (o p : Option Name) → (option_eq same_name o p ≡ true) ↔ (o ≡ p)
-optional_names None None = (λ is. refl, λ is. refl)
-optional_names None (Some m) = (λ is. absurd (cc), λ is. absurd (cc))
-optional_names (Some n) None = (λ is. absurd (cc), λ is. absurd (cc))
-optional_names (Some n) (Some m) =
-    (λ is. ap Some (names_same n m is), λ is. same_names n m (same_Some _ _ is))
+optional_names o p = (λ is. grind (arith, names_same), λ is. grind (arith, same_names))
 
 -- what is seen of a value that is read
 record IsSeen {V X : Type 0} (view : V → X) (o : Option V) (x : X) : Type 0 where
@@ -58,33 +51,21 @@ seen view None x is = absurd (cc)
 -- what is seen is read
 pub seen_read : {V X : Type 0} (view : V → X) (o : Option V) (x : X) → option_map view o ≡ Some x
     → IsSome o
-seen_read view o x is = ap is_some (seen view o x is).read
+seen_read view o x is = grind arith
 
 -- and is seen of it as long as it is read
 pub view_stays : {V X : Type 0} (view : V → X) (o p : Option V) (x : X)
     → ((v : V) → o ≡ Some v → p ≡ Some v) → option_map view o ≡ Some x
     → option_map view p ≡ Some x
-view_stays view o p x on is =
-    let r = seen view o x is in ap (option_map view) (on r.value r.read) ∙ ap Some r.same
-
-both : (a b : Bool) → (a ≡ true → b ≡ true) → (b ≡ true → a ≡ true) → a ≡ b
-both true b there back = sym (there refl)
-both false true there back = back refl
-both false false there back = refl
+view_stays view o p x on is = grind (arith, on)
 
 module _ {V X : Type 0} (eq : V → V → Bool) (view : V → X) (alike : (v w : V) → (eq v w ≡ true) ↔ (view v ≡ view w)) where
   -- such an equality is an equivalence
   pub viewed_equivalence : IsEquivalence eq
   viewed_equivalence = record {
     refl = λ v. (alike v v).1 refl;
-    symm = λ v w. both _ _
-        (λ is. (alike w v).1 (sym ((alike v w).0 is)))
-        (λ is. (alike v w).1 (sym ((alike w v).0 is)));
-    congr = λ v w z is.
-        let same = (alike v w).0 is in
-        both _ _
-        (λ one. (alike w z).1 (sym same ∙ (alike v z).0 one))
-        (λ one. (alike v z).1 (same ∙ (alike w z).0 one));
+    symm = λ v w. grind (arith, alike v w, alike w v);
+    congr = λ v w z is. grind (arith, alike v w, alike v z, alike w z);
   }
 
   -- names are equal exactly if what is seen of their values is
@@ -95,8 +76,7 @@ module _ {V X : Type 0} (eq : V → V → Bool) (view : V → X) (alike : (v w :
       let r = seen view (reads s n) x first in
       let q = seen view (reads s m) y second in (
         λ one.
-            let same : Some x ≡ Some y =
-            sym first ∙ ap (λ k. option_map view (reads s k)) one ∙ second in cc,
+            grind (arith, first, second),
         λ same.
             read_once eq s ok n m r.value q.value r.read q.read
             ((alike r.value q.value).1 (r.same ∙ same ∙ sym q.same)),
@@ -107,8 +87,7 @@ module _ {V X : Type 0} (eq : V → V → Bool) (view : V → X) (alike : (v w :
       → t ≡ (interned eq s v).state → option_map view (reads t name) ≡ Some (view v)
   interned_view s t v name named now =
       let r = interned_reads eq viewed_equivalence s v in
-      (λ i. option_map view (reads (now i) (named i)))
-      ∙ ap (option_map view) r.1 ∙ ap Some (sym ((alike v r.0).0 r.2))
+      grind (arith, r.1, r.2, alike v r.0)
 
   -- a call with these clauses of interning makes a value
   pub makes : (s : State V) → IsState eq s → (v : V) (result : Result (Ref (Values V)) Refusal)
@@ -135,7 +114,7 @@ module _ {V X : Type 0} (eq : V → V → Bool) (view : V → X) (alike : (v w :
       → option_map view (reads s name) ≡ Some (view v)
   found_view s v name found =
       let r = found_reads eq s v name found in
-      ap (option_map view) r.1 ∙ ap Some (sym ((alike v r.0).0 r.2))
+      grind (arith, r.1, r.2, alike v r.0)
 
   -- the look-up of what is seen so answers its name
   pub view_found : (s : State V) → IsState eq s → (v : V) (name : Name)
@@ -149,8 +128,7 @@ module _ {V X : Type 0} (eq : V → V → Bool) (view : V → X) (alike : (v w :
       → option_map view (reads s name) ≡ Some (view v) → ⊥
   none_view s v none name at =
       let r = seen view (reads s name) (view v) at in
-      let no = none_found eq s v none name r.value r.read in
-      let yes = (alike v r.value).1 (sym r.same) in absurd (cc)
+      grind (arith, none_found eq s v none name r.value r.read, alike v r.value, r.same)
 
 -- values that are equal exactly if they are the same
 module _ {V : Type 0} (eq : V → V → Bool) (alike : (v w : V) → (eq v w ≡ true) ↔ (v ≡ w)) where
@@ -181,9 +159,8 @@ pub equality_tested : {H N : Type 0} (eq : H → H → Bool) (test : N → N →
     → ((a b : H) → (eq a b ≡ true) ↔ (view a ≡ view b))
     → ((n m : N) → test n m ≡ true → n ≡ m) → ((n : N) → test n n ≡ true)
     → (a b : H) → eq a b ≡ test (view a) (view b)
-equality_tested eq test view alike same itself a b = both (eq a b) (test (view a) (view b))
-    (λ is. subst (λ n. test (view a) n ≡ true) ((alike a b).0 is) (itself (view a)))
-    (λ is. (alike a b).1 (same (view a) (view b) is))
+equality_tested eq test view alike same itself a b =
+    grind (arith, alike a b, same (view a) (view b), itself (view a))
 
 -- handles' equality is that of their names
 pub handles_tested : {H : Type 0} (eq : H → H → Bool) (name : H → Name)

@@ -1,9 +1,9 @@
 -- What a collection leaves.
-use Rattle.std.proofs.Common.{◌≡◌, ℕ, ◌+◌, Bool, true, false, cond, ◌==◌, List, [], ◌∷◌, length, Option, Some, None, is_some, inl, inr, refl, sym, ◌∙◌, ap, subst, arith}
-use Rattle.std.proofs.lemmas.Bool.{cases_Bool, eqb-true}
+use Rattle.std.proofs.Common.{◌≡◌, ℕ, ◌+◌, Bool, true, false, cond, ◌==◌, List, [], ◌∷◌, length, None, refl, sym, ◌∙◌, ap, subst, arith}
+use Rattle.std.proofs.lemmas.Bool.{eqb-true}
 use Rattle.std.specs.List.{filter}
 use Rattle.std.specs.Option.{option_map}
-use Rattle.intern_store.specs.Named.{same_name}
+use Rattle.std.proofs.lemmas.Bool.Decides.{nat_tests}
 use Rattle.intern_store.proofs.Named.{names_same}
 use Rattle.intern_store.specs.Kept.{Kept}
 use Rattle.intern_store.specs.State.{State, entry_at, name_in}
@@ -21,41 +21,12 @@ either_same false x = refl
 -- what is left has no other names
 pub kept_in : (set : Name → Bool) (family : List Entry) (x : Name) → is_entry (filter (λ e. set e.name) family) x ≡ true → set x ≡ true
 kept_in set [] x there = cc there
-kept_in set (e ∷ es) x there =
-    let rest = filter (λ (e : Entry). set e.name) es in
-    elim (cases_Bool (set e.name)) [
-      | inl stays ↦
-          let here : is_entry (e ∷ rest) x ≡ true = sym (ap (λ b. is_entry (cond b (e ∷ rest) rest) x) stays) ∙ there in
-          elim (cases_Bool (same_name x e.name)) [
-            | inl same ↦ ap set (names_same x e.name same) ∙ stays
-            | inr other ↦ kept_in set es x (sym (ap (λ b. is_some (cond b (Some e) (entry_of rest x))) other) ∙ here)
-          ]
-      | inr goes ↦ kept_in set es x (sym (ap (λ b. is_entry (cond b (e ∷ rest) rest) x) goes) ∙ there)
-    ]
+kept_in set (e ∷ es) x there = grind (arith, names_same x e.name, kept_in set es x)
 
 -- the entry of a name that is left is what it was
 pub entry_kept : (set : Name → Bool) (family : List Entry) (x : Name) → entry_of (filter (λ e. set e.name) family) x ≡ cond (set x) (entry_of family x) None
-entry_kept set [] x = either_same (set x) None
-entry_kept set (e ∷ es) x = elim (cases_Bool (same_name x e.name)) [
-  | inl same ↦ elim (cases_Bool (set e.name)) [
-    | inl stays ↦
-        ap (λ b. entry_of (cond b (e ∷ rest) rest) x) stays ∙ ap (λ b. cond b (Some e) (entry_of rest x)) same
-        ∙ sym (ap (λ b. cond b (entry_of (e ∷ es) x) None) (ap set (names_same x e.name same) ∙ stays) ∙ ap (λ b. cond b (Some e) (entry_of es x)) same)
-    | inr goes ↦
-        let gone = ap set (names_same x e.name same) ∙ goes in
-        ap (λ b. entry_of (cond b (e ∷ rest) rest) x) goes ∙ entry_kept set es x
-        ∙ ap (λ b. cond b (entry_of es x) None) gone ∙ sym (ap (λ b. cond b (entry_of (e ∷ es) x) None) gone)
-  ]
-  | inr other ↦
-      behind (set e.name) other ∙ entry_kept set es x ∙ sym (ap (λ o. cond (set x) o None) (ap (λ b. cond b (Some e) (entry_of es x)) other))
-]
-  where
-    rest : List Entry
-    rest = filter (λ e. set e.name) es
-
-    behind : (b : Bool) → same_name x e.name ≡ false → entry_of (cond b (e ∷ rest) rest) x ≡ entry_of rest x
-    behind true other = ap (λ b. cond b (Some e) (entry_of rest x)) other
-    behind false other = refl
+entry_kept set [] x = grind arith
+entry_kept set (e ∷ es) x = grind (arith, names_same x e.name, entry_kept set es x)
 
 -- what a second collection reaches, from the same roots, is all that is left
 pub reaches_all : (family rest : List Entry) (listed names again : List Name) → IsReachedSet (starts_with listed family) family names
@@ -67,9 +38,7 @@ reaches_all family rest listed names again first left second x there =
     (second.reached x).1 (subst (λ es. Reached (starts_with listed es) es x) (sym left) reached)
 
 either_way : (a b : Bool) → (a ≡ true → b ≡ true) → (b ≡ true → a ≡ true) → a ≡ b
-either_way true b there back = sym (there refl)
-either_way false true there back = back refl
-either_way false false there back = refl
+either_way a b there back = grind (arith, there, back)
 
 pub one_set : (begins : Name → Bool) (family : List Entry) (names others : List Name)
     → IsReachedSet begins family names → IsReachedSet begins family others → has names ≡ has others
@@ -93,24 +62,9 @@ none_removed family rest listed names again removed first left second told =
 name_of_birth : {V : Type 0} (s : State V) (n : Name) → (n.storage == s.number) ≡ true → name_in s n.birth ≡ n
 name_of_birth s n own = λ i. record { storage = sym (eqb-true n.storage s.number own) i; birth = n.birth }
 
-among : {X Y : Type 0} (f : X → Y) (b : Bool) (o : Option X) → option_map f (cond b o None) ≡ cond b (option_map f o) None
-among f true o = refl
-among f false o = refl
-
 -- what is known of a name that stays is what was known, and of another nothing is
 pub of_kept : {V X : Type 0} (f : Kept V → X) (s : State V) (set : Name → Bool) (n : Name)
     → cond (n.storage == s.number) (option_map f (entry_at (kept_named s set) n.birth)) None
     ≡ cond (set n) (cond (n.storage == s.number) (option_map f (entry_at s n.birth)) None) None
-of_kept f s set n = elim (cases_Bool (n.storage == s.number)) [
-  | inl own ↦
-      let there = option_map f (entry_at s n.birth) in
-      ap (λ b. cond b (option_map f (entry_at (kept_named s set) n.birth)) None) own
-      ∙ ap (option_map f) (get-retained s.map (λ b. set (name_in s b)) n.birth)
-      ∙ among f (set (name_in s n.birth)) (entry_at s n.birth)
-      ∙ ap (λ x. cond (set x) there None) (name_of_birth s n own)
-      ∙ sym (ap (λ b. cond (set n) (cond b there None) None) own)
-  | inr foreign ↦
-      ap (λ b. cond b (option_map f (entry_at (kept_named s set) n.birth)) None) foreign
-      ∙ either_same (set n) None
-      ∙ sym (ap (λ b. cond (set n) (cond b (option_map f (entry_at s n.birth)) None) None) foreign)
-]
+of_kept f s set n =
+    grind (arith, nat_tests, name_of_birth s n, get-retained s.map (λ b. set (name_in s b)) n.birth)

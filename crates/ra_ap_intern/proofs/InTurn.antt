@@ -10,7 +10,7 @@ use Rattle.ra_ap_intern.specs.Interning.{names_in_turn, NoneDue, Interns}
 use Rattle.ra_ap_intern.specs.Name.{Name}
 use Rattle.ra_ap_intern.specs.Refusal.{Refusal}
 use Rattle.ra_ap_intern.specs.State.{State, IsState, reads, interned, interned_name, interned_counted, due_interning}
-use Rattle.ra_ap_intern.proofs.CallerInterning.{ReadsEqual, IsTelling, state_telling, interned_telling, counted_telling, interned_counted_reads}
+use Rattle.ra_ap_intern.proofs.CallerInterning.{telling_alike, ReadsEqual, IsTelling, state_telling, interned_telling, counted_telling, interned_counted_reads}
 use Rattle.ra_ap_intern.proofs.CallerReads.{interned_reads_given, interned_counted_reads_given}
 
 module _ {V : Type 0} (after : State V → V → State V) (eq : V → V → Bool) where
@@ -85,15 +85,8 @@ module _ {V : Type 0} (after : State V → V → State V) (eq : V → V → Bool
           let b = in_turn_reads j w second in
           let is_n = same_Some _ _ (sym a.1 ∙ named_first) in
           let is_m = same_Some _ _ (sym b.1 ∙ named_second) in
-          let left = ap (reads (fold after s values)) (sym is_n) ∙ a.2.1 in
-          let right = ap (reads (fold after s values)) (sym is_m) ∙ b.2.1 in (
-            λ one.
-                let both = same_Some _ _ (sym left ∙ ap (reads (fold after s values)) one ∙ right) in
-                laws.congr v a.2.0 w a.2.2 ∙ laws.symm a.2.0 w ∙ ap (eq w) both ∙ b.2.2,
-            λ alike.
-                (telling_on s (state_telling eq s ok) values).apart n m a.2.0 b.2.0 left right
-                (sym (laws.congr v a.2.0 b.2.0 a.2.2) ∙ laws.congr v w b.2.0 alike ∙ b.2.2),
-          )
+          telling_alike eq laws (fold after s values) (telling_on s (state_telling eq s ok) values) n m v w a.2.0 b.2.0
+          (ap (reads (fold after s values)) (sym is_n) ∙ a.2.1) a.2.2 (ap (reads (fold after s values)) (sym is_m) ∙ b.2.1) b.2.2
 
 module _ {V : Type 0} (eq : V → V → Bool) (laws : IsEquivalence eq) where
   -- in counted mode

@@ -1,5 +1,5 @@
 -- What is learnt of the entries of a storage, whose counts come in some order.
-use Rattle.std.proofs.Common.{◌≡◌, ℕ, Bool, true, false, cond, ◌==◌, nat_eq, length, List, [], ◌∷◌, Option, Some, None, refl, sym, ap, ◌∙◌, subst, arith}
+use Rattle.std.proofs.Common.{◌≡◌, ℕ, Bool, false, nat_eq, length, List, [], ◌∷◌, Some, refl, sym, ap, ◌∙◌, subst, arith}
 use Rattle.std.specs.Prelude.{T, IsPermutation, map as list_map}
 use Rattle.std.specs.List.{IsDistinct, AllByRecursion}
 use Rattle.std.specs.Map.{keys_of, lookup}
@@ -15,7 +15,6 @@ use Rattle.std.proofs.lemmas.Map.Keys.{IsDistinct-IsPermutation}
 use Rattle.std.proofs.lemmas.Map.Views.{Contains-from_lookup, lookup-from_Contains}
 use Rattle.intern_marks.specs.Learning.{Learns}
 use Rattle.intern_marks.specs.Marks.{Marks}
-use Rattle.intern_marks.specs.Reach.{is_counted}
 use Rattle.intern_marks.specs.Trace.{counted_in}
 use Rattle.intern_store.specs.Kept.{Kept}
 use Rattle.intern_store.specs.State.{State, entry_at}
@@ -24,20 +23,15 @@ use Rattle.intern_store.proofs.Compared.{tied}
 use Rattle.intern_store.proofs.Sorted.{parts, less}
 use Rattle.intern_table.specs.Listed.{listed_counts}
 use Rattle.ra_ap_intern.specs.Families.{entries_of, counted_entries}
-use Rattle.ra_ap_intern.specs.StorageLaws.{as_entry, entry_named}
+use Rattle.ra_ap_intern.specs.StorageLaws.{entry_named}
 use Rattle.ra_ap_intern.proofs.Registering.{counts_told, learns_same}
 
 -- a look-up finds the same in lists that have the same entries, where keys differ
 lookup_permutation : {X : Type 0} (q : ℕ) (xs ys : List (ℕ × X)) → IsPermutation xs ys → IsDistinct nat_eq (keys_of xs) → IsDistinct nat_eq (keys_of ys) → lookup (nat_eq q) xs ≡ lookup (nat_eq q) ys
-lookup_permutation {X} q xs ys same first second = go (lookup (nat_eq q) xs) refl (lookup (nat_eq q) ys) refl
+lookup_permutation {X} q xs ys same first second = grind (arith, found xs ys same second, found ys xs (IsPermutation-sym xs ys same) first)
   where
     found : (us vs : List (ℕ × X)) → IsPermutation us vs → IsDistinct nat_eq (keys_of vs) → (v : X) → lookup (nat_eq q) us ≡ Some v → lookup (nat_eq q) vs ≡ Some v
     found us vs same distinct v is = lookup-from_Contains nat_eq_equiv q v vs distinct (Contains-permutation us vs (q, v) same (Contains-from_lookup eqb-true q v us is))
-
-    go : (o : Option X) → lookup (nat_eq q) xs ≡ o → (p : Option X) → lookup (nat_eq q) ys ≡ p → o ≡ p
-    go (Some v) is p at = sym (found xs ys same second v is) ∙ at
-    go None is None at = refl
-    go None is (Some v) at = sym is ∙ found ys xs (IsPermutation-sym xs ys same) first v at
 
 module _ {V : Type 0} where
   above : (b : ℕ) (es : List (ℕ × Kept V)) → T (below_all nat_cmp b es) → AllByRecursion (λ k. nat_eq b k ≡ false) (keys_of (list_map (λ e. (e.0, e.1.count)) es))
@@ -59,13 +53,7 @@ module _ {V : Type 0} where
 
   counts_found : (q : ℕ) (es : List (ℕ × Kept V)) → lookup (nat_eq q) (list_map (λ e. (e.0, e.1.count)) es) ≡ option_map (λ k. k.count) (find nat_cmp q es)
   counts_found q [] = refl
-  counts_found q (e ∷ es) =
-      ap (cond (nat_eq q e.0) (Some e.1.count)) (counts_found q es) ∙ here (nat_eq q e.0)
-      ∙ ap (λ t. option_map (λ k. k.count) (cond t (Some e.1) (find nat_cmp q es))) (sym (tied q e.0))
-    where
-      here : (t : Bool) → cond t (Some e.1.count) (option_map (λ k. k.count) (find nat_cmp q es)) ≡ option_map (λ k. k.count) (cond t (Some e.1) (find nat_cmp q es))
-      here true = refl
-      here false = refl
+  counts_found q (e ∷ es) = grind (arith, counts_found q es, tied q e.0)
 
   module _ (children : V → List Name) (s : State V) (counts : List (ℕ × ℕ)) (listed : IsPermutation counts (listed_counts s.map)) where
     -- a look-up in the counts finds the count of an entry
@@ -76,16 +64,7 @@ module _ {V : Type 0} where
 
     told_counted : (x : Name) → counted_in (counted_entries s.number counts) x ≡ counted_in (entries_of children s) x
     told_counted x =
-        counts_told s.number counts x
-        ∙ ap (λ o. cond (x.storage == s.number) (option_map is_counted o) None) (lookup_count x.birth)
-        ∙ here (x.storage == s.number) (entry_at s x.birth)
-        ∙ sym (ap (option_map (λ e. is_counted e.count)) (entry_named children s x))
-      where
-        here : (t : Bool) (o : Option (Kept V)) → cond t (option_map is_counted (option_map (λ k. k.count) o)) None
-            ≡ option_map (λ e. is_counted e.count) (cond t (option_map (as_entry children s x.birth) o) None)
-        here false o = refl
-        here true None = refl
-        here true (Some k) = refl
+        grind (arith, counts_told s.number counts x, lookup_count x.birth, entry_named children s x)
 
     many : length (counted_entries s.number counts) ≡ length (entries_of children s)
     many = length-map counts _ ∙ sym (length_permutation counts (listed_counts s.map) listed) ∙ length-map (entries s.map) _ ∙ sym (length-map (entries s.map) _)

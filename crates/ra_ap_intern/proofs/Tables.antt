@@ -1,21 +1,21 @@
 -- A table of texts after each change.
-use Rattle.std.proofs.Common.{◌≡◌, ◌≢◌, ℕ, ◌+◌, ◌-◌, ◌<◌, ◌==◌, Bool, true, false, cond, nat_eq, List, Option, Some, None, Result, Ok, Err, refl, sym, ap, subst, ◌∙◌, arith}
-use Rattle.std.specs.Option.{option_eq, option_map}
+use Rattle.std.proofs.Common.{◌≡◌, ◌≢◌, ℕ, ◌+◌, ◌-◌, ◌<◌, ◌==◌, Bool, true, false, cond, List, Option, Some, None, Result, Ok, Err, refl, sym, subst, arith}
+use Rattle.std.specs.Option.{option_eq}
 use Rattle.std.specs.Str.{bytes_eq}
-use Rattle.std.proofs.lemmas.Bool.{eq-eqb, eqb-true, ne_eqb, false≢true}
-use Rattle.std.proofs.lemmas.Option.{same_Some}
 use Rattle.std.proofs.lemmas.Slice.Eq.{bytes_eq-Decides}
+use Rattle.std.proofs.lemmas.Bool.Decides.{nat_tests}
+use Rattle.ra_ap_intern.proofs.CallerReads.{some_read}
 use Rattle.intern_presets.specs.Presets.{place_of}
-use Rattle.intern_store.specs.Kept.{Kept, is_at, recount}
+use Rattle.intern_store.specs.Kept.{Kept, recount}
 use Rattle.intern_store.specs.Outcome.{Becomes}
-use Rattle.intern_store.specs.State.{State, entry_at, count_at, name_in, with_count, counted_up, counted_down, taken, added, birth_of, name_of_value, or_added, interned_counted, released, due_found, due_found_full, found_counted, full}
+use Rattle.intern_store.specs.State.{State, entry_at, count_at, name_in, with_count, counted_up, counted_down, taken, added, birth_of, name_of_value, or_added, interned_counted, released, due_found_full, found_counted}
 use Rattle.intern_store.proofs.Compared.{get-inserted, get-modified}
 use Rattle.intern_store.specs.declared.names.Name.{Name}
 use Rattle.intern_store.specs.declared.refusal.Refusal.{Refusal}
 use Rattle.intern_store.proofs.Births.{is_stored}
 use Rattle.intern_store.proofs.States.{still}
 use Rattle.ra_ap_intern.specs.Symbols.Named.{entry}
-use Rattle.ra_ap_intern.specs.Symbols.{IsTable, symbol_at, symbol_in, due_symbol_at, due_symbol, named_at, named_in}
+use Rattle.ra_ap_intern.specs.Symbols.{IsTable, symbol_in, due_symbol, named_in}
 
 -- what holds of each entry of a table
 abbrev pub Counts : Kept (List ℕ) → Type 0
@@ -27,28 +27,17 @@ table_from s each = record { positive = λ b k had. (each b k had).0; others = �
 -- an entry that is written again counts, where the others do
 rewritten : (f : ℕ → ℕ) (s : State (List ℕ)) (b : ℕ) → ((c : ℕ) (k : Kept (List ℕ)) → c ≢ b → entry_at s c ≡ Some k → Counts k)
     → ((k : Kept (List ℕ)) → entry_at s b ≡ Some k → Counts (record k { count = f k.count })) → IsTable (with_count f s b (entry_at s b))
-rewritten f s b others fits = table_from _ (λ c k had. go c k (nat_eq c b) refl (entry_at s c) refl (sym (get-modified (recount f) s.map b c) ∙ had))
-  where
-    go : (c : ℕ) (k : Kept (List ℕ)) (t : Bool) → nat_eq c b ≡ t → (o : Option (Kept (List ℕ))) → entry_at s c ≡ o
-        → cond t (option_map (recount f) o) o ≡ Some k → Counts k
-    go c k true here None at had = absurd (cc)
-    go c k false here None at had = absurd (cc)
-    go c k true here (Some j) at had = subst Counts (same_Some _ _ had) (fits j (ap (entry_at s) (sym (eqb-true c b here)) ∙ at))
-    go c k false here (Some j) at had =
-        others c k (λ same. false≢true (sym here ∙ eq-eqb c b same)) (at ∙ had)
+rewritten f s b others fits = table_from _ (λ c k had. grind (arith, nat_tests, others c k, fits, get-modified (recount f) s.map b c))
 
 pub up_table : (s : State (List ℕ)) (b : ℕ) → IsTable s → IsTable (counted_up s b)
 up_table s b is = rewritten (λ n. n + 1) s b (λ c k differs had. (is.positive c k had, is.others c k had)) (λ k at. (omega arith, is.others b k at))
 
 added_table : (s : State (List ℕ)) (t : List ℕ) → place_of t ≡ None → IsTable s → IsTable (counted_up (added s t) s.next)
 added_table s t new is =
+    let had = get-inserted s.map s.next (record { value = t; count = 0 }) in
     rewritten (λ n. n + 1) (added s t) s.next
-    (λ c k differs had.
-    let old = sym (get-inserted s.map s.next _ c ∙ ap (λ x. cond x (Some (record { value = t; count = 0 })) (entry_at s c)) (ne_eqb c s.next differs)) ∙ had in
-    (is.positive c k old, is.others c k old))
-    (λ k at.
-    let fresh : record { value = t; count = 0 } ≡ k = same_Some _ _ (sym (get-inserted s.map s.next _ s.next ∙ ap (λ x. cond x (Some (record { value = t; count = 0 })) (entry_at s s.next)) (eq-eqb s.next s.next refl)) ∙ at) in
-    (omega arith, ap (λ (x : Kept (List ℕ)). place_of x.value) (sym fresh) ∙ new))
+    (λ c k differs at. grind (arith, nat_tests, had c, is.positive c k, is.others c k))
+    (λ k at. grind (arith, nat_tests, had s.next, new))
 
 pub interned_table : (s : State (List ℕ)) (t : List ℕ) → place_of t ≡ None → IsTable s → IsTable (interned_counted bytes_eq s t)
 interned_table s t new is = go (birth_of bytes_eq s t)
@@ -63,11 +52,8 @@ released_table s b is = go (option_eq ◌==◌ (count_at s b) (Some 1)) refl
     go : (t : Bool) → option_eq ◌==◌ (count_at s b) (Some 1) ≡ t → IsTable (cond t (taken s b) (counted_down s b))
     go true last = table_from _ (λ c k had. let old = still (λ x y. true) s.map b c k had in (is.positive c k old, is.others c k old))
     go false more =
-        rewritten (λ n. n - 1) s b (λ c k differs had. (is.positive c k had, is.others c k had)) (λ k at.
-        let some : 0 < k.count = is.positive b k at in
-        let one : (k.count == 1) ≡ false = sym (ap (λ o. option_eq ◌==◌ (option_map (λ (x : Kept (List ℕ)). x.count) o) (Some 1)) at) ∙ more in
-        let differs : k.count ≢ 1 = λ e. let yes = eq-eqb k.count 1 e in cc in
-        (omega arith, is.others b k at))
+        rewritten (λ n. n - 1) s b (λ c k differs had. (is.positive c k had, is.others c k had))
+        (λ k at. grind (arith, nat_tests, is.positive b k at, is.others b k at, more))
 
 -- a call that may be refused leaves one of two tables
 pub either_table : {A E : Type 0} (r : Result A E) (old new next : State (List ℕ)) → Becomes r old new next → IsTable next → IsTable old → IsTable new
@@ -76,11 +62,7 @@ either_table (Err why) old new next e next_is old_is = subst IsTable (sym e) old
 
 -- a text that is stored is no preset
 stored_other : (s : State (List ℕ)) (t : List ℕ) (b : ℕ) → IsTable s → birth_of bytes_eq s t ≡ Some b → place_of t ≡ None
-stored_other s t b is stored = go (entry_at s b) refl (is_stored bytes_eq s t b stored)
-  where
-    go : (o : Option (Kept (List ℕ))) → entry_at s b ≡ o → is_at bytes_eq t o ≡ true → place_of t ≡ None
-    go None at e = absurd (cc)
-    go (Some k) at e = ap place_of ((bytes_eq-Decides t k.value).0 e) ∙ is.others b k at
+stored_other s t b is stored = grind (arith, is_stored bytes_eq s t b stored, is.others b, bytes_eq-Decides t)
 
 -- the entry of a text, if there is one, counted once more
 pub found_table : (s : State (List ℕ)) (o : Option ℕ) → IsTable s → IsTable (found_counted o s)
@@ -90,32 +72,23 @@ found_table s (Some b) is = up_table s b is
 module _ (s : State (List ℕ)) (t : List ℕ) (is : IsTable s) where
   -- where its count is full, so is the symbol's
   pub found_due : (why : Refusal) → due_found_full (birth_of bytes_eq s t) s ≡ Some why → due_symbol s t ≡ Some why
-  found_due why due = go (birth_of bytes_eq s t) refl due
-    where
-      go : (o : Option ℕ) → birth_of bytes_eq s t ≡ o → due_found_full o s ≡ Some why → due_symbol s t ≡ Some why
-      go None at due = absurd (cc)
-      go (Some b) at due = ap (λ p. due_symbol_at p s t) (stored_other s t b is at) ∙ ap (λ o. due_found o s (full s.top)) at ∙ due
+  found_due why due = grind (arith, (λ (b : ℕ). stored_other s t b is))
 
   -- a name that is found is the symbol's
   module _ (n : Name) (found : Some n ≡ name_of_value bytes_eq s t) where
     there : (b : ℕ) × (birth_of bytes_eq s t ≡ Some b) × (n ≡ name_in s b)
-    there = go (birth_of bytes_eq s t) refl found
-      where
-        go : (o : Option ℕ) → birth_of bytes_eq s t ≡ o → Some n ≡ option_map (name_in s) o → (b : ℕ) × (birth_of bytes_eq s t ≡ Some b) × (n ≡ name_in s b)
-        go None at found = absurd (cc)
-        go (Some b) at found = (b, at, same_Some _ _ found)
+    there =
+        let b = some_read (birth_of bytes_eq s t) (grind (arith, found)) in
+        (b.0, b.1, grind (arith, found, b.1))
 
     other : place_of t ≡ None
     other = stored_other s t there.0 is there.1
 
     pub found_named : named_in s t ≡ Some (entry n)
-    found_named = ap (λ p. named_at p s t) other ∙ ap (option_map entry) (sym found)
+    found_named = grind (arith, other, found)
 
     pub found_symbol : (symbol_in s t).symbol ≡ entry n
-    found_symbol =
-        ap (λ p. (symbol_at p s t).symbol) other ∙ ap (λ o. entry (name_in s (or_added o s t).birth)) there.1 ∙ ap entry (sym there.2)
+    found_symbol = grind (arith, other, there.1, there.2)
 
     pub found_state : (symbol_in s t).table ≡ found_counted (birth_of bytes_eq s t) s
-    found_state =
-        ap (λ p. (symbol_at p s t).table) other ∙ ap (λ o. counted_up (or_added o s t).state (or_added o s t).birth) there.1
-        ∙ sym (ap (λ o. found_counted o s) there.1)
+    found_state = grind (arith, other, there.1)
