@@ -13,8 +13,8 @@ use Rattle.ra_ap_intern.specs.Named.{same_name}
 use Rattle.ra_ap_intern.specs.Names.{has}
 use Rattle.ra_ap_intern.specs.Outcome.{Becomes, MayWant}
 use Rattle.ra_ap_intern.specs.Reach.{Entry, IsReachedSet, Reached, is_entry, starts_with}
-use Rattle.ra_ap_intern.specs.State.{State, IsState, reads, counts, is_new, interned, interned_name, name_of_value, due_interning, any_count}
 use Rattle.ra_ap_intern.specs.Refusal.{Refusal}
+use Rattle.ra_ap_intern.specs.State.{State, IsState, reads, counts, is_new, interned, interned_name, name_of_value, due_interning, any_count}
 use Rattle.ra_ap_intern.specs.declared.gc.Collected.{Collected}
 use Rattle.ra_ap_intern.specs.declared.kind.Values.{Values}
 use Rattle.ra_ap_intern.specs.declared.storage.Ref.{Ref}
