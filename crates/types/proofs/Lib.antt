@@ -1,4 +1,5 @@
 pub mod Environments
+pub mod Founded
 pub mod Occurring
 pub mod Pairs
 pub mod Searching
@@ -7,3 +8,4 @@ pub mod Solving
 pub mod Trees
 pub mod Underway
 pub mod Unifying
+pub mod Unmet

@@ -1,6 +1,5 @@
 -- A type that an unknown one is a part of.
-use Rattle.std.proofs.Common.{◌≡◌, ◌≢◌, ◌⊎◌, inl, inr, ℕ, ◌<◌, ◌≤◌, Bool, List, [], ◌∷◌, ◌++◌, Some, Contains, sym, ap, subst, arith}
-use Rattle.std.proofs.lemmas.List.Elements.{Contains-append_left, Contains-push, Contains-push_cases}
+use Rattle.std.proofs.Common.{◌≡◌, ◌≢◌, ◌⊎◌, inl, inr, ℕ, ◌<◌, ◌≤◌, Bool, List, Some, sym, ap, subst, arith}
 use Rattle.ra_ap_intern.specs.Handle.{ref_name}
 use Rattle.ra_ap_intern.specs.Name.{Name}
 use Rattle.ra_ap_intern.specs.State.{State}
@@ -10,6 +9,7 @@ use Rattle.types.specs.Unifying.{StandsFor, Solves, Agree, IsNever, two}
 use Rattle.types.specs.declared.unknowns.Unknowns.{Unknowns}
 use Rattle.types.specs.declared.value.TypeNode.{TypeNode}
 use Rattle.types.proofs.Pairs.{Handle, size, first_less, second_less, out}
+use Rattle.types.proofs.Sets.{Each}
 use Rattle.types.proofs.Unifying.{unknown_is}
 
 -- a type is a tree that is smaller than this one
@@ -27,20 +27,7 @@ module _ (s : State TypeNode) (old : Unknowns) (number : ℕ) (handle : Name) wh
       → IsSmaller s v (v number) n)
 
   abbrev pub AreWithin : List Handle → Type 0
-  AreWithin xs = (p : Handle) → Contains xs p → IsWithin (ref_name p)
-
-  -- a list without its last, and that
-  pub within_popped : (all rest : List Handle) (p : Handle) → all ≡ rest ++ p ∷ [] → AreWithin all
-      → AreWithin rest × IsWithin (ref_name p)
-  within_popped all rest p last within =
-      let each = subst AreWithin last within in
-      (λ q in'. each q (Contains-append_left rest (p ∷ []) q in'), each p (Contains-push rest p))
-
-  pub within_push : (xs : List Handle) (p : Handle) → AreWithin xs → IsWithin (ref_name p) → AreWithin (xs ++ p ∷ [])
-  within_push xs p all here q in' = elim (Contains-push_cases xs p q in') [
-    | inl earlier ↦ all q earlier
-    | inr is ↦ subst (λ (r : Handle). IsWithin (ref_name r)) is here
-  ]
+  AreWithin xs = Each (λ p. IsWithin (ref_name p)) xs
 
   -- the unknown type itself is smaller than no solution makes it
   pub never : (n : Name) → shape_at s n ≡ Some (unknown_shape number) → n ≢ handle → IsWithin n → IsNever s old number handle

@@ -7,15 +7,14 @@ use Rattle.ra_ap_intern.specs.Handle.{ref_name}
 use Rattle.ra_ap_intern.specs.Name.{Name}
 use Rattle.ra_ap_intern.specs.State.{State}
 use Rattle.ra_ap_intern.specs.Tree.{no_more}
-use Rattle.types.specs.Tree.{Tree, unknowns}
+use Rattle.types.specs.Tree.{Tree, unknowns, Occurs}
 use Rattle.types.specs.Types.{Kind, unknown, shape_at, unknown_shape}
-use Rattle.types.specs.Unifying.{placed, replaced, StandsFor, Agree, IsNoUnknown, IsPrincipal, two}
+use Rattle.types.specs.Unifying.{placed, replaced, StandsFor, Agree, IsNoUnknown, IsOpen, IsPrincipal, two}
 use Rattle.types.specs.declared.unknowns.Unknowns.{Unknowns}
 use Rattle.types.specs.declared.value.TypeNode.{TypeNode}
-use Rattle.types.proofs.Occurring.{AreWithin, within_popped}
+use Rattle.types.proofs.Occurring.{AreWithin, IsWithin}
 use Rattle.types.proofs.Pairs.{Handle, make, size, first_less, second_less, out}
-use Rattle.types.proofs.Sets.{Inserted}
-use Rattle.types.proofs.Solving.{Occurs}
+use Rattle.types.proofs.Sets.{Inserted, each_one, each_popped}
 use Rattle.types.proofs.Trees.{leaf_or_two, leaf_tree}
 use Rattle.types.proofs.Unifying.{StillOpen, unknown_is}
 
@@ -174,6 +173,18 @@ abbrev pub Walked : (s : State TypeNode) (old : Unknowns) (number : ℕ) (handle
 Walked s old number handle u todo met = StillOpen s old number u × AreWithin s old number handle todo
     × ((v : ℕ → Tree) → IsPrincipal s old v → IsSearched s v number handle todo met)
 
+-- nothing was met yet
+pub walked_begun : (s : State TypeNode) (old : Unknowns) (number : ℕ) (handle : Handle) → IsOpen old number
+    → Walked s old number (ref_name handle) old (handle ∷ []) []
+walked_begun s old number handle nothing = (
+  record { solved = λ v. (λ h. h, λ h. h); open_here = nothing; free = λ n h. h },
+  each_one (λ (p : Handle). IsWithin s old number (ref_name handle) (ref_name p)) handle (inl refl),
+  λ v principal. record {
+    whole = inl (handle, Contains-push [] handle, refl);
+    each = λ n in'. absurd (omega (arith, in'.1.1));
+  },
+)
+
 -- a part that was met, or lacks it, is passed over
 pub walked_past : (s : State TypeNode) (old : Unknowns) (number : ℕ) (handle : Name) (u w : Unknowns)
     (all rest met : List Handle) (p : Handle) → all ≡ rest ++ p ∷ [] → Walked s old number handle u all met
@@ -182,6 +193,6 @@ pub walked_past : (s : State TypeNode) (old : Unknowns) (number : ℕ) (handle :
     → Walked s old number handle w rest met
 walked_past s old number handle u w all rest met p last before still here = (
   still,
-  (within_popped s old number handle all rest p last before.1).0,
+  (each_popped (λ (q : Handle). IsWithin s old number handle (ref_name q)) all rest p last before.1).0,
   λ v principal. search_passed s v number handle all rest met p last (before.2 v principal) (here v principal),
 )

@@ -1,29 +1,16 @@
 -- Solutions that leave as it is what nothing is known of.
-use Rattle.std.proofs.Common.{◌≡◌, ◌≢◌, ◌⊎◌, inl, inr, ℕ, Bool, true, false, Some, refl, sym, ap, ◌∙◌}
+use Rattle.std.proofs.Common.{◌≡◌, ◌≢◌, inl, inr, ℕ, Bool, true, false, Some, refl, sym, ap, ◌∙◌}
 use Rattle.std.proofs.lemmas.Bool.{eq-eqb, ne_eqb}
 use Rattle.std.proofs.Math.Dec.{eqb}
 use Rattle.ra_ap_intern.specs.Name.{Name}
 use Rattle.ra_ap_intern.specs.State.{State}
 use Rattle.ra_ap_intern.specs.Tree.{Trees, tree, no_more, one_more}
-use Rattle.types.specs.Tree.{Tree, unknowns}
+use Rattle.types.specs.Tree.{Tree, unknowns, Occurs, OccursAmong}
 use Rattle.types.specs.Types.{Kind, unknown, shape_at}
 use Rattle.types.specs.Unifying.{replaced, all_replaced, Solves, Agree, Binds, HasTree, IsFree, IsOpen, IsPrincipal, IsSolvable, two}
 use Rattle.types.specs.declared.unknowns.Unknowns.{Unknowns}
 use Rattle.types.specs.declared.value.TypeNode.{TypeNode}
 use Rattle.types.proofs.Pairs.{out}
-
-abbrev pub IsNumber : ℕ → Kind → Type 0
-IsNumber k (unknown n) = n ≡ k
-IsNumber k kind = ⊥
-
--- an unknown type is a part of a tree
-abbrev mutual
-  pub Occurs : ℕ → Tree → Type 0
-  Occurs k (tree kind ts) = IsNumber k kind ⊎ OccursAmong k ts
-
-  pub OccursAmong : ℕ → Trees Kind → Type 0
-  OccursAmong k no_more = ⊥
-  OccursAmong k (one_more t ts) = Occurs k t ⊎ OccursAmong k ts
 
 abbrev put_if : Bool → Tree → ℕ → Tree
 put_if true t n = t

@@ -1,20 +1,23 @@
 -- Unification under way.
-use Rattle.std.proofs.Common.{◌≡◌, ◌↔◌, ◌⊎◌, inl, inr, ℕ, Bool, true, false, ◌&&◌, List, [], ◌∷◌, ◌++◌, Contains, refl, sym, ap, subst, ◌∙◌, arith}
+use Rattle.std.proofs.Common.{◌≡◌, ◌↔◌, ◌⊎◌, inl, inr, ℕ, Bool, true, false, ◌&&◌, List, [], ◌∷◌, ◌++◌, Some, refl, sym, ap, subst, ◌∙◌}
 use Rattle.std.specs.Bool.{MatchBool}
 use Rattle.std.specs.List.{list_any}
 use Rattle.std.specs.List.Sorted.{IsPermutation}
-use Rattle.std.proofs.lemmas.List.Elements.{Contains-append_left, Contains-push, Contains-push_cases}
+use Rattle.std.proofs.lemmas.List.Elements.{Contains-push}
 use Rattle.std.proofs.lemmas.List.Folds.{Any-from_list_any}
 use Rattle.ra_ap_intern.specs.Handle.{ref_name}
 use Rattle.ra_ap_intern.specs.Name.{Name}
 use Rattle.ra_ap_intern.specs.State.{State}
+use Rattle.types.specs.Founded.{AreResolved, IsFounded, IsOver, IsResolved, known_types}
 use Rattle.types.specs.Tree.{Tree}
-use Rattle.types.specs.Unifying.{Solves, AreOne, Agree, HasTree, HaveNoUnifier, IsSolvable, Unifies, HaveParts}
+use Rattle.types.specs.Types.{shape_at}
+use Rattle.types.specs.Unifying.{Solves, AreOne, Agree, HasTree, HaveNoUnifier, IsSolvable, Unifies, HaveParts, two}
 use Rattle.types.specs.declared.unknowns.Unknowns.{Unknowns}
 use Rattle.types.specs.declared.value.TypeNode.{TypeNode}
+use Rattle.types.proofs.Founded.{IsSound, over_now, over_then}
 use Rattle.types.proofs.Pairs.{Handle, Both, Among, among_left, among_last, among_cases, among_none, parts_are_one, Linked, Covered, Justified, IsHeld, all_agree}
-use Rattle.types.proofs.Sets.{inserted}
-use Rattle.types.proofs.Solving.{parts_have_trees, agreeing_has_tree}
+use Rattle.types.proofs.Sets.{Each, each_one, each_popped, each_push, inserted}
+use Rattle.types.proofs.Solving.{agreeing_has_tree}
 use Rattle.types.proofs.Unifying.{agree_same, agree_then, agree_back}
 
 -- what was met, and one pair more
@@ -227,63 +230,86 @@ module _ (st : State TypeNode) (old : Unknowns) (left right : Name) where
     };
   }
 
--- ---- whether there is a solution at all
+-- ---- what else is carried on
 
--- from solvable ones on: all are, and each pair that is left has trees
+-- what holds of unknown types at first, and of the two types, holds of them on, and of each pair that
+-- is left
+abbrev pub Carried : (Unknowns → Type 0) → (Name → Type 0) → (old : Unknowns) → (left right : Name) → Unknowns
+    → List Both → Type 0
+Carried I Q old left right u xs = I old → Q left → Q right
+    → I u × Each (λ p. Q (ref_name p.0) × Q (ref_name p.1)) xs
+
+module _ (I : Unknowns → Type 0) (Q : Name → Type 0) (old : Unknowns) (left right : Name) where
+  abbrev AreBoth : Both → Type 0
+  AreBoth p = Q (ref_name p.0) × Q (ref_name p.1)
+
+  pub carried_begun : (p : Both) → ref_name p.0 ≡ left → ref_name p.1 ≡ right
+      → Carried I Q old left right old (p ∷ [])
+  carried_begun p first second start a b =
+      (start, each_one AreBoth p (subst Q (sym first) a, subst Q (sym second) b))
+
+  module _ (u : Unknowns) (all rest : List Both) (p : Both) (last : all ≡ rest ++ p ∷ [])
+      (before : Carried I Q old left right u all) where
+    pub carried_passed : Carried I Q old left right u rest
+    carried_passed start a b =
+        let so = before start a b in (so.0, (each_popped AreBoth all rest p last so.1).0)
+
+    -- and of what the last pair comes to
+    module _ (f g : Name) (first : I u → Q (ref_name p.0) → Q f) (second : I u → Q (ref_name p.1) → Q g) where
+      pub carried_last : I old → Q left → Q right → I u × Q f × Q g
+      carried_last start a b =
+          let so = before start a b in
+          let here = (each_popped AreBoth all rest p last so.1).1 in
+          (so.0, first so.0 here.0, second so.0 here.1)
+
+      pub carried_bound : (w : Unknowns) → (I u → Q f → Q g → I w) → Carried I Q old left right w rest
+      carried_bound w on start a b =
+          let here = carried_last start a b in
+          (on here.0 here.1 here.2, (carried_passed start a b).1)
+
+      pub carried_parted : (s : State TypeNode)
+          → ((kind : Bool) (n x y : Name) → shape_at s n ≡ Some (two kind x y) → Q n → Q x × Q y) → (q r : Both)
+          → HaveParts s f g (ref_name r.0) (ref_name q.0) (ref_name r.1) (ref_name q.1)
+          → Carried I Q old left right u ((rest ++ q ∷ []) ++ r ∷ [])
+      carried_parted s parts q r are start a b =
+          let here = carried_last start a b in
+          let firsts = parts are.0 f (ref_name r.0) (ref_name q.0) are.1 here.1 in
+          let seconds = parts are.0 g (ref_name r.1) (ref_name q.1) are.2 here.2 in (
+            here.0,
+            each_push AreBoth (rest ++ q ∷ []) r
+                (each_push AreBoth rest q (carried_passed start a b).1 (firsts.1, seconds.1)) (firsts.0, seconds.0),
+          )
+
+-- that there is a solution, where each pair has trees
 abbrev pub Standing : State TypeNode → (old : Unknowns) → (left right : Name) → Unknowns → List Both → Type 0
-Standing s old left right u xs = HasTree s left → HasTree s right → IsSolvable s old
-    → IsSolvable s u × ((p : Both) → Contains xs p → HasTree s (ref_name p.0) × HasTree s (ref_name p.1))
+Standing s = Carried (IsSolvable s) (HasTree s)
 
-module _ (s : State TypeNode) (old : Unknowns) (left right : Name) where
-  pub standing_begun : (p : Both) → ref_name p.0 ≡ left → ref_name p.1 ≡ right → Standing s old left right old (p ∷ [])
-  standing_begun p first second a b solvable = (
-    solvable,
-    λ q in'. elim (Contains-push_cases [] p q in') [
-      | inl none ↦ absurd (omega (arith, none.1))
-      | inr same ↦ (
-        subst (HasTree s) (sym first ∙ ap (λ (r : Both). ref_name r.0) same) a,
-        subst (HasTree s) (sym second ∙ ap (λ (r : Both). ref_name r.1) same) b,
-      )
-    ],
-  )
+pub tree_agreed : (s : State TypeNode) (u : Unknowns) (n m : Name) → ((v : ℕ → Tree) → Solves s u v → Agree s v n m)
+    → IsSolvable s u → HasTree s n → HasTree s m
+tree_agreed s u n m agree solvable = agreeing_has_tree s solvable.0 n m (agree solvable.0 solvable.1.solves)
 
-  module _ (u : Unknowns) (all rest : List Both) (p : Both) (last : all ≡ rest ++ p ∷ []) (before : Standing s old left right u all) where
-    pub standing_passed : Standing s old left right u rest
-    standing_passed a b solvable =
-        let so = before a b solvable in
-        (so.0, λ q in'. so.1 q (subst (λ xs. Contains xs q) (sym last) (Contains-append_left rest (p ∷ []) q in')))
+-- that unknown types are founded, where each pair is over them
+abbrev pub Sound : State TypeNode → (old : Unknowns) → (left right : Name) → Unknowns → List Both → Type 0
+Sound s old = Carried (IsSound s old) (IsOver s (known_types old)) old
 
-    module _ (f g : Name) (first : (v : ℕ → Tree) → Solves s u v → Agree s v (ref_name p.0) f)
-        (second : (v : ℕ → Tree) → Solves s u v → Agree s v (ref_name p.1) g) where
-      have_trees : HasTree s left → HasTree s right → IsSolvable s old → HasTree s f × HasTree s g
-      have_trees a b solvable =
-          let so = before a b solvable in
-          let v = so.0.0 in
-          let trees = so.1 p (subst (λ xs. Contains xs p) (sym last) (Contains-push rest p)) in (
-            agreeing_has_tree s v (ref_name p.0) f (first v so.0.1.solves) trees.0,
-            agreeing_has_tree s v (ref_name p.1) g (second v so.0.1.solves) trees.1,
-          )
+pub over_resolved : (s : State TypeNode) (old u : Unknowns) (n m : Name)
+    → (IsFounded s (known_types u) → IsOver s (known_types u) n → IsOver s (known_types u) m)
+    → IsSound s old u → IsOver s (known_types old) n → IsOver s (known_types old) m
+over_resolved s old u n m on sound over =
+    over_then s old u sound m (on sound.0 (over_now s old u sound n over))
 
-      pub standing_bound : (w : Unknowns) → (HasTree s f → HasTree s g → IsSolvable s u → IsSolvable s w)
-          → Standing s old left right w rest
-      standing_bound w on a b solvable =
-          let so = standing_passed a b solvable in
-          let trees = have_trees a b solvable in
-          (on trees.0 trees.1 so.0, so.1)
-
-      pub standing_parted : (q r : Both) → HaveParts s f g (ref_name r.0) (ref_name q.0) (ref_name r.1) (ref_name q.1)
-          → Standing s old left right u ((rest ++ q ∷ []) ++ r ∷ [])
-      standing_parted q r parts a b solvable =
-          let so = standing_passed a b solvable in
-          let trees = have_trees a b solvable in
-          let firsts = parts_have_trees s parts.0 f (ref_name r.0) (ref_name q.0) parts.1 trees.0 in
-          let seconds = parts_have_trees s parts.0 g (ref_name r.1) (ref_name q.1) parts.2 trees.1 in (
-            so.0,
-            λ x in'. elim (Contains-push_cases (rest ++ q ∷ []) r x in') [
-              | inl earlier ↦ elim (Contains-push_cases rest q x earlier) [
-                | inl other ↦ so.1 x other
-                | inr same ↦ subst (λ (y : Both). HasTree s (ref_name y.0) × HasTree s (ref_name y.1)) same (firsts.1, seconds.1)
-              ]
-              | inr same ↦ subst (λ (y : Both). HasTree s (ref_name y.0) × HasTree s (ref_name y.1)) same (firsts.0, seconds.0)
-            ],
-          )
+-- two types that two come to
+pub both_resolved : (s : State TypeNode) (old u : Unknowns) (n m : Name)
+    → (IsFounded s (known_types u) → IsResolved s (known_types u) n)
+    → (IsFounded s (known_types u) → IsResolved s (known_types u) m)
+    → IsSound s old u → IsOver s (known_types old) n → IsOver s (known_types old) m
+    → AreResolved s (known_types u) n m
+both_resolved s old u n m left right sound a b = record {
+  over = record {
+    founded = sound.0;
+    first = over_now s old u sound n a;
+    second = over_now s old u sound m b;
+  };
+  first = left sound.0;
+  second = right sound.0;
+}

@@ -1,7 +1,8 @@
 -- What unknown types may be, and what is one then.
-use Rattle.std.proofs.Common.{◌≡◌, ◌↔◌, Result, Ok, Err, IfErr, ℕ, ◌<◌, suc, arith, length, List, [], ◌∷◌, ◌++◌, Some, slice_get, slice_set, zero, refl, sym, ap, subst, ◌∙◌, rules}
+use Rattle.std.proofs.Common.{◌≡◌, ◌↔◌, Result, Ok, Err, IfErr, ℕ, ◌<◌, suc, arith, length, get_or, List, [], ◌∷◌, ◌++◌, Some, slice_get, slice_set, zero, refl, sym, ap, subst, ◌∙◌, rules}
 use Rattle.std.specs.Option.{option_map}
 use Rattle.std.specs.Result.{IsErrAnd}
+use Rattle.std.proofs.lemmas.Option.{slice_get-get_or}
 use Rattle.std.specs.declared.alloc.AllocError.{AllocError}
 use Rattle.ra_ap_intern.specs.Handle.{ref_name}
 use Rattle.ra_ap_intern.specs.Name.{Name}
@@ -79,6 +80,10 @@ module _ (s : State TypeNode) (v : ℕ → Tree) where
       → Agree s v a (ref_name handle)
   agree_known u solves number a handle at is =
       agree_at a (ref_name handle) (v number) (unknown_stands a number at) (solves number handle is)
+
+-- what is lent is what is listed
+pub lent : (xs : List Known) (n : ℕ) (k : Known) → n < length xs → k ≡ get_or xs n k → slice_get xs n ≡ Some k
+lent xs n k lt is = slice_get-get_or xs n k lt ∙ ap Some (sym is)
 
 -- a level in place of another, or of what is known
 pub nothing_set : (l : ℕ) (xs : List Known) (i n x : ℕ) → slice_get xs n ≡ Some (known.Nothing x)

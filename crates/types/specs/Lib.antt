@@ -1,4 +1,5 @@
 pub mod Environment
+pub mod Founded
 pub mod Growing
 pub mod Tree
 pub mod Types

@@ -1,5 +1,6 @@
 -- What unification comes to.
-use Rattle.std.specs.Prelude.{◌≡◌, ◌≢◌, ◌↔◌, ⊤, ℕ, Bool, true, false, [], ◌∷◌, Some, slice_get}
+use Rattle.std.specs.Prelude.{◌≡◌, ◌≢◌, ◌↔◌, ◌⊎◌, ⊤, ℕ, Bool, true, false, [], ◌∷◌, Some, slice_get}
+use Rattle.std.specs.declared.alloc.AllocError.{AllocError}
 use Rattle.ra_ap_intern.specs.Handle.{ref_name}
 use Rattle.ra_ap_intern.specs.Name.{Name}
 use Rattle.ra_ap_intern.specs.State.{State}
@@ -108,6 +109,10 @@ IsConflict error.TooLarge = ⊥
 IsConflict error.NoOperand = ⊥
 IsConflict (error.OutOfMemory why) = ⊥
 IsConflict (error.Refused why) = ⊥
+
+-- an error that says that, or that there was no memory
+abbrev pub IsRefusal : TypeError → Type 0
+IsRefusal e = IsConflict e ⊎ ((why : AllocError) × (e ≡ error.OutOfMemory why))
 
 -- a solution that leaves each unknown type as it is of which nothing is known
 pub record IsPrincipal (s : State TypeNode) (u : Unknowns) (v : ℕ → Tree) : Type 0 where

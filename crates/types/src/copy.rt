@@ -3,11 +3,14 @@ ghost use Rattle.ra_ap_intern.specs.Interning.{ReadsOn};
 
 use crate::error::TypeError;
 use crate::store::Types;
-use crate::unify::{MOST_STEPS, parts_of};
+use crate::unify::parts_of;
 use crate::unknowns::Unknowns;
 use crate::value::{TypeNode, TypeRef};
 use std::alloc::Global;
 use std::collections::HashMap;
+
+/// How many steps the copy of a type may take.
+const MOST_STEPS: u64 = 10_000_000;
 
 /// What becomes of the leaves.
 #[derive(Clone, Copy)]

@@ -21,7 +21,8 @@ pub enum TypeError {
     /// When the first type, which isn't known, would be a part of the second, which it is equal to.
     #[error("infinite type")]
     Infinite(TypeRef, TypeRef),
-    /// When two types, or the copy of one, take more than `MOST_STEPS` steps.
+    /// When the copy of a type takes more than `MOST_STEPS` steps; or when an unknown type was never
+    /// added, or is known to be itself for ever, as inference makes none.
     #[error("too large a type")]
     TooLarge,
     /// When the steps are those of no expression, as the parser makes none.

@@ -1,28 +1,26 @@
 //! Unification: what makes two types equal.
-ghost use Rattle.std.specs.Prelude.{◌≡◌, ◌≢◌, ℕ, Bool, Some, IfErr, IfNone, IfOk, IfSome, IsNone, IsTrue, OnOk};
+ghost use Rattle.std.specs.Prelude.{◌≡◌, ◌≢◌, Bool, Some, IfErr, IfNone, IfOk, IfSome, IsNone, IsTrue, OnOk};
 ghost use Rattle.std.specs.Bool.{OnFalse, OnTrue};
 ghost use Rattle.ra_ap_intern.specs.Handle.{ref_name};
 ghost use Rattle.ra_ap_intern.specs.Name.{Name as TypeName};
+ghost use Rattle.types.specs.Founded.{AreOver, AreResolved, StaysFounded, known_types};
 ghost use Rattle.types.specs.Types.{shape_at, unknown_shape};
-ghost use Rattle.types.specs.Unifying.{AreApart, Binds, HasTree, HaveNoUnifier, HaveParts, IsConflict, IsNever, IsNoUnknown, IsSolvable, Unifies, two};
+ghost use Rattle.types.specs.Unifying.{AreApart, Binds, HasTree, HaveNoUnifier, HaveParts, IsConflict, IsNever, IsNoUnknown, IsRefusal, IsSolvable, Unifies, two};
 
 use crate::error::TypeError;
 use crate::laws::types_are_their_shapes;
 use crate::store::Types;
-use crate::unknowns::Unknowns;
+use crate::unknowns::{Unknowns, number_of};
 use crate::value::{TypeNode, TypeRef};
 use ra_ap_intern::{FixedState, laws};
 use std::alloc::Global;
 use std::collections::HashSet;
 use std::hash::BuildHasher;
 
-/// How many steps one type may take.
-pub const MOST_STEPS: u64 = 10_000_000;
-
 /// Makes two types equal by what it makes of the unknown types in them, and of nothing more: a most
-/// general unifier. Refused: `Clash` or `Infinite` where there is none, `TooLarge` after `MOST_STEPS`
-/// steps, `OutOfMemory`; some unknown types may have become others then. Pairs that were met are not
-/// looked into again.
+/// general unifier. Refused: `Clash` or `Infinite` where there is none, `OutOfMemory`, and `TooLarge`
+/// only where an unknown type was never added or is known to be itself for ever; some unknown types
+/// may have become others then. Pairs that were met are not looked into again.
 pub fn unify(
     alloc: Global,
     types: &Types,
@@ -40,15 +38,18 @@ pub fn unify(
     // Two types that are said to clash, or to be infinite, are one tree by no choice.
     ensures refused { IfErr result (λ e. IsConflict e →
         HaveNoUnifier types.now unknowns.old (ref_name left) (ref_name right)) }
+    // Where unknown types are founded, nothing is refused but for that or for want of memory.
+    ensures why { AreOver types.now (known_types unknowns.old) (ref_name left) (ref_name right) →
+        IfErr result IsRefusal }
+    ensures founded { OnOk result (
+        AreOver types.now (known_types unknowns.old) (ref_name left) (ref_name right) →
+        StaysFounded types.now (known_types unknowns.old) (known_types unknowns.new)) }
 {
     laws::references_are_names::<TypeNode>();
     let mut open = Vec::new(alloc);
     let mut met = HashSet::new(alloc);
     open.push((left, right))?;
-    for _ in 0..MOST_STEPS {
-        let Some((first, second)) = open.pop() else {
-            return Ok(());
-        };
+    while let Some((first, second)) = open.pop() {
         let first = unknowns.resolve(types, first);
         let second = unknowns.resolve(types, second);
         if first == second || !met.insert((first, second))? {
@@ -63,7 +64,7 @@ pub fn unify(
         open.push((b, d))?;
         open.push((a, c))?;
     }
-    Err(TypeError::TooLarge)
+    Ok(())
 }
 
 // The parts of two types of one kind. Others are no one type, where both are known.
@@ -107,18 +108,6 @@ pub fn parts_of(types: &Types, handle: TypeRef) -> Option<(bool, TypeRef, TypeRe
     }
 }
 
-// The number of an unknown type.
-fn number_of(types: &Types, handle: TypeRef) -> Option<u64>
-    ensures number { IfSome result (λ number.
-        shape_at types.now (ref_name handle) ≡ Some (unknown_shape number)) }
-    ensures none { IfNone result (IsNoUnknown types.now (ref_name handle)) }
-{
-    match types.get(handle)? {
-        TypeNode::Unknown(number) => Some(number),
-        _ => None,
-    }
-}
-
 // Where one of two types is unknown, it becomes the other. Whether one is.
 fn bind_one(
     alloc: Global,
@@ -138,6 +127,11 @@ fn bind_one(
         × IsNoUnknown types.now (ref_name second))) }
     ensures refused { IfErr result (λ e. IsConflict e →
         HaveNoUnifier types.now unknowns.old (ref_name first) (ref_name second)) }
+    ensures why { AreResolved types.now (known_types unknowns.old) (ref_name first)
+        (ref_name second) → IfErr result IsRefusal }
+    ensures founded { OnOk result (
+        AreResolved types.now (known_types unknowns.old) (ref_name first) (ref_name second) →
+        StaysFounded types.now (known_types unknowns.old) (known_types unknowns.new)) }
 {
     let number = number_of(types, first);
     if let Some(other) = number_of(types, second) {
@@ -187,24 +181,25 @@ fn bind(
         IsSolvable types.now unknowns.old → IsSolvable types.now unknowns.new) }
     ensures refused { IfErr result (λ e. IsConflict e →
         IsNever types.now unknowns.old unknown.0 (ref_name handle)) }
+    ensures why { AreResolved types.now (known_types unknowns.old) (ref_name unknown.1)
+        (ref_name handle) → IfErr result IsRefusal }
+    ensures founded { OnOk result (
+        AreResolved types.now (known_types unknowns.old) (ref_name unknown.1) (ref_name handle) →
+        StaysFounded types.now (known_types unknowns.old) (known_types unknowns.new)) }
 {
     laws::references_are_names::<TypeNode>();
     // What these say is used here: that no two types are equal, and what types are.
     types_are_their_shapes();
     let _number = types.number();
     let (number, unknown) = unknown;
-    // Resolved types are never known ones, so there is a level, and each part that is met is open.
+    // Where unknown types are founded there is a level, and each part that is met is open.
     let Some(level) = unknowns.level(number) else {
         return Err(TypeError::TooLarge);
     };
     let mut open = Vec::new(alloc);
     let mut met = HashSet::new(alloc);
     open.push(handle)?;
-    for _ in 0..MOST_STEPS {
-        let Some(part) = open.pop() else {
-            unknowns.bind(number, handle);
-            return Ok(());
-        };
+    while let Some(part) = open.pop() {
         if part == unknown {
             return Err(TypeError::Infinite(unknown, handle));
         }
@@ -223,5 +218,6 @@ fn bind(
         open.push(unknowns.resolve(types, second))?;
         open.push(unknowns.resolve(types, first))?;
     }
-    Err(TypeError::TooLarge)
+    unknowns.bind(number, handle);
+    Ok(())
 }

@@ -1,5 +1,6 @@
 use Rattle.std.proofs.Common.{refl, rules}
 use Rattle.types.specs.Tree.{unknowns}
+use Rattle.types.proofs.Founded.{founded_none}
 use Rattle.types.proofs.unknowns.Unknowns.new.Goals as goal
 
 -- each unknown type is itself
@@ -11,3 +12,6 @@ returns-clause-solvable c s = (
     free = λ number free. refl;
   },
 )
+
+pub returns-clause-founded : goal.returns-clause-founded
+returns-clause-founded c s = founded_none s _ (search rules)

@@ -1,6 +1,6 @@
 use Rattle.std.proofs.Common.{◌∙◌, sym}
 use Rattle.types.proofs.Unifying.{no_unknown_at}
-use Rattle.types.proofs.unify.number_of.Goals as goal
+use Rattle.types.proofs.unknowns.number_of.Goals as goal
 
 pub returns-in_default-clause-none : goal.returns-in_default-clause-none
 returns-in_default-clause-none c =
