@@ -21,7 +21,7 @@ pub enum TypeError {
     /// When the first type, which isn't known, would be a part of the second, which it is equal to.
     #[error("infinite type")]
     Infinite(TypeRef, TypeRef),
-    /// When the copy of a type takes more than `MOST_STEPS` steps; or when an unknown type was never
+    /// When the copy of a type takes more than 10,000,000 steps; or when an unknown type was never
     /// added, or is known to be itself for ever, as inference makes none.
     #[error("too large a type")]
     TooLarge,
