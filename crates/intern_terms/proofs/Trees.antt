@@ -14,7 +14,7 @@ use Rattle.intern_terms.specs.Store.{arguments, same_node, IsBuilt, IsTerms}
 use Rattle.intern_terms.specs.Tree.{Tree, Trees, tree, no_more, one_more, count, joined, head_name, UnfoldsTo, AllUnfold}
 use Rattle.intern_terms.specs.declared.handle.TermRef.{TermRef}
 use Rattle.intern_terms.proofs.Names.{same_node-Decides, same_node_laws}
-use Rattle.ra_ap_intern.proofs.CallerLemmas.{one_tree as tree_once, one_name as name_once, one_list as list_once, names_tell_trees as tell_trees, has_tree as tree_there, tree_on as stays_on, forest_on as stay_on, tree_interned as stays_interned, tree_made, forest_first as first_of, forest_none as none_of, reads-recounted}
+use Rattle.ra_ap_intern.proofs.CallerLemmas.{one_tree as tree_once, one_name as name_once, one_list as list_once, names_tell_trees as tell_trees, has_tree as tree_there, tree_on as stays_on, forest_on as stay_on, tree_interned as stays_interned, tree_made, forest_first as first_of, forest_none as none_of, forest_one as one_of, forest_two as two_of, reads-recounted}
 
 module _ (s : State (Sliced Symbol TermRef)) where
   -- a name has one tree
@@ -30,6 +30,17 @@ module _ (s : State (Sliced Symbol TermRef)) where
   -- where there is no tree there is no name
   pub forest_none : (names : List Name) → AllUnfold s names no_more → names ≡ []
   forest_none = none_of arguments head_name s
+
+  -- the name of one tree, and those of two
+  pub forest_one : (t : Tree) (names : List Name) → AllUnfold s names (one_more t no_more)
+      → (name : Name) × (names ≡ name ∷ []) × UnfoldsTo s name t
+  forest_one = one_of arguments head_name s
+
+  pub forest_two : (t u : Tree) (names : List Name)
+      → AllUnfold s names (one_more t (one_more u no_more))
+      → (name : Name) × (other : Name) × (names ≡ name ∷ other ∷ []) × UnfoldsTo s name t
+      × UnfoldsTo s other u
+  forest_two = two_of arguments head_name s
 
 -- what a name reads is what its tree is made of
 module _ (s : State (Sliced Symbol TermRef)) (name : Name) where

@@ -13,6 +13,10 @@ use Rattle.ra_ap_intern.specs.Outcome.{OwesBack, Becomes}
 use Rattle.ra_ap_intern.specs.State.{State, IsState, name_in, reads, counts, counted_up, due, zero_count, added, or_added, interned, interned_name, interned_counted, released, birth_of, name_of_value}
 use Rattle.ra_ap_intern.proofs.CallerReads.{some_read, read_at, read_below, read_once, reads-added, counts_read, counts-recounted, due_counted, counted_up_reads, interned_reads_given, interned_reads_on, interned_counted_reads_on}
 
+-- what is so exactly if another thing is, and this exactly if a third is
+pub iff_trans : {P Q R : Type 0} → (P ↔ Q) → (Q ↔ R) → P ↔ R
+iff_trans first second = (λ p. second.0 (first.0 p), λ r. first.1 (second.1 r))
+
 same_members : {X : Type 0} (a b : Option X) → ((x : X) → a ≡ Some x → b ≡ Some x)
     → ((x : X) → b ≡ Some x → a ≡ Some x) → a ≡ b
 same_members a b there back = grind (arith, there, back)
@@ -30,6 +34,17 @@ module _ {V : Type 0} (eq : V → V → Bool) where
   interned_counted_reads laws s v =
       let r = interned_reads eq laws s v in
       (r.0, counted_up_reads (interned eq s v).state (interned eq s v).birth _ ∙ r.1, r.2)
+
+  -- the same of a call with these clauses
+  pub interned_equal : IsEquivalence eq → (s t : State V) (v : V) (name : Name)
+      → name ≡ interned_name eq s v → t ≡ (interned eq s v).state → ReadsEqual t name v
+  interned_equal laws s t v name named now =
+      let r = interned_reads eq laws s v in (r.0, (λ i. reads (now i) (named i)) ∙ r.1, r.2)
+
+  pub interned_counted_equal : IsEquivalence eq → (s t : State V) (v : V) (name : Name)
+      → name ≡ interned_name eq s v → t ≡ interned_counted eq s v → ReadsEqual t name v
+  interned_counted_equal laws s t v name named now =
+      let r = interned_counted_reads laws s v in (r.0, (λ i. reads (now i) (named i)) ∙ r.1, r.2)
 
   -- an entry is read
   pub interned_is_read : IsEquivalence eq → (s : State V) (v : V)

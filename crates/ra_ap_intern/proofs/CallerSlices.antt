@@ -1,9 +1,11 @@
 -- Equal slices: equal headers, and items that are equal one by one.
-use Rattle.std.proofs.Common.{◌≡◌, ◌↔◌, Bool, true, ◌&&◌, List, [], ◌∷◌, length, map, refl, arith}
+use Rattle.std.proofs.Common.{◌≡◌, ◌↔◌, ℕ, Bool, true, ◌&&◌, List, [], ◌∷◌, length, map, map-id, Option, Some, None, refl, sym, ap, ◌∙◌, arith}
 use Rattle.std.proofs.lemmas.Bool.{and_parts, and_from}
 use Rattle.std.specs.Cmp.{IsEquivalence}
+use Rattle.std.specs.Option.{option_map}
 use Rattle.std.specs.Cmp.Lexicographic.{pointwise, as_long, lists_equiv}
 use Rattle.ra_ap_intern.specs.Sliced.{Sliced, sliced_eq}
+use Rattle.ra_ap_intern.specs.Slices.{sized}
 
 -- lists are equal one by one exactly if they are seen as the same, where their items are
 pub pointwise_views : {A X : Type 0} (eq : A → A → Bool) (view : A → X)
@@ -52,3 +54,22 @@ module _ {H I : Type 0} (h : H → H → Bool) (i : I → I → Bool) where
         λ e. let both = sliced_parts v w e in (first.0 both.0, rest.0 both.1),
         λ same. and_from _ _ (first.1 same.0) (rest.1 same.1),
       )
+
+  -- and exactly if they are the same, where it is so of their headers and of their items
+  pub sliced_same : ((a b : H) → (h a b ≡ true) ↔ (a ≡ b))
+      → ((a b : I) → (i a b ≡ true) ↔ (a ≡ b)) → (v w : Sliced H I)
+      → (sliced_eq h i v w ≡ true) ↔ (v ≡ w)
+  sliced_same headers items v w =
+      let parts = sliced_views (λ x. x) (λ x. x) headers items v w in (
+        λ e.
+            let both = parts.0 e in
+            let rest : v.items ≡ w.items = sym (map-id v.items) ∙ both.1 ∙ map-id w.items in
+            λ k. record { header = both.0 k; items = rest k },
+        λ same. parts.1 (ap (λ s. s.header) same, ap (λ s. map (λ x. x) s.items) same),
+      )
+
+-- what a read shows of a slice, beside how many items it has, is what is kept
+pub slice_shown : {H I : Type 0} (shown : Option (Sliced H I × ℕ)) (kept : Option (Sliced H I))
+    → shown ≡ option_map sized kept → option_map (λ s. s.0) shown ≡ kept
+slice_shown shown (Some v) is = ap (option_map (λ s. s.0)) is
+slice_shown shown None is = ap (option_map (λ s. s.0)) is

@@ -26,6 +26,15 @@ pub has_later : (name other : Name) (names : List Name) → has names other ≡ 
     → has (name ∷ names) other ≡ true
 has_later name other names is = or_right _ _ is
 
+-- values that are equal exactly if a pair is seen of them are so exactly if both its parts are
+pub parts_alike : {V X Y : Type 0} (eq : V → V → Bool) (shape : V → X × Y)
+    → ((v w : V) → (eq v w ≡ true) ↔ (shape v ≡ shape w)) → (v w : V)
+    → (eq v w ≡ true) ↔ (((shape v).0 ≡ (shape w).0) × ((shape v).1 ≡ (shape w).1))
+parts_alike eq shape alike v w = (
+  λ is. let same = (alike v w).0 is in (ap (λ x. x.0) same, ap (λ x. x.1) same),
+  λ is. (alike v w).1 (λ k. (is.0 k, is.1 k)),
+)
+
 module _ {V X : Type 0} (children : V → List Name) (see : V → X) where
   module _ (s : State V) where
     -- a name has one tree
@@ -62,6 +71,28 @@ module _ {V X : Type 0} (children : V → List Name) (see : V → X) where
     pub forest_none : (names : List Name) → AllUnfold children see s names no_more → names ≡ []
     forest_none [] all = refl
     forest_none (a ∷ names) all = absurd all
+
+    -- the name of one tree, and those of two
+    pub forest_one : (t : Tree X) (names : List Name)
+        → AllUnfold children see s names (one_more t no_more)
+        → (name : Name) × (names ≡ name ∷ []) × UnfoldsTo children see s name t
+    forest_one t names all =
+        let first = forest_first t no_more names all in
+        (first.0, first.2 ∙ ap (λ rest. first.0 ∷ rest) (forest_none first.1 first.4), first.3)
+
+    pub forest_two : (t u : Tree X) (names : List Name)
+        → AllUnfold children see s names (one_more t (one_more u no_more))
+        → (name : Name) × (other : Name) × (names ≡ name ∷ other ∷ [])
+        × UnfoldsTo children see s name t × UnfoldsTo children see s other u
+    forest_two t u names all =
+        let first = forest_first t (one_more u no_more) names all in
+        let second = forest_one u first.1 first.4 in (
+          first.0,
+          second.0,
+          first.2 ∙ ap (λ rest. first.0 ∷ rest) second.1,
+          first.3,
+          second.2,
+        )
 
   -- a tree has one name, where values are equal exactly if the same is seen of them and they have
   -- the same children

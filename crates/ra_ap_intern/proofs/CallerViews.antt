@@ -14,14 +14,14 @@ use Rattle.ra_ap_intern.specs.Names.{has}
 use Rattle.ra_ap_intern.specs.Outcome.{Becomes, MayWant}
 use Rattle.ra_ap_intern.specs.Reach.{Entry, IsReachedSet, Reached, is_entry, starts_with}
 use Rattle.ra_ap_intern.specs.Refusal.{Refusal}
-use Rattle.ra_ap_intern.specs.State.{State, IsState, reads, counts, is_new, interned, interned_name, name_of_value, due_interning, any_count}
+use Rattle.ra_ap_intern.specs.State.{State, IsState, reads, counts, is_new, interned, interned_name, interned_counted, name_of_value, due_interning, any_count}
 use Rattle.ra_ap_intern.specs.declared.gc.Collected.{Collected}
 use Rattle.ra_ap_intern.specs.declared.kind.Values.{Values}
 use Rattle.ra_ap_intern.specs.declared.storage.Ref.{Ref}
 use Rattle.intern_store.proofs.Named.{names_same, same_names}
 use Rattle.intern_store.proofs.Reading.{interned_reads}
 use Rattle.ra_ap_intern.proofs.CallerCollections.{kept_reads, kept_counts, root_reads, child_kept, children_read, entry_read}
-use Rattle.ra_ap_intern.proofs.CallerInterning.{found_reads, none_found, read_found}
+use Rattle.ra_ap_intern.proofs.CallerInterning.{ReadsEqual, interned_equal, interned_counted_equal, found_reads, none_found, read_found}
 use Rattle.ra_ap_intern.proofs.CallerReads.{interned_reads_on, read_once}
 
 -- two names are those of two others
@@ -135,12 +135,22 @@ module _ {V : Type 0} (eq : V → V → Bool) (alike : (v w : V) → (eq v w ≡
   identity_equivalence : IsEquivalence eq
   identity_equivalence = viewed_equivalence eq (λ v. v) alike
 
+  -- an equal value that is read is this one
+  pub equal_itself : (s : State V) (name : Name) (v : V) → ReadsEqual eq s name v
+      → reads s name ≡ Some v
+  equal_itself s name v r = r.1 ∙ ap Some (sym ((alike v r.0).0 r.2))
+
   -- what is interned is read as it is
   pub interned_itself : (s t : State V) (v : V) (name : Name) → name ≡ interned_name eq s v
       → t ≡ (interned eq s v).state → reads t name ≡ Some v
   interned_itself s t v name named now =
-      let r = interned_reads eq identity_equivalence s v in
-      (λ i. reads (now i) (named i)) ∙ r.1 ∙ ap Some (sym ((alike v r.0).0 r.2))
+      equal_itself t name v (interned_equal eq identity_equivalence s t v name named now)
+
+  -- and so in counted mode
+  pub interned_counted_itself : (s t : State V) (v : V) (name : Name) → name ≡ interned_name eq s v
+      → t ≡ interned_counted eq s v → reads t name ≡ Some v
+  interned_counted_itself s t v name named now =
+      equal_itself t name v (interned_counted_equal eq identity_equivalence s t v name named now)
 
   -- the look-up of what is read answers its name
   pub found_itself : (s : State V) → IsState eq s → (v : V) (name : Name) → reads s name ≡ Some v
@@ -151,8 +161,7 @@ module _ {V : Type 0} (eq : V → V → Bool) (alike : (v w : V) → (eq v w ≡
   -- and what it answers reads as it is
   pub reads_itself : (s : State V) (v : V) (name : Name) → name_of_value eq s v ≡ Some name
       → reads s name ≡ Some v
-  reads_itself s v name found =
-      let r = found_reads eq s v name found in r.1 ∙ ap Some (sym ((alike v r.0).0 r.2))
+  reads_itself s v name found = equal_itself s name v (found_reads eq s v name found)
 
 -- an equality that tells what is seen of two, by a test that tells that too, is the test
 pub equality_tested : {H N : Type 0} (eq : H → H → Bool) (test : N → N → Bool) (view : H → N)

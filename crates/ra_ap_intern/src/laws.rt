@@ -143,6 +143,23 @@ pub fn references_are_names<T>()
     handles_are_names::<Values<T>>();
 }
 
+/// Handles that read values of one storage are equal exactly if the values are.
+pub fn handles_tell_values<T: Eq>()
+    ensures owned { (s : State T) → IsState T.eq s → (a b : Handle (ValueKind T)) (v w : T) →
+        reads s (name_of a) ≡ Some v → reads s (name_of b) ≡ Some w →
+        (⟦<Interned<T> as PartialEq>⟧.eq a b ≡ true) ↔ (T.eq v w ≡ true) }
+    ensures reference { (s : State T) → IsState T.eq s →
+        (a b : Reference (ValueKind T)) (v w : T) →
+        reads s (ref_name a) ≡ Some v → reads s (ref_name b) ≡ Some w →
+        (⟦<InternedRef<T> as PartialEq>⟧.eq a b ≡ true) ↔ (T.eq v w ≡ true) }
+    ensures owed { (s : State T) → IsState T.eq s → (a b : ToRelease (ValueKind T)) (v w : T) →
+        reads s (name_of (handle_of a)) ≡ Some v → reads s (name_of (handle_of b)) ≡ Some w →
+        (⟦<Owed<Values<T>> as PartialEq>⟧.eq a b ≡ true) ↔ (T.eq v w ≡ true) }
+{
+    handles_are_names::<Values<T>>();
+    names_tell_values::<T>();
+}
+
 /// Names of entries of one storage of slices are equal exactly if the headers that they read are
 /// equal, and the items one by one.
 pub fn names_tell_slices<T: SliceInternable>()
@@ -152,6 +169,29 @@ pub fn names_tell_slices<T: SliceInternable>()
         reads s n ≡ Some v → reads s m ≡ Some w → (n ≡ m) ↔ (eq v w ≡ true) }
 {
     names_tell_values::<SliceValue<T::Header, T::SliceType>>();
+}
+
+/// Handles that read slices of one storage, of either layout, are equal exactly if the headers are,
+/// and the items one by one.
+pub fn handles_tell_slices<T: SliceInternable, L>()
+    ensures owned { let eq = sliced_eq T.Header.eq T.SliceType.eq in
+        (s : State (Sliced T.Header T.SliceType)) → IsState eq s →
+        (a b : Handle (SliceKind T L)) (v w : Sliced T.Header T.SliceType) →
+        reads s (name_of a) ≡ Some v → reads s (name_of b) ≡ Some w →
+        (⟦<InternedSlice<T, L> as PartialEq>⟧.eq a b ≡ true) ↔ (eq v w ≡ true) }
+    ensures reference { let eq = sliced_eq T.Header.eq T.SliceType.eq in
+        (s : State (Sliced T.Header T.SliceType)) → IsState eq s →
+        (a b : Reference (SliceKind T L)) (v w : Sliced T.Header T.SliceType) →
+        reads s (ref_name a) ≡ Some v → reads s (ref_name b) ≡ Some w →
+        (⟦<InternedSliceRef<T, L> as PartialEq>⟧.eq a b ≡ true) ↔ (eq v w ≡ true) }
+    ensures owed { let eq = sliced_eq T.Header.eq T.SliceType.eq in
+        (s : State (Sliced T.Header T.SliceType)) → IsState eq s →
+        (a b : ToRelease (SliceKind T L)) (v w : Sliced T.Header T.SliceType) →
+        reads s (name_of (handle_of a)) ≡ Some v → reads s (name_of (handle_of b)) ≡ Some w →
+        (⟦<Owed<Slices<T, L>> as PartialEq>⟧.eq a b ≡ true) ↔ (eq v w ≡ true) }
+{
+    handles_are_names::<Slices<T, L>>();
+    names_tell_slices::<T>();
 }
 
 /// The name that interning a header with items gives reads an equal one.
@@ -272,6 +312,28 @@ pub fn owed_symbols_are_what_they_name()
     ensures hashed { (a b : OwedSym) → symbol_name (symbol_of a) ≡ symbol_name (symbol_of b) →
         ⟦<OwedSymbol as Hash>⟧.hash_input a ≡ ⟦<OwedSymbol as Hash>⟧.hash_input b }
 {}
+
+/// Symbols, references to them, and symbols that must be released, that read texts of one table, are
+/// equal exactly if the texts are.
+pub fn handles_tell_texts()
+    ensures symbols { (s : State (List ℕ)) → IsState bytes_eq s → IsTable s →
+        (a b : Sym) (t u : List ℕ) →
+        text_of s (symbol_name a) ≡ Some t → text_of s (symbol_name b) ≡ Some u →
+        (⟦<Symbol as PartialEq>⟧.eq a b ≡ true) ↔ (t ≡ u) }
+    ensures references { (s : State (List ℕ)) → IsState bytes_eq s → IsTable s →
+        (a b : SymRef) (t u : List ℕ) →
+        text_of s (symbol_ref_name a) ≡ Some t → text_of s (symbol_ref_name b) ≡ Some u →
+        (⟦<SymbolRef as PartialEq>⟧.eq a b ≡ true) ↔ (t ≡ u) }
+    ensures owed { (s : State (List ℕ)) → IsState bytes_eq s → IsTable s →
+        (a b : OwedSym) (t u : List ℕ) → text_of s (symbol_name (symbol_of a)) ≡ Some t →
+        text_of s (symbol_name (symbol_of b)) ≡ Some u →
+        (⟦<OwedSymbol as PartialEq>⟧.eq a b ≡ true) ↔ (t ≡ u) }
+{
+    symbols_tell_texts();
+    symbols_are_what_they_name();
+    symbol_references_are_what_they_name();
+    owed_symbols_are_what_they_name();
+}
 
 /// Symbols, references to them, and symbols that must be released are ordered as what they name:
 /// presets by their places, and then entries by their names.

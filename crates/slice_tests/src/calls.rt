@@ -7,7 +7,7 @@ use crate::steps::{
 use intern_fixtures::{
     a_map_tells_apart, a_set_tells_apart, drop_slices, limited_slices, new_slices,
 };
-use ra_ap_intern::{Limits, Name, laws};
+use ra_ap_intern::{Far, Limits, Name, laws};
 use std::process::Abort;
 
 #[test]
@@ -115,6 +115,7 @@ fn a_map_by_owned_handles(rt: HostRuntime) {
 #[test]
 fn laws_are_callable() {
     laws::names_tell_slices::<Numbers>();
+    laws::handles_tell_slices::<Numbers, Far>();
     laws::a_slice_that_is_interned_is_read::<Numbers>();
     laws::a_gone_slice_stays_gone::<Numbers>();
     laws::a_slices_birth_is_given_once::<Numbers>();

@@ -70,6 +70,7 @@ fn a_map_by_symbols(rt: HostRuntime) {
 #[test]
 fn laws_are_callable() {
     laws::symbols_tell_texts();
+    laws::handles_tell_texts();
     laws::symbols_are_what_they_name();
     laws::symbol_references_are_what_they_name();
     laws::owed_symbols_are_what_they_name();

@@ -10,7 +10,7 @@ ghost use Rattle.ra_ap_intern.specs.Slices.{slice_of, slice_in, slice_name_in, d
 ghost use Rattle.ra_ap_intern.specs.State.{reads, name_of_value};
 ghost use Rattle.use_lists.specs.Lists.{Labelled, same_list};
 
-use ra_ap_intern::{InternSliceStorage, InternedSliceRef, Refusal, SliceInternable, laws};
+use ra_ap_intern::{Far, InternSliceStorage, InternedSliceRef, Refusal, SliceInternable, laws};
 
 /// Lists of numbers behind a label.
 pub struct Numbers;
@@ -102,7 +102,7 @@ pub fn is_same(lists: &Lists, first: ListRef, second: ListRef) -> bool
 {
     equal_lists_are_the_same();
     laws::slice_references_are_names::<Numbers>();
-    laws::names_tell_slices::<Numbers>();
+    laws::handles_tell_slices::<Numbers, Far>();
     let _number = lists.number();
     first == second
 }

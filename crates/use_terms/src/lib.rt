@@ -47,5 +47,8 @@ pub fn simplify(terms: &TermStore, plus: &Symbol, zero: TermRef, term: TermRef) 
 {
     laws::terms_are_equal_exactly_if_their_trees_are();
     let _number = terms.number();
-    added_to_zero(terms, plus, zero, term).unwrap_or(term)
+    match added_to_zero(terms, plus, zero, term) {
+        Some(rest) => rest,
+        None => term,
+    }
 }

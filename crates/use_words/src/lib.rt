@@ -111,7 +111,6 @@ impl Words {
             (⟦<Interned<Text> as PartialEq>⟧.eq a b ≡ true) ↔ (v ≡ w) }
     {
         let _number = self.words.number();
-        laws::owned_handles_are_names::<Text>();
-        laws::names_tell_values::<Text>();
+        laws::handles_tell_values::<Text>();
     }
 }

@@ -142,6 +142,7 @@ fn is_printed(rt: &impl Abort, alloc: Global, why: Refusal, text: &str) {
 #[test]
 fn laws_are_callable() {
     laws::names_tell_values::<Word>();
+    laws::handles_tell_values::<Word>();
     laws::what_is_gone_stays_gone::<Word>();
     laws::a_birth_is_given_once::<Word>();
     laws::a_sweep_leaves_what_is_marked::<Word>();

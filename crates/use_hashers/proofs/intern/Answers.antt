@@ -1,13 +1,9 @@
-use Rattle.std.proofs.Common.{Some, sym, ap, ◌∙◌}
 use Rattle.std.proofs.lemmas.Slice.Eq.{bytes_eq-Decides}
-use Rattle.std.specs.Cmp.Lexicographic.{nat_list_eq_equiv}
 use Rattle.std.specs.Str.{bytes_eq}
-use Rattle.ra_ap_intern.specs.State.{reads}
-use Rattle.ra_ap_intern.proofs.CallerLemmas.{interned_counted_reads}
+use Rattle.ra_ap_intern.proofs.CallerLemmas.{interned_counted_itself}
 use Rattle.use_hashers.proofs.intern.Goals as goal
 
 pub returns-clause-reads : goal.returns-clause-reads
 returns-clause-reads g c =
-    let r = interned_counted_reads bytes_eq nat_list_eq_equiv c.args.texts.now c.args.text in
-    (λ i. reads (c.in_ok-handle.ensures.state i) (c.in_ok-handle.ensures.name i)) ∙ r.1
-    ∙ ap Some (sym ((bytes_eq-Decides _ _).0 r.2))
+    interned_counted_itself bytes_eq bytes_eq-Decides c.args.texts.now _ _ _
+    c.in_ok-handle.ensures.name c.in_ok-handle.ensures.state

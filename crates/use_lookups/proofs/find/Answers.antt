@@ -1,9 +1,8 @@
-use Rattle.std.proofs.Common.{sym, ap, ◌∙◌}
+use Rattle.std.proofs.Common.{sym, ap, arith, ◌∙◌}
 use Rattle.std.proofs.lemmas.Option.{same_Some}
 use Rattle.ra_ap_intern.specs.Handle.{ref_name}
 use Rattle.ra_ap_intern.specs.State.{reads}
 use Rattle.ra_ap_intern.proofs.CallerLemmas.{found_reads, none_found, read_found}
-use Rattle.use_lookups.proofs.Found.{equal_found, never_none}
 use Rattle.use_lookups.proofs.find.Goals as goal
 
 pub returns-in_err-get-clause-none : goal.returns-in_err-get-clause-none
@@ -13,12 +12,12 @@ returns-in_err-get-clause-none g c =
 pub returns-clause-found : goal.returns-clause-found
 returns-clause-found g c =
     let r = found_reads g.T.PartialEq.eq c.args.storage.now c.args.value.now (ref_name c.in_ok-get.field-0) (sym c.in_ok-get.ensures) in
-    equal_found g.T.PartialEq.eq c.args.value.now r.0 c.get-2.result (c.get-2.ensures ∙ r.1) r.2
+    grind (arith, c.get-2.ensures, r.1, r.2)
 
 pub returns-clause-none : goal.returns-clause-none
 returns-clause-none g c =
     let r = found_reads g.T.PartialEq.eq c.args.storage.now c.args.value.now (ref_name c.in_ok-get.field-0) (sym c.in_ok-get.ensures) in
-    never_none _ r.0 c.get-2.result (c.get-2.ensures ∙ r.1)
+    grind (arith, c.get-2.ensures, r.1)
 
 pub returns-in_err-get-clause-read : goal.returns-in_err-get-clause-read
 returns-in_err-get-clause-read g c n w read same =

@@ -1,10 +1,9 @@
-use Rattle.ra_ap_intern.proofs.CallerLemmas.{names_tell_views}
+use Rattle.ra_ap_intern.proofs.CallerLemmas.{iff_trans, names_tell_views}
 use Rattle.use_nodes.specs.Parts.{parts_in}
 use Rattle.use_nodes.proofs.handles_tell_expressions.Goals as goal
 
 pub returns : goal.returns
 returns c a b x y first second =
-    let names = names_tell_views _ parts_in c.expressions_are_their_parts.ensures _
-    c.number-number.ensures.state _ _ x y first second in
-    let equal = c.references_are_names.ensures.equal a b in
-    (λ is. names.0 (equal.0 is), λ is. equal.1 (names.1 is))
+    iff_trans (c.references_are_names.ensures.equal a b)
+    (names_tell_views _ parts_in c.expressions_are_their_parts.ensures _ c.number-number.ensures.state
+    _ _ x y first second)

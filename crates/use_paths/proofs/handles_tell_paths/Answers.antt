@@ -1,4 +1,4 @@
-use Rattle.ra_ap_intern.proofs.CallerLemmas.{line_read, lines_tell}
+use Rattle.ra_ap_intern.proofs.CallerLemmas.{iff_trans, line_read, lines_tell}
 use Rattle.use_paths.specs.Paths.{declared_by, last_of, parent_of}
 use Rattle.use_paths.proofs.Opened.{declares}
 use Rattle.use_paths.proofs.handles_tell_paths.Goals as goal
@@ -9,7 +9,6 @@ returns-clause-spelled c s built =
 
 pub returns-clause-equal : goal.returns-clause-equal
 returns-clause-equal c s ok built a b read =
-    let told = lines_tell _ parent_of last_of c.paths_are_their_parts.ensures s ok _ _
-    (line_read declared_by parent_of last_of declares s built.falls built _ read) in
-    let equal = c.references_are_names.ensures.equal a b in
-    (λ is. told.0 (equal.0 is), λ is. equal.1 (told.1 is))
+    iff_trans (c.references_are_names.ensures.equal a b)
+    (lines_tell _ parent_of last_of c.paths_are_their_parts.ensures s ok _ _
+    (line_read declared_by parent_of last_of declares s built.falls built _ read))

@@ -1,11 +1,9 @@
-use Rattle.std.proofs.Common.{false, [], ◌∷◌, ◌+◌, ◌++◌, refl, sym, arith, ◌∙◌}
-use Rattle.std.proofs.lemmas.Bool.{or_left, or_right}
+use Rattle.std.proofs.Common.{[], ◌∷◌, ◌+◌, ◌++◌, refl, arith, ◌∙◌}
+use Rattle.std.proofs.lemmas.Bool.{or_left}
 use Rattle.ra_ap_intern.specs.Families.{entries_of}
 use Rattle.ra_ap_intern.specs.Handle.{ref_name}
-use Rattle.ra_ap_intern.specs.Named.{same_name}
-use Rattle.ra_ap_intern.specs.Names.{has}
 use Rattle.ra_ap_intern.specs.Reach.{Reached, starts, starts_with}
-use Rattle.ra_ap_intern.proofs.CallerLemmas.{collected_reads, collected_counts, collected_root, counted_first, counted_starts, entry_first, entry_second, same_names}
+use Rattle.ra_ap_intern.proofs.CallerLemmas.{collected_reads, collected_counts, collected_root, counted_first, counted_starts, entry_first, entry_second, has_first, has_later}
 use Rattle.use_roots.specs.Code.{of_word, of_class, of_method, names_in, classes_in, methods_in, entries_in, cut}
 use Rattle.use_roots.proofs.collect.Goals as goal
 
@@ -19,9 +17,7 @@ returns-clause-class c =
     collected_root classes_in cut (λ p set. refl) of_class listed (entries_in code) code
     c.collect_keeping.new.family c.collect_keeping.result
     (c.collect_keeping.ensures.ok, c.collect_keeping.ensures.err) class
-    (or_left (same_name class c.name.result) (has (c.name-2.result ∷ []) class)
-    (same_names class c.name.result (sym c.name.ensures)))
-    (λ there.
+    (rw c.name.ensures (has_first class (c.name-2.result ∷ []))) (λ there.
     entry_first (names ++ classes) (entries_of of_method (methods_in code)) class
     (entry_second names classes class there))
 
@@ -35,9 +31,7 @@ returns-clause-method c =
     collected_root methods_in cut (λ p set. refl) of_method listed (entries_in code) code
     c.collect_keeping.new.family c.collect_keeping.result
     (c.collect_keeping.ensures.ok, c.collect_keeping.ensures.err) method
-    (or_right (same_name method c.name.result) (has (c.name-2.result ∷ []) method)
-    (or_left (same_name method c.name-2.result) false
-    (same_names method c.name-2.result (sym c.name-2.ensures))))
+    (rw c.name-2.ensures (has_later c.name.result method (method ∷ []) (has_first method [])))
     (entry_second (names ++ classes) (entries_of of_method (methods_in code)) method)
 
 pub returns-clause-reached : goal.returns-clause-reached
@@ -57,8 +51,7 @@ returns-clause-reached c n path =
 pub returns-clause-counted : goal.returns-clause-counted
 returns-clause-counted c n count at =
     let code = c.args.code.now in
-    let listed = c.name.result ∷ c.name-2.result ∷ [] in
-    let begins = starts_with listed (entries_in code) in
+    let begins = starts_with (c.name.result ∷ c.name-2.result ∷ []) (entries_in code) in
     let names = entries_of of_word (names_in code) in
     let classes = entries_of of_class (classes_in code) in
     let path : Reached begins (entries_in code) n = (

@@ -1,8 +1,7 @@
-use Rattle.ra_ap_intern.proofs.CallerLemmas.{names_tell_views}
+use Rattle.ra_ap_intern.proofs.CallerLemmas.{iff_trans, names_tell_views}
 use Rattle.use_types.proofs.handles_tell_types.Goals as goal
 
 pub returns : goal.returns
 returns c s ok a b x y first second =
-    let names = names_tell_views _ _ c.types_are_their_shapes.ensures s ok _ _ x y first second in
-    let equal = c.references_are_names.ensures.equal a b in
-    (λ is. names.0 (equal.0 is), λ is. equal.1 (names.1 is))
+    iff_trans (c.references_are_names.ensures.equal a b)
+    (names_tell_views _ _ c.types_are_their_shapes.ensures s ok _ _ x y first second)
