@@ -119,9 +119,7 @@ module _ {V X : Type 0} (parent : V → Option Name) (see : V → X) where
       within zero n xs is = absurd (cc)
       within (suc k) n xs is = grind (arith, on n, within k)
 
-module _ {V X : Type 0} (children : V → List Name) (parent : V → Option Name) (see : V → X)
-    (declares : (v : V) (name : Name) → parent v ≡ Some name → has (children v) name ≡ true)
-    (s : State V) (falls : Falls children s) where
+module _ {V X : Type 0} (children : V → List Name) (parent : V → Option Name) (see : V → X) (declares : (v : V) (name : Name) → parent v ≡ Some name → has (children v) name ≡ true) (s : State V) (falls : Falls children s) where
   -- more steps than births add nothing
   enough : (k l : ℕ) (name : Name) → name.birth < k → name.birth < l
       → line_within parent see s k name ≡ line_within parent see s l name
@@ -183,9 +181,7 @@ module _ {V X : Type 0} (children : V → List Name) (parent : V → Option Name
           within k m (omega arith) (built.stands n m v.0 v.1 declared))
 
 -- values are equal exactly if they have the same parent, and the same is seen of them
-module _ {V X : Type 0} (eq : V → V → Bool) (parent : V → Option Name) (see : V → X)
-    (alike : (v w : V) → (eq v w ≡ true) ↔ ((parent v ≡ parent w) × (see v ≡ see w)))
-    (s : State V) (ok : IsState eq s) where
+module _ {V X : Type 0} (eq : V → V → Bool) (parent : V → Option Name) (see : V → X) (alike : (v w : V) → (eq v w ≡ true) ↔ ((parent v ≡ parent w) × (see v ≡ see w))) (s : State V) (ok : IsState eq s) where
   not_empty : (k : ℕ) (name : Name) → line_within parent see s k name ≡ Some [] → ⊥
   not_empty zero name is = absurd (cc)
   not_empty (suc k) name is = grind arith
@@ -321,8 +317,7 @@ module _ {V : Type 0} (children : V → List Name) where
 
   -- ---- a collection
 
-  module _ (begins : Name → Bool) (s : State V) (names : List Name)
-      (is : IsReachedSet begins (entries_of children s) names) where
+  module _ (begins : Name → Bool) (s : State V) (names : List Name) (is : IsReachedSet begins (entries_of children s) names) where
     -- a child that is read is kept with what declares it
     pub declared_kept : (name child : Name) (v : V) → has names name ≡ true → reads s name ≡ Some v
         → has (children v) child ≡ true → IsSome (reads s child) → has names child ≡ true
@@ -378,9 +373,7 @@ module _ {V : Type 0} (children : V → List Name) where
             parent_kept k m (declared_kept n m v kept at (declares v m is)) (within k m))
 
   -- what a collection leaves, or that it does nothing
-  module _ (begins : Name → Bool) (s t : State V) (r : Result Collected AllocError)
-      (is : Collects (λ (f : State V). f) kept_named (λ f set. refl) begins (entries_of children s)
-      s t r) where
+  module _ (begins : Name → Bool) (s t : State V) (r : Result Collected AllocError) (is : Collects (λ (f : State V). f) kept_named (λ f set. refl) begins (entries_of children s) s t r) where
     pub falls_collected : Falls children s → Falls children t
     falls_collected falls =
         collected (λ f. f) kept_named (λ f set. refl) begins (entries_of children s) s t

@@ -96,9 +96,7 @@ module _ {V X : Type 0} (children : V → List Name) (see : V → X) where
 
   -- a tree has one name, where values are equal exactly if the same is seen of them and they have
   -- the same children
-  module _ (eq : V → V → Bool)
-      (alike : (v w : V) → (eq v w ≡ true) ↔ ((see v ≡ see w) × (children v ≡ children w)))
-      (s : State V) (ok : IsState eq s) where
+  module _ (eq : V → V → Bool) (alike : (v w : V) → (eq v w ≡ true) ↔ ((see v ≡ see w) × (children v ≡ children w))) (s : State V) (ok : IsState eq s) where
     mutual
       pub one_name : (t : Tree X) (n m : Name) → UnfoldsTo children see s n t
           → UnfoldsTo children see s m t → n ≡ m
@@ -198,9 +196,8 @@ module _ {V X : Type 0} (children : V → List Name) (see : V → X) where
       )
 
   -- a collection leaves the whole tree of a name that it keeps
-  module _ (begins : Name → Bool) (s : State V) (names : List Name)
-      (is : IsReachedSet begins (entries_of children s) names) where
-    tree_read : (x : Tree X) (n : Name) → UnfoldsTo children see s n x → IsSome (reads s n)
+  module _ (begins : Name → Bool) (s : State V) (names : List Name) (is : IsReachedSet begins (entries_of children s) names) where
+    pub tree_read : (x : Tree X) (n : Name) → UnfoldsTo children see s n x → IsSome (reads s n)
     tree_read (tree x ts) n a = ap is_some a.1
 
     mutual
@@ -226,9 +223,7 @@ module _ {V X : Type 0} (children : V → List Name) (see : V → X) where
       )
 
   -- and a collection that leaves a name, or does nothing, leaves its tree
-  module _ (begins : Name → Bool) (s t : State V) (r : Result Collected AllocError)
-      (is : Collects (λ (f : State V). f) kept_named (λ f set. refl) begins (entries_of children s)
-      s t r) where
+  module _ (begins : Name → Bool) (s t : State V) (r : Result Collected AllocError) (is : Collects (λ (f : State V). f) kept_named (λ f set. refl) begins (entries_of children s) s t r) where
     pub tree_collected : (name : Name) (x : Tree X) → IsSome (reads t name)
         → UnfoldsTo children see s name x → UnfoldsTo children see t name x
     tree_collected =

@@ -1,5 +1,5 @@
 -- The names of handles. Handles are equal exactly if their names are.
-use Rattle.std.specs.Prelude.{ℕ, ◌-◌, ◌^◌, ◌==◌, if◌then◌else◌, Option, Some, None}
+use Rattle.std.specs.Prelude.{ℕ, ◌-◌, ◌^◌, ◌==◌, if◌then◌else◌, min, Option, Some, None}
 use Rattle.std.specs.Ordering.{nat_cmp, on, then_cmp}
 use Rattle.std.specs.declared.cmp.Ordering.{Ordering}
 use Rattle.intern_store.specs.Named.{key_name}
@@ -25,6 +25,25 @@ module _ {K : Type 0} where
 -- the name of an optional reference, unless its place tells that there is none
 abbrev pub name_if : {K : Type 0} → OptionalRef K → Option Name
 name_if o = if o.key.spot.place == 2 ^ 64 - 1 then None else Some (key_name o.key)
+
+-- the optional reference that is none
+abbrev pub no_reference : {K : Type 0} → OptionalRef K
+no_reference = record {
+  key = record { storage = 0; spot = record { birth = 0; place = 2 ^ 64 - 1 } };
+  marker = record {};
+}
+
+-- that of a reference, with its place, or another where that would tell that there is none
+abbrev pub optional_of : {K : Type 0} → Ref K → OptionalRef K
+optional_of h = record {
+  key = record h.key { spot = record h.key.spot { place = min h.key.spot.place (2 ^ 64 - 2) } };
+  marker = record {};
+}
+
+-- that of a reference, if there is one
+abbrev pub optional_if : {K : Type 0} → Option (Ref K) → OptionalRef K
+optional_if (Some h) = optional_of h
+optional_if None = no_reference
 
 -- the order of names: by the storages' numbers, and then by the births
 abbrev pub name_cmp : Name → Name → Ordering

@@ -6,7 +6,7 @@ ghost use Rattle.std.specs.Cmp.{on_total, partial_order_from_own_ties, partial_o
 ghost use Rattle.std.specs.Cmp.Rules.{comparing, hashing};
 ghost use Rattle.std.proofs.Common.{rules};
 ghost use Rattle.intern_store.specs.Named.{same_name};
-ghost use Rattle.ra_ap_intern.specs.Handle.{name_cmp, name_if, ref_name};
+ghost use Rattle.ra_ap_intern.specs.Handle.{name_cmp, name_if, no_reference, optional_if, optional_of, ref_name};
 
 use crate::gc::{GarbageCollector, GcInternedVisit};
 use crate::kind::{Slices, Values};
@@ -40,7 +40,8 @@ pub type OptionalInternedSliceRef<T, L = Far> = OptionalRef<Slices<T, L>>;
 impl<K> OptionalRef<K> {
     /// No reference.
     pub fn none() -> OptionalRef<K>
-        ensures { name_if result ≡ None }
+        ensures value { result ≡ no_reference }
+        ensures name { name_if result ≡ None }
     {
         OptionalRef {
             key: EntryKey {
@@ -87,7 +88,8 @@ impl<K> OptionalRef<K> {
 }
 
 impl<K> From<Ref<K>> for OptionalRef<K> {
-    ghost from_gives = { λ reference optional. name_if optional ≡ Some (ref_name reference) };
+    ghost from_gives = { λ reference optional. (optional ≡ optional_of reference)
+        × (name_if optional ≡ Some (ref_name reference)) };
 
     fn from(reference: Ref<K>) -> OptionalRef<K> {
         let EntryKey { storage, spot } = reference.key;
@@ -104,7 +106,8 @@ impl<K> From<Ref<K>> for OptionalRef<K> {
 }
 
 impl<K> From<Option<Ref<K>>> for OptionalRef<K> {
-    ghost from_gives = { λ reference optional. name_if optional ≡ option_map ref_name reference };
+    ghost from_gives = { λ reference optional. (optional ≡ optional_if reference)
+        × (name_if optional ≡ option_map ref_name reference) };
 
     fn from(reference: Option<Ref<K>>) -> OptionalRef<K> {
         match reference {

@@ -200,8 +200,9 @@ impl<B: BuildHasher> SymbolTable<B> {
         Some(SymbolRef(packed))
     }
 
-    /// A reference to the symbol of a text, which the table keeps from then on: unless it is a
-    /// preset, it is counted once more, and nobody gives that count up. For tables that only grow.
+    /// A reference to the symbol of a text, which the table keeps: unless it is a preset, it is counted
+    /// once more, until [`SymbolRef::decrease_refcount`] gives that count up. For tables that only
+    /// grow, and for values that hold references.
     /// Refused as [`Symbol::intern`]: `CountFull`, `NumbersUsedUp`, `OutOfMemory`.
     pub fn get_or_intern(&mut self, text: &str) -> Result<SymbolRef, Refusal>
         ensures ok { IfOk result (λ r.
