@@ -1,5 +1,5 @@
 -- What a collection leaves of a store.
-use Rattle.std.proofs.Common.{Bool, List, IsSome, Result, refl}
+use Rattle.std.proofs.Common.{Bool, List, IsSome, Result}
 use Rattle.std.specs.declared.alloc.AllocError.{AllocError}
 use Rattle.ra_ap_intern.specs.Names.{has}
 use Rattle.ra_ap_intern.specs.Families.{kept_named}
@@ -12,7 +12,7 @@ use Rattle.ra_ap_intern.specs.declared.symbol.Symbol.{Symbol}
 use Rattle.intern_terms.specs.Store.{arguments, terms_of}
 use Rattle.intern_terms.specs.Tree.{Tree, head_name, UnfoldsTo}
 use Rattle.intern_terms.specs.declared.handle.TermRef.{TermRef}
-use Rattle.ra_ap_intern.proofs.CallerLemmas.{Collects, kept_was_read, some_read, tree_kept, tree_collected as stays_collected}
+use Rattle.ra_ap_intern.proofs.CallerLemmas.{CollectsOne, kept_was_read, some_read, tree_kept, tree_collected as stays_collected}
 
 -- the tree of a term that is left is as it was
 pub left_tree : (begins : Name → Bool) (s : State (Sliced Symbol TermRef)) (names : List Name)
@@ -27,8 +27,7 @@ left_tree begins s names is t name left =
 -- also where a collection does nothing
 module _ (begins : Name → Bool) (s t : State (Sliced Symbol TermRef))
     (r : Result Collected AllocError)
-    (is : Collects (λ (f : State (Sliced Symbol TermRef)). f) kept_named (λ f set. refl) begins
-    (terms_of s) s t r) where
+    (is : CollectsOne arguments begins s t r) where
   pub tree_collected : (name : Name) (x : Tree) → IsSome (reads t name) → UnfoldsTo s name x
       → UnfoldsTo t name x
   tree_collected = stays_collected arguments head_name begins s t r is

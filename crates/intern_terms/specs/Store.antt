@@ -1,17 +1,17 @@
 -- What a store of terms holds, and the words of its contracts.
-use Rattle.std.specs.Prelude.{ℕ, Bool, ◌&&◌, if◌then◌else◌, List, [], ◌∷◌, map as list_map, Option, None}
+use Rattle.std.specs.Prelude.{ℕ, Bool, ◌&&◌, if◌then◌else◌, List, [], ◌∷◌, map as list_map, Option}
 use Rattle.std.specs.Cmp.Lexicographic.{pointwise}
 use Rattle.std.specs.FinMap as map
 use Rattle.std.specs.Option.{option_or}
 use Rattle.ra_ap_intern.specs.Families.{entries_of, sliced_children}
 use Rattle.ra_ap_intern.specs.Name.{Name}
-use Rattle.ra_ap_intern.specs.Order.{IsBuilt as IsBuiltOf}
+use Rattle.ra_ap_intern.specs.Order.{IsBuilt as IsBuiltOf, due_each}
 use Rattle.ra_ap_intern.specs.Reach.{Entry}
 use Rattle.ra_ap_intern.specs.Refusal.{Refusal}
 use Rattle.ra_ap_intern.specs.Named.{same_name}
 use Rattle.ra_ap_intern.specs.Sliced.{Sliced}
 use Rattle.ra_ap_intern.specs.Slices.{due_slice, is_new_slice}
-use Rattle.ra_ap_intern.specs.State.{State, IsState, name_in, counted_up, due, full, any_count}
+use Rattle.ra_ap_intern.specs.State.{State, IsState, name_in, counted_up, full}
 use Rattle.ra_ap_intern.specs.Symbols.{at_entry, due_of, given_up, same_named, symbol_name}
 use Rattle.ra_ap_intern.specs.declared.symbol.Symbol.{Symbol}
 use Rattle.intern_terms.specs.Handle.{term_name}
@@ -44,15 +44,10 @@ pub record IsTerms (s : State (Sliced Symbol TermRef)) : Type 0 where
   pub state : IsState same_node s
   pub built : IsBuilt s
 
--- the refusal of the first of these names that can't be read
-abbrev pub due_arguments : State (Sliced Symbol TermRef) → List Name → Option Refusal
-due_arguments s [] = None
-due_arguments s (name ∷ names) = option_or (due s name any_count) (due_arguments s names)
-
 -- the refusal of a call that stores a term, before want of memory: what its first argument that
 -- can't be read decides, or else, where the term isn't stored, that births are used up
 abbrev pub due_term : State (Sliced Symbol TermRef) → Symbol → List TermRef → Option Refusal
-due_term s head args = option_or (due_arguments s (list_map term_name args))
+due_term s head args = option_or (due_each s (list_map term_name args))
     (due_slice same_node s head args)
 
 -- the same of a call that first counts the head in a table

@@ -6,6 +6,7 @@ ghost use Rattle.ra_ap_intern.specs.Names.{has};
 ghost use Rattle.ra_ap_intern.specs.Families.{IsCollection, kept_named};
 ghost use Rattle.ra_ap_intern.specs.Memory.{least_memory};
 ghost use Rattle.ra_ap_intern.specs.Name.{Name as TermName};
+ghost use Rattle.ra_ap_intern.specs.Order.{due_each};
 ghost use Rattle.ra_ap_intern.specs.Outcome.{Owes, OwesBack, MayWant, MayWantBack, Becomes};
 ghost use Rattle.ra_ap_intern.specs.Reach.{starts, starts_with};
 ghost use Rattle.ra_ap_intern.specs.Slices.{slice_of, slice_name_in, slice_in, slice_back, is_new_slice, named_slices};
@@ -13,7 +14,7 @@ ghost use Rattle.ra_ap_intern.specs.State.{new_state, name_of_value, reads, coun
 ghost use Rattle.ra_ap_intern.specs.Symbols.{given_up, symbol_name, symbol_ref_name};
 ghost use Rattle.ra_ap_intern.specs.declared.symbol.Symbol.{Symbol as Head};
 ghost use Rattle.intern_terms.specs.Handle.{term_name, owned_name};
-ghost use Rattle.intern_terms.specs.Store.{IsTerms, Node, names_in, same_node, due_arguments, due_term, due_term_of, terms_of, with_head, without_heads};
+ghost use Rattle.intern_terms.specs.Store.{IsTerms, Node, names_in, same_node, due_term, due_term_of, terms_of, with_head, without_heads};
 ghost use Rattle.intern_terms.specs.Tree.{Tree as TermTree, Trees as TermTrees, tree as tree_of, UnfoldsTo, AllUnfold};
 
 use crate::handle::{Term, TermRef, Terms};
@@ -414,7 +415,7 @@ impl<B: BuildHasher> TermStore<B> {
 
     // Refused as the first argument that can't be read.
     fn check_all(&self, args: &[TermRef]) -> Result<(), Refusal>
-        ensures refused { Owes result (due_arguments self.now (list_map term_name args.now)) }
+        ensures refused { Owes result (due_each self.now (list_map term_name args.now)) }
         ensures state { IsTerms self.now }
     {
         // What `number` says of the state is said here too.

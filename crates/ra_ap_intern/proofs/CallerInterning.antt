@@ -1,16 +1,20 @@
 -- What interning gives, what look-ups answer, and whether two names are one.
-use Rattle.std.proofs.Common.{◌≡◌, ℕ, ◌+◌, ◌<◌, Bool, true, false, Option, Some, None, IsSome, is_some, Result, Ok, Err, ◌⊎◌, refl, sym, ap, subst, ◌∙◌, arith}
+use Rattle.std.proofs.Common.{◌≡◌, ℕ, ◌+◌, ◌<◌, Bool, true, false, ◌≢◌, ◌-◌, Option, Some, None, IsSome, is_some, Result, Ok, Err, ◌⊎◌, refl, sym, ap, subst, ◌∙◌, arith}
 use Rattle.std.specs.Prelude.{◌↔◌}
 use Rattle.std.specs.Option.{option_map}
 use Rattle.std.specs.Cmp.{IsEquivalence}
 use Rattle.std.proofs.lemmas.Bool.Decides.{nat_tests}
 use Rattle.intern_store.specs.declared.refusal.Refused.{Refused}
 use Rattle.intern_store.proofs.Births.{not_stored, is_stored}
+use Rattle.intern_store.proofs.Compared.{get-inserted, get-removed, get-modified}
 use Rattle.intern_store.proofs.Named.{names_same}
 use Rattle.intern_store.proofs.Reading.{interned_reads, equal_read}
+use Rattle.intern_store.proofs.States.{counted_up-added}
+use Rattle.ra_ap_intern.specs.Interning.{AsBefore}
+use Rattle.ra_ap_intern.specs.Kept.{recount}
 use Rattle.ra_ap_intern.specs.Name.{Name}
 use Rattle.ra_ap_intern.specs.Outcome.{OwesBack, Becomes}
-use Rattle.ra_ap_intern.specs.State.{State, IsState, name_in, reads, counts, counted_up, due, zero_count, added, or_added, interned, interned_name, interned_counted, released, birth_of, name_of_value}
+use Rattle.ra_ap_intern.specs.State.{State, IsState, entry_at, count_at, name_in, reads, counts, counted_up, added_with, due, zero_count, added, or_added, interned, interned_name, interned_counted, released, birth_of, name_of_value}
 use Rattle.ra_ap_intern.proofs.CallerReads.{some_read, read_at, read_below, read_once, reads-added, counts_read, counts-recounted, due_counted, counted_up_reads, interned_reads_given, interned_reads_on, interned_counted_reads_on}
 
 -- what is so exactly if another thing is, and this exactly if a third is
@@ -82,6 +86,41 @@ module _ {V : Type 0} (eq : V → V → Bool) where
       let free = (λ i. due (counted i) (named i) zero_count) ∙ interned_counted_due laws s v in
       let owed = owes.0 in
       absurd (cc)
+
+  -- after that each birth has the entry that it had, if it had one that was counted or none
+  undone_at : (s : State V) → IsState eq s → (v : V)
+      → count_at s (interned eq s v).birth ≢ Some 0 → (b : ℕ)
+      → entry_at (released false (interned_counted eq s v) (interned eq s v).birth) b ≡ entry_at s b
+  undone_at s ok v counted b = go (birth_of eq s v) refl counted
+    where
+      go : (o : Option ℕ) → birth_of eq s v ≡ o
+          → let i = or_added o s v in count_at s i.birth ≢ Some 0
+          → entry_at (released false (counted_up i.state i.birth) i.birth) b ≡ entry_at s b
+      go (Some at) is counted =
+          grind (
+            arith,
+            nat_tests,
+            is_stored eq s v at is,
+            get-modified (recount (λ n. n + 1)) s.map at,
+            get-modified (recount (λ n. n - 1)) (counted_up s at).map at b,
+          )
+      go None is counted =
+          grind (
+            arith,
+            nat_tests,
+            counted_up-added s v,
+            ok.below s.next,
+            get-inserted s.map s.next,
+            get-removed (added_with 1 s v).map s.next b,
+          )
+
+  -- so that each name reads and counts what it did
+  pub undone_as_before : (s : State V) → IsState eq s → (v : V)
+      → counts s (interned_name eq s v) ≢ Some 0
+      → AsBefore s (released false (interned_counted eq s v) (interned_name eq s v).birth)
+  undone_as_before s ok v counted =
+      let at = undone_at s ok v (grind (arith, nat_tests, counted)) in
+      record { read = λ n. grind (arith, at n.birth); count = λ n. grind (arith, at n.birth) }
 
   -- ---- what a look-up answers
 

@@ -1,15 +1,17 @@
 -- Storages whose values declare earlier ones: what keeps that, and the lines of values that lead up
 -- from a name.
-use Rattle.std.proofs.Common.{◌≡◌, ◌↔◌, ℕ, zero, suc, ◌<◌, Bool, true, List, [], ◌∷◌, ◌++◌, Option, Some, None, IsSome, is_some, Result, refl, sym, ap, ◌∙◌, append_assoc, arith}
+use Rattle.std.proofs.Common.{◌≡◌, ◌↔◌, ℕ, zero, suc, ◌<◌, Bool, true, List, [], ◌∷◌, ◌++◌, Option, Some, None, IsSome, is_some, option_and_then, Result, refl, sym, ap, ◌∙◌, append_assoc, arith}
 use Rattle.std.specs.FinMap.{get-empty}
+use Rattle.std.specs.List.{last_or}
 use Rattle.std.specs.Option.{option_map}
 use Rattle.std.specs.declared.alloc.AllocError.{AllocError}
+use Rattle.std.proofs.lemmas.Bool.{or_cases}
 use Rattle.std.proofs.lemmas.Bool.Decides.{nat_tests}
 use Rattle.ra_ap_intern.specs.Families.{entries_of, kept_named}
 use Rattle.ra_ap_intern.specs.Name.{Name}
 use Rattle.ra_ap_intern.specs.Named.{same_name}
 use Rattle.ra_ap_intern.specs.Names.{has}
-use Rattle.ra_ap_intern.specs.Order.{IsBefore, Falls, IsBuilt, due_parent, line_from, line_at, line_within, line, line_rest, steps_left}
+use Rattle.ra_ap_intern.specs.Order.{IsBefore, Falls, IsBuilt, due_parent, due_each, line_from, line_at, line_within, line, line_end, end_from, line_rest, steps_left}
 use Rattle.ra_ap_intern.specs.Reach.{Entry, IsReachedSet, IsPath, Reached}
 use Rattle.ra_ap_intern.specs.State.{State, IsState, new_state, name_in, reads, counted_up, counted_down, taken, released, interned, interned_counted}
 use Rattle.ra_ap_intern.specs.Visitors.{of_name}
@@ -19,7 +21,7 @@ use Rattle.intern_store.proofs.Named.{names_same, same_names}
 use Rattle.ra_ap_intern.proofs.CallerCollections.{child_kept, children_read, entry_read, kept_reads, kept_was_read, reads-kept_named}
 use Rattle.ra_ap_intern.proofs.CallerInterning.{interned_new_or_read}
 use Rattle.ra_ap_intern.proofs.CallerReads.{read_at, read_due, read_below, read_once, some_read, counted_up_reads, counted_down_reads, interned_reads_on, released_either}
-use Rattle.ra_ap_intern.proofs.CallerViews.{Collects, collected}
+use Rattle.ra_ap_intern.proofs.CallerViews.{CollectsOne, one_collected}
 
 -- what is kept keeps all that paths of declared children reach from it
 pub behind_kept : (begins : Name → Bool) (family : List Entry) (names : List Name)
@@ -42,6 +44,13 @@ pub parent_read : {V : Type 0} (s : State V) (o : Option Name) → due_parent s 
     → (name : Name) → has (of_name o) name ≡ true → IsSome (reads s name)
 parent_read s None free name declared = absurd (cc)
 parent_read s (Some parent) free name declared = grind (arith, names_same name parent, read_due s parent free)
+
+-- where nothing is due of several, each is read
+pub each_read : {V : Type 0} (s : State V) (names : List Name) → due_each s names ≡ None
+    → (name : Name) → has names name ≡ true → IsSome (reads s name)
+each_read s [] free name among = absurd (cc)
+each_read s (first ∷ names) free name among =
+    grind (arith, names_same name first, read_due s first, each_read s names, or_cases (same_name name first) (has names name))
 
 module _ {V : Type 0} where
   new_reads : (number top numbers : ℕ) (name : Name)
@@ -80,6 +89,11 @@ module _ {V X : Type 0} (parent : V → Option Name) (see : V → X) where
   is_line f None xs is = absurd (cc)
   is_line f (Some v) xs is = (v, refl, is)
 
+  -- a line has a value
+  not_empty : (s : State V) (k : ℕ) (name : Name) → line_within parent see s k name ≡ Some [] → ⊥
+  not_empty s zero name is = absurd (cc)
+  not_empty s (suc k) name is = grind arith
+
   within_none : (s : State V) (k : ℕ) (name : Name) → reads s name ≡ None
       → line_within parent see s k name ≡ None
   within_none s zero name none = refl
@@ -95,6 +109,11 @@ module _ {V X : Type 0} (parent : V → Option Name) (see : V → X) where
       → line parent see s name ≡ Some (see v ∷ [])
   unfolding line
   line_top s name v read top = grind (arith, read, top)
+
+  -- and nothing is at its end
+  pub end_none : (s : State V) (name : Name) → reads s name ≡ None
+      → line_end parent see s name ≡ None
+  end_none s name none = ap (option_and_then (last_or None)) (line_none s name none)
 
   -- a loop that begins at a name has its line ahead
   pub rest_begun : (s : State V) (name : Name)
@@ -141,6 +160,27 @@ module _ {V X : Type 0} (children : V → List Name) (parent : V → Option Name
       ∙ ap (option_map (λ xs. see v ∷ xs))
       (enough name.birth (suc above.birth) above below (omega arith))
 
+  -- so that a loop that keeps what it saw last, and nothing before it, has the end of all at its end
+  pub end_up : (name : Name) (v : V) → reads s name ≡ Some v
+      → line_end parent see s name ≡ end_from (see v) (line_end parent see s) (parent v)
+  unfolding line
+  end_up name v read = go (parent v) refl
+    where
+      same : (l : Option (List X)) → (l ≡ Some [] → ⊥)
+          → option_and_then (last_or None) (option_map (λ xs. see v ∷ xs) l)
+          ≡ option_and_then (last_or None) l
+      same None some = refl
+      same (Some []) some = absurd (some refl)
+      same (Some (x ∷ xs)) some = refl
+
+      go : (p : Option Name) → parent v ≡ p
+          → line_end parent see s name ≡ end_from (see v) (line_end parent see s) p
+      go None is = ap (option_and_then (last_or None)) (line_top parent see s name v read is)
+      go (Some above) is =
+          ap (option_and_then (last_or None)) (line_up name above v read is)
+          ∙ same (line_within parent see s (suc above.birth) above)
+          (not_empty parent see s (suc above.birth) above)
+
   -- so that a loop has fewer steps left at the parent, and ends
   pub steps_fewer : (name : Name) (v : V) → reads s name ≡ Some v
       → steps_left (parent v) < steps_left (Some name)
@@ -182,10 +222,6 @@ module _ {V X : Type 0} (children : V → List Name) (parent : V → Option Name
 
 -- values are equal exactly if they have the same parent, and the same is seen of them
 module _ {V X : Type 0} (eq : V → V → Bool) (parent : V → Option Name) (see : V → X) (alike : (v w : V) → (eq v w ≡ true) ↔ ((parent v ≡ parent w) × (see v ≡ see w))) (s : State V) (ok : IsState eq s) where
-  not_empty : (k : ℕ) (name : Name) → line_within parent see s k name ≡ Some [] → ⊥
-  not_empty zero name is = absurd (cc)
-  not_empty (suc k) name is = grind arith
-
   one_name : (k l : ℕ) (n m : Name) (xs : List X) → line_within parent see s k n ≡ Some xs
       → line_within parent see s l m ≡ Some xs → n ≡ m
   one_name zero l n m xs a b = absurd (cc)
@@ -197,8 +233,8 @@ module _ {V X : Type 0} (eq : V → V → Bool) (parent : V → Option Name) (se
         arith,
         v.2,
         w.2,
-        not_empty k,
-        not_empty l,
+        not_empty parent see s k,
+        not_empty parent see s l,
         one_name k l,
         alike v.0 w.0,
         read_once eq s ok n m v.0 w.0 v.1 w.1,
@@ -373,23 +409,21 @@ module _ {V : Type 0} (children : V → List Name) where
             parent_kept k m (declared_kept n m v kept at (declares v m is)) (within k m))
 
   -- what a collection leaves, or that it does nothing
-  module _ (begins : Name → Bool) (s t : State V) (r : Result Collected AllocError) (is : Collects (λ (f : State V). f) kept_named (λ f set. refl) begins (entries_of children s) s t r) where
+  module _ (begins : Name → Bool) (s t : State V) (r : Result Collected AllocError) (is : CollectsOne children begins s t r) where
     pub falls_collected : Falls children s → Falls children t
     falls_collected falls =
-        collected (λ f. f) kept_named (λ f set. refl) begins (entries_of children s) s t
-        (Falls children) falls (λ names set. falls_kept s (has names) falls) r is
+        one_collected children begins s t r is (Falls children) falls
+        (λ names set. falls_kept s (has names) falls)
 
     pub built_collected : IsBuilt children s → IsBuilt children t
     built_collected built =
-        collected (λ f. f) kept_named (λ f set. refl) begins (entries_of children s) s t
-        (IsBuilt children) built (λ names set. built_kept begins s names set built) r is
+        one_collected children begins s t r is (IsBuilt children) built
+        (λ names set. built_kept begins s names set built)
 
     pub line_collected : {X : Type 0} (parent : V → Option Name) (see : V → X)
         → ((v : V) (name : Name) → parent v ≡ Some name → has (children v) name ≡ true)
         → (name : Name) → Reached begins (entries_of children s) name
         → line parent see t name ≡ line parent see s name
     line_collected parent see declares name path =
-        collected (λ f. f) kept_named (λ f set. refl) begins (entries_of children s) s t
-        (λ f. line parent see f name ≡ line parent see s name) refl
-        (λ names set.
-        line_kept begins s names set parent see declares name ((set.reached name).1 path)) r is
+        one_collected children begins s t r is (λ f. line parent see f name ≡ line parent see s name) refl
+        (λ names set. line_kept begins s names set parent see declares name ((set.reached name).1 path))

@@ -16,7 +16,7 @@ use Rattle.intern_store.proofs.Reading.{interned_reads}
 use Rattle.ra_ap_intern.proofs.CallerCollections.{kept_reads, kept_was_read}
 use Rattle.ra_ap_intern.proofs.CallerOrder.{declared_kept}
 use Rattle.ra_ap_intern.proofs.CallerReads.{read_once, some_read, interned_reads_on}
-use Rattle.ra_ap_intern.proofs.CallerViews.{Collects, collected}
+use Rattle.ra_ap_intern.proofs.CallerViews.{CollectsOne, one_collected}
 
 -- a list has its first name, and those of the rest
 pub has_first : (name : Name) (names : List Name) → has (name ∷ names) name ≡ true
@@ -58,6 +58,11 @@ module _ {V X : Type 0} (children : V → List Name) (see : V → X) where
           let first = one_tree t u name a.0 b.0 in
           let rest = one_forest ts us names a.1 b.1 in
           λ k. one_more (first k) (rest k)
+
+    -- and is read
+    pub tree_read : (x : Tree X) (name : Name) → UnfoldsTo children see s name x
+        → IsSome (reads s name)
+    tree_read (tree x ts) name a = ap is_some a.1
 
     -- the name that unfolds into the first of a list of trees, and those of the others
     pub forest_first : (t : Tree X) (ts : Trees X) (names : List Name)
@@ -197,9 +202,6 @@ module _ {V X : Type 0} (children : V → List Name) (see : V → X) where
 
   -- a collection leaves the whole tree of a name that it keeps
   module _ (begins : Name → Bool) (s : State V) (names : List Name) (is : IsReachedSet begins (entries_of children s) names) where
-    pub tree_read : (x : Tree X) (n : Name) → UnfoldsTo children see s n x → IsSome (reads s n)
-    tree_read (tree x ts) n a = ap is_some a.1
-
     mutual
       pub tree_kept : (x : Tree X) (n : Name) → has names n ≡ true → UnfoldsTo children see s n x
           → UnfoldsTo children see (kept_named s (has names)) n x
@@ -218,19 +220,19 @@ module _ {V X : Type 0} (children : V → List Name) (see : V → X) where
       forest_kept no_more (n ∷ ns) each a = absurd a
       forest_kept (one_more x xs) [] each a = absurd a
       forest_kept (one_more x xs) (n ∷ ns) each a = (
-        tree_kept x n (each n (has_first n ns) (tree_read x n a.0)) a.0,
+        tree_kept x n (each n (has_first n ns) (tree_read s x n a.0)) a.0,
         forest_kept xs ns (λ m h. each m (has_later n m ns h)) a.1,
       )
 
   -- and a collection that leaves a name, or does nothing, leaves its tree
-  module _ (begins : Name → Bool) (s t : State V) (r : Result Collected AllocError) (is : Collects (λ (f : State V). f) kept_named (λ f set. refl) begins (entries_of children s) s t r) where
+  module _ (begins : Name → Bool) (s t : State V) (r : Result Collected AllocError) (is : CollectsOne children begins s t r) where
     pub tree_collected : (name : Name) (x : Tree X) → IsSome (reads t name)
         → UnfoldsTo children see s name x → UnfoldsTo children see t name x
     tree_collected =
-        collected (λ f. f) kept_named (λ f set. refl) begins (entries_of children s) s t
+        one_collected children begins s t r is
         (λ f. (name : Name) (x : Tree X) → IsSome (reads f name)
         → UnfoldsTo children see s name x → UnfoldsTo children see f name x) (λ name x left a. a)
         (λ names set name x left a.
         let v = some_read _ left in
         let was = kept_was_read s (has names) name v.0 v.1 in
-        tree_kept begins s names set x name was.0 a) r is
+        tree_kept begins s names set x name was.0 a)

@@ -89,6 +89,13 @@ module _ {V X : Type 0} (eq : V → V → Bool) (view : V → X) (alike : (v w :
       let r = interned_reads eq viewed_equivalence s v in
       grind (arith, r.1, r.2, alike v r.0)
 
+  -- and so in counted mode
+  pub interned_counted_view : (s t : State V) (v : V) (name : Name) → name ≡ interned_name eq s v
+      → t ≡ interned_counted eq s v → option_map view (reads t name) ≡ Some (view v)
+  interned_counted_view s t v name named now =
+      let r = interned_counted_equal eq viewed_equivalence s t v name named now in
+      grind (arith, r.1, r.2, alike v r.0)
+
   -- a call with these clauses of interning makes a value
   pub makes : (s : State V) → IsState eq s → (v : V) (result : Result (Ref (Values V)) Refusal)
       (new : State V) → IfOk result (λ r. ref_name r ≡ interned_name eq s v)
@@ -234,6 +241,39 @@ collected_root part kept of_part children listed all s t r is name among within 
     (λ f. reads (part f) name ≡ reads (part s) name) refl (λ names set.
     ap (λ p. reads p name) (of_part s (has names))
     ∙ root_reads children (part s) all listed names set name among within) r is
+
+-- the same of a storage that is collected alone
+module _ {V : Type 0} (children : V → List Name) where
+  -- what a collection answers, and leaves of it
+  abbrev pub CollectsOne : (Name → Bool) → State V → State V → Result Collected AllocError → Type 0
+  CollectsOne begins s t r =
+      Collects (λ (f : State V). f) kept_named (λ f set. refl) begins (entries_of children s) s t r
+
+  module _ (begins : Name → Bool) (s t : State V) (r : Result Collected AllocError) (is : CollectsOne begins s t r) where
+    -- what holds of a storage that is cut to what is reached, and of this one
+    pub one_collected : (P : State V → Type 0) → P s
+        → ((names : List Name) → IsReachedSet begins (entries_of children s) names
+        → P (kept_named s (has names)))
+        → P t
+    one_collected P whole cut =
+        collected (λ f. f) kept_named (λ f set. refl) begins (entries_of children s) s t P whole cut r is
+
+    pub reads_collected : (name : Name) → Reached begins (entries_of children s) name
+        → reads t name ≡ reads s name
+    reads_collected =
+        collected_reads (λ f. f) kept_named (λ f set. refl) begins (entries_of children s) s t r is
+
+    pub counts_collected : (name : Name) → Reached begins (entries_of children s) name
+        → counts t name ≡ counts s name
+    counts_collected =
+        collected_counts (λ f. f) kept_named (λ f set. refl) begins (entries_of children s) s t r is
+
+  pub root_collected : (listed : List Name) (s t : State V) (r : Result Collected AllocError)
+      → CollectsOne (starts_with listed (entries_of children s)) s t r
+      → (name : Name) → has listed name ≡ true → reads t name ≡ reads s name
+  root_collected listed s t r is name among =
+      collected_root (λ f. f) kept_named (λ f set. refl) children listed (entries_of children s) s t
+      r is name among (λ there. there)
 
 -- where each declares one name, their names are listed
 pub listed_singly : {V : Type 0} (name : V → Name) (vs : List V)

@@ -3,7 +3,7 @@ use Rattle.std.specs.Prelude.{◌≡◌, ◌⊎◌, ⊤, ℕ, Bool, List, [], �
 use Rattle.std.specs.List.{fold}
 use Rattle.std.specs.Option.{option_map}
 use Rattle.intern_store.specs.Outcome.{Becomes, IsWhy, MayWant}
-use Rattle.intern_store.specs.State.{State, reads, is_new, interned, interned_name, due_interning, any_count}
+use Rattle.intern_store.specs.State.{State, reads, counts, is_new, interned, interned_name, due_interning, any_count}
 use Rattle.intern_store.specs.declared.names.Name.{Name}
 use Rattle.intern_store.specs.declared.refusal.Refusal.{Refusal}
 use Rattle.intern_store.specs.declared.refusal.Refusal.TheVariants.{OutOfMemory}
@@ -16,6 +16,11 @@ module _ {V : Type 0} where
   -- what was read is read
   abbrev pub ReadsOn : State V → State V → Type 0
   ReadsOn old new = (n : Name) (v : V) → reads old n ≡ Some v → reads new n ≡ Some v
+
+  -- each name reads what it read, and has the count that it had
+  pub record AsBefore (old new : State V) : Type 0 where
+    pub read : (n : Name) → reads new n ≡ reads old n
+    pub count : (n : Name) → counts new n ≡ counts old n
 
   -- in collected mode a value is stored unless an equal one is, and the reference that is answered
   -- stands for it, as far as it is seen

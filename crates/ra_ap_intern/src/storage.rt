@@ -2,7 +2,7 @@
 //!
 //! What differs by kind, which is reading, interning and what a release gives back, is in `intern`
 //! and `intern_slice`.
-ghost use Rattle.std.specs.Prelude.{◌≡◌, ◌<◌, ◌≤◌, ◌==◌, None, true, is_some, IfOk};
+ghost use Rattle.std.specs.Prelude.{◌≡◌, ◌<◌, ◌≤◌, ◌==◌, None, true, is_some, IfOk, map as list_map};
 ghost use Rattle.std.specs.Borrow.{sem};
 ghost use Rattle.std.specs.FinMap as map;
 ghost use Rattle.intern_store.specs.Memory.{least_memory};
@@ -10,6 +10,7 @@ ghost use Rattle.intern_store.specs.Named.{key_name};
 ghost use Rattle.intern_store.specs.Outcome.{Owes, MayWant, Becomes};
 ghost use Rattle.intern_store.specs.State.{IsState, new_state, reads, counts, counted_up, counted_down, due, full, zero_count, any_count};
 ghost use Rattle.ra_ap_intern.specs.Handle.{name_of, ref_name};
+ghost use Rattle.ra_ap_intern.specs.Order.{due_each};
 
 use crate::kind::Kind;
 use intern_store::{EntryKey, Limits, Name, Refusal, Store};
@@ -212,6 +213,18 @@ impl<K: Kind<B>, B> Storage<K, B> {
         }
         if !self.contains(reference) {
             return Err(Refusal::Gone);
+        }
+        Ok(())
+    }
+
+    /// Whether the entries that references name are all here, as those of a value's parts have to be
+    /// so that it can be read down to its last part. Refused as the first that isn't here: `Foreign`,
+    /// `Gone`.
+    pub fn check_all(&self, references: &[Ref<K>]) -> Result<(), Refusal>
+        ensures { Owes result (due_each self.now (list_map ref_name references.now)) }
+    {
+        for reference in references {
+            self.check(*reference)?;
         }
         Ok(())
     }

@@ -18,7 +18,7 @@ use Rattle.ra_ap_intern.specs.declared.gc.Collected.{Collected}
 use Rattle.ra_ap_intern.specs.declared.kind.Values.{Values}
 use Rattle.ra_ap_intern.specs.declared.storage.Ref.{Ref}
 use Rattle.ra_ap_intern.specs.declared.symbol.SymbolRef.{SymbolRef}
-use Rattle.ra_ap_intern.proofs.CallerLemmas.{collected, entry_read, kept_was_read, root_kept, same_names, symbols_changed, tree_kept, tree_on}
+use Rattle.ra_ap_intern.proofs.CallerLemmas.{one_collected, entry_read, kept_was_read, root_kept, same_names, symbols_changed, tree_kept, tree_on, tree_read}
 use Rattle.types.specs.Environment.{declared_as, declared_types, Declares}
 use Rattle.types.specs.Growing.{Grows}
 use Rattle.ra_ap_intern.specs.Tree.{tree}
@@ -41,8 +41,6 @@ listed : {K : Type 0} (test : K → Bool) (es : List (K × Ref (Values TypeNode)
 listed test [] n is = absurd (cc)
 listed test (e ∷ es) n is = listed_first (test e.0) e.1 (lookup test es) _ n (listed test es n) is
 
-unfolds_read : (s : State TypeNode) (x : Tree) (n : Name) → UnfoldsTo s n x → IsSome (reads s n)
-unfolds_read s (tree kind ts) n u = ap is_some u.1
 
 module _ (e : Environment) where
   -- the environment with these types
@@ -70,7 +68,7 @@ module _ (e : Environment) where
             tree_kept declared_by kind_of _ e.types names is tree n
             (root_kept (declared_types e.declared) (types_of e.types) names is n
             (listed _ e.declared.entries n at)
-            (entry_read declared_by e.types n ∙ unfolds_read e.types tree n a)) a
+            (entry_read declared_by e.types n ∙ tree_read declared_by kind_of e.types tree n a)) a
 
     -- and after a collection
     pub declares_collected : (new : State TypeNode) (r : Result Collected AllocError)
@@ -80,9 +78,8 @@ module _ (e : Environment) where
         → OnErr r (new ≡ e.types)
         → Declares e name tree ↔ Declares (over new) name tree
     declares_collected new r is err =
-        collected (λ s. s) kept_named (λ s set. refl)
-        (starts_with (declared_types e.declared) (types_of e.types)) (types_of e.types) e.types new
-        (λ s. Declares e name tree ↔ Declares (over s) name tree) (λ d. d, λ d. d) kept r (is, err)
+        one_collected declared_by (starts_with (declared_types e.declared) (types_of e.types)) e.types new
+        r (is, err) (λ s. Declares e name tree ↔ Declares (over s) name tree) (λ d. d, λ d. d) kept
 
 -- a type under the symbol of a name, and each other as it was
 pub declared_on : {S : Type 0} (eq : SymbolRef → SymbolRef → Bool)

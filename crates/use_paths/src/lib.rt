@@ -5,7 +5,7 @@ ghost use Rattle.std.specs.Prelude.{◌≡◌, ◌↔◌, true, map as list_map,
 ghost use Rattle.std.specs.Option.{option_map};
 ghost use Rattle.ra_ap_intern.specs.Handle.{name_if, ref_name};
 ghost use Rattle.ra_ap_intern.specs.Name.{Name};
-ghost use Rattle.ra_ap_intern.specs.Order.{Falls, IsBuilt};
+ghost use Rattle.ra_ap_intern.specs.Order.{Falls, IsBuilt, line_end};
 ghost use Rattle.ra_ap_intern.specs.State.{State, IsState, reads};
 ghost use Rattle.ra_ap_intern.specs.Symbols.{symbol_ref_name};
 ghost use Rattle.ra_ap_intern.specs.declared.kind.Values.{Values as ValueKind};
@@ -81,6 +81,20 @@ pub fn spell(
         next = parent.get();
     }
     Ok(Some(names))
+}
+
+/// The first name of a path, that of the one above it without a parent. None where one of these isn't
+/// of this storage, or is gone.
+pub fn first_name(paths: &InternStorage<Path>, path: PathRef) -> Option<SymbolRef>
+    requires { Falls declared_by paths.now }
+    ensures { option_map symbol_ref_name result
+        ≡ line_end parent_of last_of paths.now (ref_name path) }
+{
+    let (mut next, mut first) = path.get(paths)?.parts();
+    while let Some(above) = next.get() {
+        (next, first) = above.get(paths)?.parts();
+    }
+    Some(first)
 }
 
 /// Paths are equal exactly if they have the same parent, or none, and the same last name.

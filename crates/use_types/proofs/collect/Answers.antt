@@ -1,7 +1,6 @@
-use Rattle.std.proofs.Common.{refl}
-use Rattle.ra_ap_intern.specs.Families.{kept_named}
 use Rattle.ra_ap_intern.specs.Handle.{ref_name}
-use Rattle.ra_ap_intern.proofs.CallerLemmas.{listed_singly, collected_reads}
+use Rattle.ra_ap_intern.proofs.CallerLemmas.{listed_singly, reads_collected}
+use Rattle.use_types.specs.Types.{declared_by}
 use Rattle.use_types.proofs.collect.Goals as goal
 
 pub returns-clause-ok : goal.returns-clause-ok
@@ -10,5 +9,5 @@ returns-clause-ok c = rw (← listed_singly ref_name c.args.roots.now) c.collect
 pub returns-clause-stays : goal.returns-clause-stays
 returns-clause-stays c =
     rw (← listed_singly ref_name c.args.roots.now)
-    (collected_reads (λ s. s) kept_named (λ s set. refl) _ _ _ _ c.collect_from.result
+    (reads_collected declared_by _ _ _ c.collect_from.result
     (c.collect_from.ensures.ok, c.collect_from.ensures.err))

@@ -1,7 +1,5 @@
-use Rattle.std.proofs.Common.{refl}
-use Rattle.ra_ap_intern.specs.Families.{kept_named}
 use Rattle.ra_ap_intern.specs.Handle.{ref_name}
-use Rattle.ra_ap_intern.proofs.CallerLemmas.{listed_singly, collected_reads}
+use Rattle.ra_ap_intern.proofs.CallerLemmas.{listed_singly, reads_collected}
 use Rattle.types.proofs.store.Types.collect.Goals as goal
 
 pub returns-clause-ok : goal.returns-clause-ok
@@ -11,5 +9,5 @@ returns-clause-ok c =
 pub returns-clause-stays : goal.returns-clause-stays
 returns-clause-stays c =
     rw (← c.self.view_is, ← listed_singly ref_name c.args.roots.now)
-    (collected_reads (λ s. s) kept_named (λ s set. refl) _ _ _ _ c.collect_from.result
+    (reads_collected declared_by _ _ _ c.collect_from.result
     (c.collect_from.ensures.ok, c.collect_from.ensures.err))
