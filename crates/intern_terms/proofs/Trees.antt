@@ -1,5 +1,5 @@
 -- Terms and their trees.
-use Rattle.std.proofs.Common.{◌≡◌, ◌↔◌, ℕ, suc, List, [], ◌∷◌, ◌++◌, map, length, Some, None, IsSome, Result, Ok, Err, refl, sym, ap, subst, ◌∙◌}
+use Rattle.std.proofs.Common.{◌≡◌, ◌↔◌, ℕ, suc, List, [], ◌∷◌, ◌++◌, map, length, Some, None, IsSome, Result, refl, sym, ap, subst, ◌∙◌}
 use Rattle.std.specs.Option.{option_map}
 use Rattle.std.proofs.lemmas.Option.{same_Some}
 use Rattle.ra_ap_intern.specs.Name.{Name}
@@ -14,7 +14,7 @@ use Rattle.intern_terms.specs.Store.{arguments, same_node, IsBuilt, IsTerms}
 use Rattle.intern_terms.specs.Tree.{Tree, Trees, tree, no_more, one_more, count, joined, head_name, UnfoldsTo, AllUnfold}
 use Rattle.intern_terms.specs.declared.handle.TermRef.{TermRef}
 use Rattle.intern_terms.proofs.Names.{same_node-Decides, same_node_laws}
-use Rattle.ra_ap_intern.proofs.CallerLemmas.{one_tree as tree_once, one_name as name_once, one_list as list_once, names_tell_trees as tell_trees, has_tree as tree_there, tree_on as stays_on, forest_on as stay_on, tree_interned as stays_interned, tree_made, forest_first as first_of, forest_none as none_of, forest_one as one_of, forest_two as two_of, reads-recounted}
+use Rattle.ra_ap_intern.proofs.CallerLemmas.{one_tree as tree_once, one_name as name_once, one_list as list_once, names_tell_trees as tell_trees, has_tree as tree_there, tree_on as stays_on, forest_on as stay_on, tree_interned as stays_interned, tree_made, forest_first as first_of, forest_none as none_of, forest_one as one_of, forest_two as two_of, becomes_either, reads-recounted}
 
 module _ (s : State (Sliced Symbol TermRef)) where
   -- a name has one tree
@@ -134,8 +134,7 @@ term_unfolds s ok head args =
 pub tree_becomes : {A E : Type 0} (r : Result A E) (s t next : State (Sliced Symbol TermRef))
     → Becomes r s t next → (x : Tree) (n : Name) → (UnfoldsTo s n x → UnfoldsTo next n x)
     → UnfoldsTo s n x → UnfoldsTo t n x
-tree_becomes (Ok _) s t next is x n on a = subst (λ u. UnfoldsTo u n x) (sym is) (on a)
-tree_becomes (Err _) s t next is x n on a = subst (λ u. UnfoldsTo u n x) (sym is) a
+tree_becomes r s t next is x n on a = becomes_either (λ u. UnfoldsTo u n x) r s t next is a (on a)
 
 -- what a call that stores a term over arguments leaves of trees
 module _ (seen s t : State (Sliced Symbol TermRef)) (head : Symbol) (args : List TermRef)

@@ -21,6 +21,12 @@ use Rattle.ra_ap_intern.proofs.CallerReads.{some_read, read_at, read_below, read
 pub iff_trans : {P Q R : Type 0} → (P ↔ Q) → (Q ↔ R) → P ↔ R
 iff_trans first second = (λ p. second.0 (first.0 p), λ r. first.1 (second.1 r))
 
+-- what holds before a call, and of the next state, holds after it, refused or not
+pub becomes_either : {A E V : Type 0} (P : State V → Type 0) (r : Result A E) (s t next : State V)
+    → Becomes r s t next → P s → P next → P t
+becomes_either P (Ok a) s t next is before after = subst P (sym is) after
+becomes_either P (Err e) s t next is before after = subst P (sym is) before
+
 same_members : {X : Type 0} (a b : Option X) → ((x : X) → a ≡ Some x → b ≡ Some x)
     → ((x : X) → b ≡ Some x → a ≡ Some x) → a ≡ b
 same_members a b there back = grind (arith, there, back)

@@ -91,7 +91,7 @@ fn references_alone(rt: HostRuntime) {
     reads(&rt, &storage, x, ("x", &[1, 2]));
     has_len(&rt, &storage, 2);
     assert!(rt; storage.reference(y.name()) == Ok(y));
-    assert!(rt; storage.check(y).is_ok());
+    assert!(rt; storage.check(y).is_ok() && storage.check_all(&[x, y]).is_ok());
     drop_slices(storage);
 }
 

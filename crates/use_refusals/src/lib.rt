@@ -1,12 +1,11 @@
 //! Refusals, passed on as they are, with what was given, or in an error of one's own.
 #![tactic(auto)]
 
-ghost use Rattle.std.specs.Prelude.{◌≡◌, ◌≢◌, [], None, Some, IfOk, OnOk, IfErr, OnErr};
+ghost use Rattle.std.specs.Prelude.{◌≡◌, ◌≢◌, [], None, IfOk, OnOk, IfErr};
 ghost use Rattle.std.specs.Str.{bytes_eq};
 ghost use Rattle.ra_ap_intern.specs.Handle.{name_of};
-ghost use Rattle.ra_ap_intern.specs.Interning.{AsBefore};
 ghost use Rattle.ra_ap_intern.specs.Outcome.{Becomes, MayWant, MayWantBack};
-ghost use Rattle.ra_ap_intern.specs.State.{counts, is_new, interned_name, interned_counted, due_interning, full};
+ghost use Rattle.ra_ap_intern.specs.State.{is_new, interned_name, interned_counted, due_interning, full};
 ghost use Rattle.ra_ap_intern.specs.Symbols.{symbol_in, symbol_name};
 ghost use Rattle.use_refusals.specs.Both.{IsOfEither};
 ghost use Rattle.use_refusals.specs.WordError.{IsFor};
@@ -24,8 +23,10 @@ pub struct Token {
 /// Why a word has no handle.
 #[derive(Debug, Drop, PartialEq, Error)]
 pub enum WordError {
+    /// It has no letters.
     #[error("the word is empty")]
     Empty,
+    /// It isn't stored, or can't be counted once more.
     #[error("no handle of the word: {0}")]
     Refused(Refusal),
 }
@@ -93,8 +94,7 @@ pub fn handle_of_some(
 }
 
 /// A word in two interners: its handle, and its symbol. Where the symbol is refused, the handle is
-/// released: what was stored for it goes again, and only its birth stays used. So each name reads and
-/// counts what it did, but if the word was stored with count zero.
+/// released: what was stored for it goes again, and only its birth stays used.
 pub fn handle_and_symbol(
     words: &mut InternStorage<Text>,
     table: &mut SymbolTable,
@@ -105,10 +105,10 @@ pub fn handle_and_symbol(
         × (symbol_name r.1 ≡ (symbol_in table.old word.now).symbol)) }
     ensures refused { IfErr result (λ w. IsOfEither w words.old words.new table.old word.now) }
     ensures words { OnOk result (words.new ≡ interned_counted bytes_eq words.old word.now) }
-    ensures undone { OnErr result (counts words.old (interned_name bytes_eq words.old word.now)
-        ≢ Some 0 → AsBefore words.old words.new) }
     ensures table { Becomes result table.old table.new (symbol_in table.old word.now).table }
 {
+    // What `number` says is used here: that no two words are equal.
+    let _number = words.number();
     let handle = words.intern_text(word)?;
     match Symbol::intern(table, word) {
         Ok(symbol) => Ok((handle, symbol)),

@@ -6,11 +6,11 @@ use Rattle.use_paths.specs.Paths.{last_of, parent_of}
 use Rattle.use_paths.proofs.first_name.Given as goal
 
 -- the end above the next path, or the name that was seen if there is none, is that of the first
-abbrev pub invariant-loop-next : goal.invariant-loop-next
-invariant-loop-next l =
+abbrev pub invariant-loop-above : goal.invariant-loop-above
+invariant-loop-above l =
     end_from (symbol_ref_name l.first) (line_end parent_of last_of l.fn.paths) (name_if l.next)
     ≡ line_end parent_of last_of l.fn.paths (ref_name l.fn.path)
 
 -- each parent has an earlier birth
-abbrev pub decreases-loop-next : goal.decreases-loop-next
-decreases-loop-next l = steps_left (name_if l.next)
+abbrev pub decreases-loop-above : goal.decreases-loop-above
+decreases-loop-above l = steps_left (name_if l.next)

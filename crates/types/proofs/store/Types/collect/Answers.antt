@@ -1,5 +1,6 @@
 use Rattle.ra_ap_intern.specs.Handle.{ref_name}
 use Rattle.ra_ap_intern.proofs.CallerLemmas.{listed_singly, reads_collected}
+use Rattle.types.specs.Types.{declared_by}
 use Rattle.types.proofs.store.Types.collect.Goals as goal
 
 pub returns-clause-ok : goal.returns-clause-ok
