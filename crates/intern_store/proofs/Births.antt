@@ -1,14 +1,14 @@
 -- The birth of a value, as the map's entries give it and as look-ups do.
-use Rattle.std.proofs.Common.{◌≡◌, ◌≢◌, ℕ, Bool, true, false, cond, List, [], ◌∷◌, Option, Some, None, IfSome, IfNone, Result, Ok, Err, IfOk, OnErr, refl, sym, ap, ◌∙◌, arith}
+use Rattle.std.proofs.Common.{◌≡◌, ℕ, Bool, true, false, List, [], ◌∷◌, Option, Some, None, IfSome, IfNone, Result, Ok, Err, IfOk, OnErr, refl, sym, ap, ◌∙◌, arith}
 use Rattle.std.specs.Prelude.{T}
 use Rattle.std.specs.Option.{option_map}
 use Rattle.std.specs.Result.{result_ok}
 use Rattle.std.specs.List.{find}
-use Rattle.std.specs.Ordering.{nat_cmp, eq_by_cmp}
+use Rattle.std.specs.Ordering.{nat_cmp}
 use Rattle.std.specs.Cmp.{IsEquivalence}
 use Rattle.std.specs.FinMap.{get, entries, get-entries, entries_sorted, is_sorted}
 use Rattle.std.specs.FinMap.Entries as entry
-use Rattle.std.proofs.lemmas.Bool.{eq-eqb, ne_eqb}
+use Rattle.std.proofs.lemmas.Bool.Decides.{nat_tests}
 use Rattle.intern_store.specs.Kept.{Kept, is_at, is_where}
 use Rattle.intern_store.specs.State.{State, IsState, birth_of, birth_where}
 use Rattle.intern_store.proofs.Compared.{tied}
@@ -18,48 +18,34 @@ module _ {X : Type 0} where
   -- the first entry that passes a test is the entry of its key
   first_found : (p : ℕ × X → Bool) (es : List (ℕ × X)) (e : ℕ × X) → T (is_sorted nat_cmp es) → find p es ≡ Some e → (entry.find nat_cmp e.0 es ≡ Some e.1) × (p e ≡ true)
   first_found p [] e sorted is = absurd (cc)
-  first_found p (x ∷ xs) e sorted is = go (first_found p xs e (parts _ _ sorted).1) (p x) refl is
-    where
-      go : (find p xs ≡ Some e → (entry.find nat_cmp e.0 xs ≡ Some e.1) × (p e ≡ true)) → (t : Bool) → p x ≡ t → cond t (Some x) (find p xs) ≡ Some e → (cond (eq_by_cmp nat_cmp e.0 x.0) (Some x.1) (entry.find nat_cmp e.0 xs) ≡ Some e.1) × (p e ≡ true)
-      go later true t is =
-          let same : x ≡ e = cc in
-          (ap (λ b. cond b (Some x.1) (entry.find nat_cmp e.0 xs)) (tied e.0 x.0 ∙ eq-eqb e.0 x.0 (ap (λ y. y.0) (sym same))) ∙ ap (λ y. Some y.1) same, ap p (sym same) ∙ t)
-      go later false t is =
-          let rest = later is in
-          let higher = above_all x.0 e.0 e.1 xs (parts _ _ sorted).0 rest.0 in
-          let differs : e.0 ≢ x.0 = λ same. absurd (omega (arith, higher, same)) in
-          (ap (λ b. cond b (Some x.1) (entry.find nat_cmp e.0 xs)) (tied e.0 x.0 ∙ ne_eqb e.0 x.0 differs) ∙ rest.0, rest.1)
+  first_found p (x ∷ xs) e sorted is =
+      let sides = parts _ _ sorted in
+      let rest = first_found p xs e sides.1 in
+      let higher = above_all x.0 e.0 e.1 xs sides.0 in
+      (grind (arith, nat_tests, rest, higher, tied), grind (arith, rest))
 
   -- where no entry passes, none that a key finds does
   none_found : (p : ℕ × X → Bool) (f : X → Bool) → ((e : ℕ × X) → p e ≡ f e.1) → (es : List (ℕ × X)) (q : ℕ) (v : X) → find p es ≡ None → entry.find nat_cmp q es ≡ Some v → f v ≡ false
   none_found p f by [] q v none is = absurd (cc)
-  none_found p f by (x ∷ xs) q v none is = go (none_found p f by xs q v) (p x) refl none (eq_by_cmp nat_cmp q x.0) is
-    where
-      go : (find p xs ≡ None → entry.find nat_cmp q xs ≡ Some v → f v ≡ false) → (t : Bool) → p x ≡ t → cond t (Some x) (find p xs) ≡ None → (b : Bool) → cond b (Some x.1) (entry.find nat_cmp q xs) ≡ Some v → f v ≡ false
-      go later true t none b is = absurd (cc)
-      go later false t none true is = let same : x.1 ≡ v = cc in ap f (sym same) ∙ sym (by x) ∙ t
-      go later false t none false is = later none is
+  none_found p f by (x ∷ xs) q v none is = let rest = none_found p f by xs q v in grind (arith, rest, by x)
 
 module _ {V : Type 0} (test : V → Bool) where
+  -- what passes is kept
+  pub passing : (o : Option (Kept V)) → is_where test o ≡ true → (k : Kept V) × (o ≡ Some k) × (test k.value ≡ true)
+  passing (Some k) is = (k, refl, is)
+  passing None is = absurd (cc)
+
   -- an entry that is told by a test of its value is there
   pub is_there : (s : State V) (b : ℕ) → birth_where test s ≡ Some b → is_where test (get s.map b) ≡ true
-  is_there s b is = go (find (λ e. test e.1.value) (entries s.map)) refl is
-    where
-      go : (o : Option (ℕ × Kept V)) → find (λ e. test e.1.value) (entries s.map) ≡ o → option_map (λ e. e.0) o ≡ Some b → is_where test (get s.map b) ≡ true
-      go None found is = absurd (cc)
-      go (Some e) found is =
-          let same : e.0 ≡ b = cc in
-          let first = first_found _ (entries s.map) e (entries_sorted s.map) found in
-          ap (is_where test) (ap (get s.map) (sym same) ∙ get-entries s.map e.0 ∙ first.0) ∙ first.1
+  is_there s b is =
+      let first = λ (e : ℕ × Kept V). first_found (λ e. test e.1.value) (entries s.map) e (entries_sorted s.map) in
+      grind (arith, first, get-entries s.map b)
 
   -- where no birth is told, no entry's value passes
   pub not_there : (s : State V) → birth_where test s ≡ None → (b : ℕ) → is_where test (get s.map b) ≡ false
-  not_there s is b = go (find (λ e. test e.1.value) (entries s.map)) refl is (get s.map b) refl
-    where
-      go : (o : Option (ℕ × Kept V)) → find (λ e. test e.1.value) (entries s.map) ≡ o → option_map (λ e. e.0) o ≡ None → (r : Option (Kept V)) → get s.map b ≡ r → is_where test r ≡ false
-      go o found is None has = refl
-      go None found is (Some k) has = none_found _ (λ x. test x.value) (λ e. refl) (entries s.map) b k found (sym (get-entries s.map b) ∙ has)
-      go (Some e) found is (Some k) has = absurd (cc)
+  not_there s is b =
+      let none = none_found (λ e. test e.1.value) (λ k. test k.value) (λ e. refl) (entries s.map) b in
+      grind (arith, none, get-entries s.map b)
 
   -- no birth is told where no entry's value passes
   pub none_where : (s t : State V) → s ≡ t → ((b : ℕ) → is_where test (get s.map b) ≡ false) → birth_where test t ≡ None
@@ -73,12 +59,10 @@ module _ {V : Type 0} (test : V → Bool) where
   module _ (eq : V → V → Bool) (alike : (v w : V) → test v ≡ true → test w ≡ true → eq v w ≡ true) (s t : State V) (view : s ≡ t) (ok : IsState eq s) where
     -- two entries whose values pass are one
     one : (b c : ℕ) → is_where test (get s.map b) ≡ true → is_where test (get s.map c) ≡ true → b ≡ c
-    one b c first second = go (get s.map b) refl first (get s.map c) refl second
-      where
-        go : (o : Option (Kept V)) → get s.map b ≡ o → is_where test o ≡ true → (r : Option (Kept V)) → get s.map c ≡ r → is_where test r ≡ true → b ≡ c
-        go None hb e r hc f = absurd (cc)
-        go (Some k) hb e None hc f = absurd (cc)
-        go (Some k) hb e (Some l) hc f = ok.apart b c k l hb hc (alike k.value l.value e f)
+    one b c first second =
+        let k = passing (get s.map b) first in
+        let l = passing (get s.map c) second in
+        ok.apart b c k.0 l.0 k.1 l.1 (alike k.0.value l.0.value k.2 l.2)
 
     -- the birth of an entry whose value passes
     pub found_where : (b : ℕ) → is_where test (get s.map b) ≡ true → birth_where test t ≡ Some b

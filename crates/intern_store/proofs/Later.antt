@@ -1,9 +1,8 @@
 -- What a later state of a storage has of an earlier one.
-use Rattle.std.proofs.Common.{◌≡◌, ℕ, ◌+◌, ◌-◌, ◌<◌, ◌≤◌, ◌==◌, Bool, true, false, cond, Option, Some, None, nat_eq, ◌⊎◌, inl, inr, refl, ap, ◌∙◌, arith}
-use Rattle.std.specs.FinMap as map
+use Rattle.std.proofs.Common.{◌≡◌, ℕ, ◌+◌, ◌-◌, ◌<◌, ◌≤◌, Bool, true, false, cond, Option, Some, None, ◌⊎◌, inl, inr, refl, ◌∙◌, arith}
 use Rattle.std.specs.Option.{option_map}
-use Rattle.std.proofs.lemmas.Bool.{ne_eqb}
-use Rattle.intern_store.specs.Kept.{Kept, recount}
+use Rattle.std.proofs.lemmas.Bool.Decides.{nat_tests}
+use Rattle.intern_store.specs.Kept.{recount}
 use Rattle.intern_store.specs.State.{State, IsGone, entry_at, reads, with_count, counted_up, counted_down, added, birth_of, or_added, interned, taken, is_last, released, kept}
 use Rattle.intern_store.specs.declared.names.Name.{Name}
 use Rattle.intern_store.proofs.Compared.{get-inserted, get-removed, get-retained, get-modified}
@@ -19,12 +18,7 @@ module _ {V : Type 0} where
 
   -- a count changes no value
   pub recounted_value : (f : ℕ → ℕ) (s : State V) (b c : ℕ) → value_at (with_count f s b (entry_at s b)) c ≡ value_at s c
-  recounted_value f s b c = ap (option_map (λ k. k.value)) (get-modified (recount f) s.map b c) ∙ go (nat_eq c b) (entry_at s c)
-    where
-      go : (t : Bool) (o : Option (Kept V)) → option_map (λ k. k.value) (cond t (option_map (recount f) o) o) ≡ option_map (λ k. k.value) o
-      go false o = refl
-      go true None = refl
-      go true (Some k) = refl
+  recounted_value f s b c = grind (arith, get-modified (recount f) s.map b c)
 
   -- what a later state of a storage has of an earlier one
   pub record Later (s t : State V) : Type 0 where
@@ -68,35 +62,21 @@ module _ {V : Type 0} where
   taken_later s c = record {
     number = refl;
     births = omega arith;
-    values = λ b h. rw (get-removed s.map c b) (either b (nat_eq b c));
+    values = λ b h. grind (arith, get-removed s.map c b);
   }
-    where
-      either : (b : ℕ) (t : Bool)
-          → (option_map (λ (e : Kept V). e.value) (cond t None (map.get s.map b)) ≡ value_at s b)
-          ⊎ (option_map (λ (e : Kept V). e.value) (cond t None (map.get s.map b)) ≡ None)
-      either b true = inr refl
-      either b false = inl refl
 
   pub kept_later : (s : State V) (marked : ℕ → Bool) → Later s (kept s marked)
   kept_later s marked = record {
     number = refl;
     births = omega arith;
-    values = λ b h. rw (get-retained s.map marked b) (either b (marked b));
+    values = λ b h. grind (arith, get-retained s.map marked b);
   }
-    where
-      either : (b : ℕ) (t : Bool)
-          → (option_map (λ (e : Kept V). e.value) (cond t (map.get s.map b) None) ≡ value_at s b)
-          ⊎ (option_map (λ (e : Kept V). e.value) (cond t (map.get s.map b) None) ≡ None)
-      either b true = inl refl
-      either b false = inr refl
 
   added_later : (s : State V) (v : V) → Later s (added s v)
   added_later s v = record {
     number = refl;
     births = omega arith;
-    values = λ b h. inl (ap (option_map (λ (e : Kept V). e.value)) (get-inserted s.map s.next _ b
-        ∙ ap (λ t. cond t (Some (record { value = v; count = 0 })) (map.get s.map b))
-        (ne_eqb b s.next (λ same. omega arith))));
+    values = λ b h. inl (grind (arith, nat_tests, get-inserted));
   }
 
   pub interned_later : (eq : V → V → Bool) (s : State V) (v : V) → Later s (interned eq s v).state
@@ -122,23 +102,12 @@ module _ {V : Type 0} where
   -- what a name whose birth was given reads later is what it read, or nothing
   pub reads_later : (s t : State V) → Later s t → (name : Name) → name.birth < s.next
       → (reads t name ≡ reads s name) ⊎ (reads t name ≡ None)
-  reads_later s t later name given = elim (later.values name.birth given) [
-    | inl same ↦ inl (ap (λ k. cond (name.storage == k) (value_at t name.birth) None) later.number
-        ∙ ap (λ o. cond (name.storage == s.number) o None) same)
-    | inr none ↦ inr (ap (λ o. cond (name.storage == t.number) o None) none
-        ∙ neither (name.storage == t.number))
-  ]
+  reads_later s t later name given =
+      let value = later.values name.birth given in let number = later.number in grind arith
 
   -- what is gone stays gone
   pub gone_later : (s t : State V) → Later s t → (b : ℕ) → IsGone s b → IsGone t b
   gone_later s t later b gone = record {
     given = let below = gone.given in let more = later.births in omega arith;
-    none = no_entry (entry_at t b) (elim (later.values b gone.given) [
-      | inl same ↦ same ∙ ap (option_map (λ k. k.value)) gone.none
-      | inr none ↦ none
-    ]);
+    none = let value = later.values b gone.given in grind arith;
   }
-    where
-      no_entry : (o : Option (Kept V)) → option_map (λ k. k.value) o ≡ None → o ≡ None
-      no_entry None is = refl
-      no_entry (Some k) is = absurd (cc)

@@ -1,5 +1,5 @@
 -- The entries of a map as a list, in whatever order.
-use Rattle.std.proofs.Common.{◌≡◌, ℕ, cond, List, [], ◌∷◌, Some, None, Less, Equal, Greater, refl, sym, ap, subst, ◌∙◌}
+use Rattle.std.proofs.Common.{◌≡◌, ℕ, cond, List, [], ◌∷◌, Some, None, Less, Equal, Greater, refl, sym, ap, subst, ◌∙◌, arith}
 use Rattle.std.specs.Prelude.{IsPermutation}
 use Rattle.std.specs.Ordering.{nat_cmp, is_eq}
 use Rattle.std.specs.Cmp.{nat_cmp_total}
@@ -14,9 +14,9 @@ module _ {X : Type 0} where
   put_fresh b x (e ∷ es) none =
       elim (nat_cmp b e.0) as (λ o. nat_cmp b e.0 ≡ o → IsPermutation ((b, x) ∷ e ∷ es) (by_order o ((b, x) ∷ e ∷ es) ((e.0, x) ∷ es) (e ∷ put nat_cmp b x es))) [
         | Less ↦ λ p. IsPermutation-refl _
-        | Equal ↦ λ p. let some : Some e.1 ≡ None = ap (λ o. cond (is_eq o) (Some e.1) (find nat_cmp b es)) (sym p) ∙ none in absurd (cc)
+        | Equal ↦ λ p. absurd (grind arith)
         | Greater ↦ λ p.
-            let rest : find nat_cmp b es ≡ None = ap (λ o. cond (is_eq o) (Some e.1) (find nat_cmp b es)) (sym p) ∙ none in
+            let rest : find nat_cmp b es ≡ None = grind arith in
             IsPermutation-trans _ _ _ (IsPermutation-sym _ _ (IsPermutation-middle (e ∷ []) (b, x) es)) (IsPermutation-cons e _ _ (put_fresh b x es rest))
       ] refl
 

@@ -1,14 +1,17 @@
 //! What all storages share: a table with the storage's number, its limits and the next birth.
-ghost use Rattle.std.specs.Prelude.{◌≡◌, ◌<◌, ◌≤◌, ◌==◌, if◌then◌else◌, OnOk, IsOk, true, Some, None, IsSome, IfSome, IfNone, ◌≢◌, IfOk, IfErr};
+ghost use Rattle.std.specs.Prelude.{◌≡◌, ◌<◌, ◌≤◌, ◌==◌, if◌then◌else◌, true, Some, None, IsSome, IfSome, IfNone, ◌≢◌, IfOk, IfErr};
 ghost use Rattle.std.specs.Result.{result_ok};
 ghost use Rattle.std.specs.FinMap as map;
 ghost use Rattle.std.specs.Option.{option_map};
 ghost use Rattle.intern_store.specs.Memory.{least_memory};
 ghost use Rattle.intern_store.specs.Named.{key_name};
-ghost use Rattle.intern_store.specs.Outcome.{Owes, OwesBack, MayWant, MayWantBack, Becomes, Spends};
-ghost use Rattle.intern_store.specs.State.{HasRoom, IsState, new_state, name_in, entry_at, count_at, counts, counted_up, counted_down, taken, added_with, birth_of, birth_where, is_new, interned, interned_name, interned_counted, given_back, name_of_value, name_where, due, due_at, due_adding, due_interning, due_found_full, found_counted, full, zero_count, any_count, freed, released, kept};
+ghost use Rattle.intern_store.specs.Outcome.{Owes, OwesBack, MayWantBack, Becomes, Spends};
+ghost use Rattle.intern_store.specs.State.{HasRoom, IsState, new_state, name_in, entry_at, count_at, counts, counted_up, counted_down, added_with, birth_of, birth_where, is_new, interned, interned_name, interned_counted, given_back, name_of_value, name_where, due, due_at, due_adding, due_interning, due_found_full, found_counted, full, zero_count, any_count};
 
-use crate::entries::{Entries, Finds, Keeps, Pools, Raises, Removes, Seeks, Sweeps, Takes};
+mod removing;
+mod room;
+
+use crate::entries::{Entries, Finds, Raises, Seeks, Takes};
 use crate::names::{EntryKey, Limits, Spot};
 use crate::refusal::{Refusal, Refused};
 use std::alloc::Global;
@@ -95,17 +98,6 @@ impl<E: Entries> Store<E> {
             numbers: limits.numbers,
             table: E::new(alloc, hasher),
         }
-    }
-
-    /// Makes room for this many more entries. Refused: `OutOfMemory`.
-    pub fn reserve(&mut self, additional: usize) -> Result<(), Refusal>
-        ensures refused { MayWant result None true }
-        ensures state { self.new.state ≡ self.old.state }
-        ensures hasher { self.new.hasher ≡ self.old.hasher }
-        ensures room { OnOk result (additional ≤ self.new.room) }
-    {
-        let reserved = self.table.reserve(additional);
-        reserved.map_err(|_| Refusal::OutOfMemory)
     }
 
     /// The storage's number.
@@ -449,64 +441,5 @@ impl<E: Entries> Store<E> {
         let spot = self.spot(key)?;
         self.lower(spot)?;
         Ok(())
-    }
-}
-
-impl<E: Pools> Store<E> {
-    /// Makes room for this much more outside of the entries. Refused: `OutOfMemory`, where there isn't
-    /// so much yet.
-    pub fn reserve_outside(&mut self, additional: usize) -> Result<(), Refusal>
-        ensures refused { MayWant result None true }
-        ensures roomy { additional ≤ self.old.spare → IsOk result }
-        ensures state { self.new.state ≡ self.old.state }
-        ensures hasher { self.new.hasher ≡ self.old.hasher }
-        ensures room { self.new.room ≡ self.old.room }
-        ensures spare { OnOk result (additional ≤ self.new.spare) }
-        ensures stays { self.old.spare ≤ self.new.spare }
-    {
-        let reserved = self.table.reserve_outside(additional);
-        reserved.map_err(|_| Refusal::OutOfMemory)
-    }
-}
-
-impl<E: Removes> Store<E> {
-    // Removes an entry, and answers its value.
-    fn take(&mut self, spot: Spot) -> Option<E::Value>
-        ensures value { result ≡ option_map (λ k. k.value) (entry_at self.old.state spot.birth) }
-        ensures state { self.new.state ≡ taken self.old.state spot.birth }
-        ensures hasher { self.new.hasher ≡ self.old.hasher }
-    {
-        self.table.remove(spot)
-    }
-
-    /// Counts an entry once less. With the last count the entry is removed and its value comes
-    /// back, unless entries stay.
-    pub fn release(&mut self, key: EntryKey, stays: bool) -> Result<Option<E::Value>, Refusal>
-        ensures value { IfOk result (λ v. v ≡ freed stays self.old.state key.spot.birth) }
-        ensures refused { Owes result (due self.old.state (key_name key) zero_count) }
-        ensures state { Becomes result self.old.state self.new.state
-            (released stays self.old.state key.spot.birth) }
-        ensures hasher { self.new.hasher ≡ self.old.hasher }
-    {
-        let spot = self.spot(key)?;
-        let count = self.lower(spot)?;
-        if count == 1 && !stays {
-            return Ok(self.take(spot));
-        }
-        Ok(None)
-    }
-}
-
-impl<E: Entries> Store<E> {
-    /// Drops every entry that isn't marked. It takes no memory. Their births are not given again.
-    pub fn keep<M: Keeps>(&mut self, marks: &M)
-    where
-        E: Sweeps<M>,
-        ensures state { self.new.state ≡ kept self.old.state (M.marked marks.now) }
-        ensures hasher { self.new.hasher ≡ self.old.hasher }
-    {
-        // A field that is read brings in the invariant, which the table alone doesn't know.
-        let _next = self.next;
-        self.table.keep(marks);
     }
 }
