@@ -21,7 +21,6 @@ use Rattle.ra_ap_intern.specs.declared.symbol.SymbolRef.{SymbolRef}
 use Rattle.ra_ap_intern.proofs.CallerLemmas.{one_collected, entry_read, kept_was_read, root_kept, same_names, symbols_changed, tree_kept, tree_on, tree_read}
 use Rattle.types.specs.Environment.{declared_as, declared_types, Declares}
 use Rattle.types.specs.Growing.{Grows}
-use Rattle.ra_ap_intern.specs.Tree.{tree}
 use Rattle.types.specs.Tree.{Tree, UnfoldsTo}
 use Rattle.types.specs.Types.{declared_by, kind_of, types_of}
 use Rattle.types.specs.declared.environment.Environment.{Environment}
