@@ -24,60 +24,74 @@ fn first_answer(rt: &impl Abort, alloc: Global, text: &str) -> String {
     String::from_str(alloc, line).expect(rt, "memory")
 }
 
+fn check_first(rt: &impl Abort, alloc: Global, text: &str, answer: &str) {
+    assert_eq!(rt; first_answer(rt, alloc, text).as_str(), answer);
+}
+
+// Declarations, and the first line of the answers to each.
+const TEXTBOOK: &[(&str, &str)] = &[
+    ("id x = x;", "id : 'a -> 'a"),
+    ("const x y = x;", "const : 'a -> 'b -> 'a"),
+    (
+        "compose f g x = f (g x);",
+        "compose : ('a -> 'b) -> ('c -> 'a) -> 'c -> 'b",
+    ),
+    ("twice f x = f (f x);", "twice : ('a -> 'a) -> 'a -> 'a"),
+    (
+        "s x y z = x z (y z);",
+        "s : ('a -> 'b -> 'c) -> ('a -> 'b) -> 'a -> 'c",
+    ),
+    (
+        "y f = (fun x -> f (x x)) (fun x -> f (x x));",
+        "1:22: infinite type: 'a = 'a -> 'b",
+    ),
+    ("swap p = (snd p, fst p);", "swap : 'a * 'b -> 'b * 'a"),
+    (
+        "rec map f p = (f (fst p), map f (snd p));",
+        "1:5: infinite type: 'a = 'b * 'a",
+    ),
+    ("both = let f x = x in (f 1, f true);", "both : int * bool"),
+    (
+        "both = (fun f -> (f 1, f true)) (fun x -> x);",
+        "1:26: can't unify int with bool",
+    ),
+    (
+        "rec fact n = if n < 1 then 1 else n * fact (n - 1);",
+        "fact : int -> int",
+    ),
+    (
+        "rec fib n = if n < 2 then n else fib (n - 1) + fib (n - 2);",
+        "fib : int -> int",
+    ),
+    ("zero f x = x;", "zero : 'a -> 'b -> 'b"),
+    (
+        "succ n f x = f (n f x);",
+        "succ : (('a -> 'b) -> 'c -> 'a) -> ('a -> 'b) -> 'c -> 'b",
+    ),
+    ("inner x = let y = x in (y, y);", "inner : 'a -> 'a * 'a"),
+    (
+        "three = ((1, true), 2 == 3);",
+        "three : (int * bool) * bool",
+    ),
+    ("minus = 1 - 2 - 3 < 4 * 5 + 6;", "minus : bool"),
+    ("missing = x;", "1:11: unbound name x"),
+    ("if = 3;", "1:1: expected a declaration"),
+    ("x = 1 + ;", "1:9: expected an expression"),
+    ("x = (1, 2;", "1:10: expected an operator or )"),
+    ("x = 1", "1:6: expected an operator or ;"),
+];
+
 #[test]
 fn textbook_examples(rt: HostRuntime) {
-    for (text, answer) in [
-        ("id x = x;", "id : 'a -> 'a"),
-        ("const x y = x;", "const : 'a -> 'b -> 'a"),
-        (
-            "compose f g x = f (g x);",
-            "compose : ('a -> 'b) -> ('c -> 'a) -> 'c -> 'b",
-        ),
-        ("twice f x = f (f x);", "twice : ('a -> 'a) -> 'a -> 'a"),
-        (
-            "s x y z = x z (y z);",
-            "s : ('a -> 'b -> 'c) -> ('a -> 'b) -> 'a -> 'c",
-        ),
-        (
-            "y f = (fun x -> f (x x)) (fun x -> f (x x));",
-            "1:22: infinite type: 'a = 'a -> 'b",
-        ),
-        ("swap p = (snd p, fst p);", "swap : 'a * 'b -> 'b * 'a"),
-        (
-            "rec map f p = (f (fst p), map f (snd p));",
-            "1:5: infinite type: 'a = 'b * 'a",
-        ),
-        ("both = let f x = x in (f 1, f true);", "both : int * bool"),
-        (
-            "both = (fun f -> (f 1, f true)) (fun x -> x);",
-            "1:26: can't unify int with bool",
-        ),
-        (
-            "rec fact n = if n < 1 then 1 else n * fact (n - 1);",
-            "fact : int -> int",
-        ),
-        (
-            "rec fib n = if n < 2 then n else fib (n - 1) + fib (n - 2);",
-            "fib : int -> int",
-        ),
-        ("zero f x = x;", "zero : 'a -> 'b -> 'b"),
-        (
-            "succ n f x = f (n f x);",
-            "succ : (('a -> 'b) -> 'c -> 'a) -> ('a -> 'b) -> 'c -> 'b",
-        ),
-        ("inner x = let y = x in (y, y);", "inner : 'a -> 'a * 'a"),
-        (
-            "three = ((1, true), 2 == 3);",
-            "three : (int * bool) * bool",
-        ),
-        ("minus = 1 - 2 - 3 < 4 * 5 + 6;", "minus : bool"),
-        ("missing = x;", "1:11: unbound name x"),
-        ("if = 3;", "1:1: expected a declaration"),
-        ("x = 1 + ;", "1:9: expected an expression"),
-        ("x = (1, 2;", "1:10: expected an operator or )"),
-        ("x = 1", "1:6: expected an operator or ;"),
-    ] {
-        assert_eq!(rt; first_answer(&rt, rt.alloc(), text).as_str(), answer);
+    for (text, answer) in TEXTBOOK {
+        check_first(&rt, rt.alloc(), text, answer);
+    }
+}
+
+// Appends a text so often.
+fn put_often(rt: &impl Abort, out: &mut String, text: &str, count: u32) {
+    for _ in 0..count {
+        put(rt, out, text);
     }
 }
 
@@ -91,23 +105,24 @@ fn nested(
 ) -> String {
     let mut text = String::new(alloc);
     put(rt, &mut text, "x = ");
-    for _ in 0..count {
-        put(rt, &mut text, before);
-    }
+    put_often(rt, &mut text, before, count);
     put(rt, &mut text, middle);
-    for _ in 0..count {
-        put(rt, &mut text, after);
-    }
+    put_often(rt, &mut text, after, count);
     put(rt, &mut text, ";");
     text
+}
+
+// The first line of the answers to such a declaration.
+fn nested_answer(rt: &impl Abort, alloc: Global, parts: (&str, &str, &str), count: u32) -> String {
+    let text = nested(rt, alloc, parts, count);
+    first_answer(rt, alloc, text.as_str())
 }
 
 // Of a type of more than a hundred pieces the beginning is written, with dots behind it.
 #[test]
 fn long_types_are_cut(rt: HostRuntime) {
     for (count, end) in [(33, " -> int"), (34, " -> ..")] {
-        let text = nested(&rt, rt.alloc(), ("fun a -> ", "1", ""), count);
-        let answer = first_answer(&rt, rt.alloc(), text.as_str());
+        let answer = nested_answer(&rt, rt.alloc(), ("fun a -> ", "1", ""), count);
         assert!(rt; answer.as_str().ends_with(end));
     }
 }
@@ -115,26 +130,29 @@ fn long_types_are_cut(rt: HostRuntime) {
 #[test]
 fn deep_parentheses_are_answered(rt: HostRuntime) {
     let text = nested(&rt, rt.alloc(), ("(", "1", ")"), 100_000);
-    assert_eq!(rt;
-        first_answer(&rt, rt.alloc(), text.as_str()).as_str(),
-        "x : int"
-    );
+    check_first(&rt, rt.alloc(), text.as_str(), "x : int");
+}
+
+// The parts of deep texts, and how the first line of the answers to each begins.
+const DEEP: &[((&str, &str, &str), &str)] = &[
+    (("fst (1, ", "true", ")"), "x : int"),
+    (("let y = 1 in ", "y", ""), "x : int"),
+    (("", "fst", " 1"), "1:9: can't unify 'a * 'b with int"),
+    (("1 + (", "2", ")"), "x : int"),
+    (("if true then 1 else ", "2", ""), "x : int"),
+    (("fun y -> ", "y", ""), "x : 'a -> 'b -> 'c -> "),
+    (("(", "1", ", 1)"), "x : (((((((((("),
+];
+
+fn check_deep(rt: &impl Abort, alloc: Global, parts: (&str, &str, &str), begins: &str) {
+    let answer = nested_answer(rt, alloc, parts, 5_000);
+    assert!(rt; answer.as_str().starts_with(begins), "{answer}");
 }
 
 #[test]
 fn deep_texts_are_answered(rt: HostRuntime) {
-    for (parts, begins) in [
-        (("fst (1, ", "true", ")"), "x : int"),
-        (("let y = 1 in ", "y", ""), "x : int"),
-        (("", "fst", " 1"), "1:9: can't unify 'a * 'b with int"),
-        (("1 + (", "2", ")"), "x : int"),
-        (("if true then 1 else ", "2", ""), "x : int"),
-        (("fun y -> ", "y", ""), "x : 'a -> 'b -> 'c -> "),
-        (("(", "1", ", 1)"), "x : (((((((((("),
-    ] {
-        let text = nested(&rt, rt.alloc(), parts, 5_000);
-        let answer = first_answer(&rt, rt.alloc(), text.as_str());
-        assert!(rt; answer.as_str().starts_with(begins), "{answer}");
+    for (parts, begins) in DEEP {
+        check_deep(&rt, rt.alloc(), *parts, begins);
     }
 }
 
@@ -145,23 +163,36 @@ fn has_parts(types: &Types, handle: TypeRef, first: TypeRef, second: TypeRef) ->
     }
 }
 
-// An environment in which the first name is declared anew, so that nothing needs the last type.
-fn declared(
-    rt: &impl Abort,
-    alloc: Global,
-    first: SymbolRef,
-    second: SymbolRef,
-) -> (Environment, [TypeRef; 4]) {
-    let mut environment = Environment::new(alloc, 2);
-    let types = &mut environment.types;
+// Integers, their pair, the functions from it to them, and those from it to these functions.
+fn make_types(rt: &impl Abort, types: &mut Types) -> [TypeRef; 4] {
     let integer = types.make(TypeNode::Integer).expect(rt, "memory");
     let pair = types.pair(integer, integer).expect(rt, "memory");
     let kept = types.function(pair, integer).expect(rt, "memory");
     let gone = types.function(pair, kept).expect(rt, "memory");
-    for (name, handle) in [(first, gone), (second, integer), (first, kept)] {
-        environment.declare(name, handle).expect(rt, "memory");
-    }
-    (environment, [integer, pair, kept, gone])
+    [integer, pair, kept, gone]
+}
+
+fn declare(rt: &impl Abort, environment: &mut Environment, name: SymbolRef, handle: TypeRef) {
+    environment.declare(name, handle).expect(rt, "memory");
+}
+
+// The first name is declared anew, so that nothing needs the last type.
+fn check_collection(
+    rt: &impl Abort,
+    alloc: Global,
+    environment: &mut Environment,
+    (first, second): (SymbolRef, SymbolRef),
+) {
+    let [integer, pair, kept, gone] = make_types(rt, &mut environment.types);
+    declare(rt, environment, first, gone);
+    declare(rt, environment, second, integer);
+    declare(rt, environment, first, kept);
+    let told = environment.collect(alloc).expect(rt, "memory");
+    assert_eq!(rt; (told.visits, told.removed), (3, 1));
+    assert!(rt; environment.look_up(first) == Some(kept));
+    assert!(rt; has_parts(&environment.types, kept, pair, integer));
+    assert!(rt; has_parts(&environment.types, pair, integer, integer));
+    assert!(rt; environment.types.get(gone).is_none());
 }
 
 #[test]
@@ -169,13 +200,8 @@ fn a_collection_keeps_what_is_declared(rt: HostRuntime) {
     let names = SymbolTable::new(rt.alloc(), 1);
     let first = names.get("i32").expect(&rt, "a preset");
     let second = names.get("str").expect(&rt, "a preset");
-    let (mut environment, [integer, pair, kept, gone]) = declared(&rt, rt.alloc(), first, second);
-    let told = environment.collect(rt.alloc()).expect(&rt, "memory");
-    assert_eq!(rt; (told.visits, told.removed), (3, 1));
-    assert!(rt; environment.look_up(first) == Some(kept));
-    assert!(rt; has_parts(&environment.types, kept, pair, integer));
-    assert!(rt; has_parts(&environment.types, pair, integer, integer));
-    assert!(rt; environment.types.get(gone).is_none());
+    let environment = &mut Environment::new(rt.alloc(), 2);
+    check_collection(&rt, rt.alloc(), environment, (first, second));
 }
 
 #[test]
@@ -198,7 +224,6 @@ struct Counts {
 // Appends the answer that the reference gives, and counts it.
 fn refer(
     rt: &impl Abort,
-    alloc: Global,
     out: &mut String,
     reference: &mut Reference,
     generator: &Generator,
@@ -209,7 +234,7 @@ fn refer(
         Ok(place) => {
             counts.typed = counts.typed.saturating_add(1);
             put(rt, out, "f : ");
-            reference.write(rt, FUEL, out, &mut Vec::new(alloc), (place, 0));
+            reference.write(rt, out, place);
             ""
         }
         Err(Kind::Unbound) => {
@@ -241,7 +266,6 @@ fn is_same(answer: &str, wanted: &str) -> bool {
 // Appends a declaration to a text, and the reference's answer to others.
 fn add_declaration(
     rt: &impl Abort,
-    alloc: Global,
     (text, wanted): (&mut String, &mut String),
     reference: &mut Reference,
     generator: &mut Generator,
@@ -253,7 +277,7 @@ fn add_declaration(
     put(rt, text, "f = ");
     write_expression(rt, text, FUEL, generator.all.as_slice(), at);
     put(rt, text, ";\n");
-    refer(rt, alloc, wanted, reference, generator, at, counts);
+    refer(rt, wanted, reference, generator, at, counts);
 }
 
 fn compare(rt: &impl Abort, alloc: Global, seed: u64, counts: &mut Counts) {
@@ -264,15 +288,7 @@ fn compare(rt: &impl Abort, alloc: Global, seed: u64, counts: &mut Counts) {
     for step in 0..20 {
         let texts = (&mut text, &mut wanted);
         let depth = 1 + step % 5;
-        add_declaration(
-            rt,
-            alloc,
-            texts,
-            &mut reference,
-            &mut generator,
-            depth,
-            counts,
-        );
+        add_declaration(rt, texts, &mut reference, &mut generator, depth, counts);
     }
     let told = answers(rt, alloc, text.as_str());
     for (answer, wanted) in told.as_str().lines().zip(wanted.as_str().lines()) {

@@ -1,4 +1,6 @@
 //! Random expressions.
+ghost use Rattle.std.specs.Prelude.{◌<◌};
+
 use std::alloc::Global;
 use std::process::Abort;
 
@@ -124,12 +126,26 @@ impl Generator {
     }
 }
 
+/// The expression at a place.
+pub fn expression_at(rt: &impl Abort, all: &[Expression], at: usize) -> Expression {
+    *all.get(at).expect(rt, "an expression")
+}
+
+/// One less fuel, of which there has to be some.
+pub fn less(rt: &impl Abort, fuel: u32) -> u32
+    ensures { result < fuel }
+{
+    assert!(rt; fuel > 0);
+    fuel - 1
+}
+
 /// Appends a text.
 pub fn put(rt: &impl Abort, out: &mut String, text: &str) {
     out.push_str(text).expect(rt, "memory");
 }
 
 /// Appends an expression as it is written, each part in parentheses.
+#[cycle(write_expression)]
 pub fn write_expression(
     rt: &impl Abort,
     out: &mut String,
@@ -137,49 +153,67 @@ pub fn write_expression(
     all: &[Expression],
     at: usize,
 ) {
-    assert!(rt; fuel > 0);
-    let expression = *all.get(at).expect(rt, "an expression");
+    let fuel = less(rt, fuel);
+    let expression = expression_at(rt, all, at);
+    let (before, name, between) = words(expression);
     put(rt, out, "(");
+    put(rt, out, before);
+    put(rt, out, name);
+    put(rt, out, between);
+    write_parts(rt, out, fuel, all, expression);
+    put(rt, out, ")");
+}
+
+// Appends the parts of an expression.
+#[cycle(write_expression)]
+fn write_parts(
+    rt: &impl Abort,
+    out: &mut String,
+    fuel: u32,
+    all: &[Expression],
+    expression: Expression,
+) {
     match expression {
-        Expression::Integer => put(rt, out, "7"),
-        Expression::Boolean => put(rt, out, "true"),
-        Expression::Name(name) => put(rt, out, name_text(name)),
-        Expression::Lambda(name, body) => {
-            put(rt, out, "fun ");
-            put(rt, out, name_text(name));
-            put(rt, out, " -> ");
-            write_expression(rt, out, fuel - 1, all, body);
-        }
+        Expression::Integer | Expression::Boolean | Expression::Name(_) => {}
+        Expression::Lambda(_, body) => write_expression(rt, out, fuel, all, body),
         Expression::Apply(first, second)
         | Expression::Let(_, first, second)
         | Expression::LetRec(_, first, second)
         | Expression::Pair(first, second)
         | Expression::Operate(_, first, second) => {
-            let (before, name, between) = words(expression);
-            put(rt, out, before);
-            put(rt, out, name);
-            put(rt, out, between);
-            write_expression(rt, out, fuel - 1, all, first);
-            put(rt, out, sign(expression));
-            write_expression(rt, out, fuel - 1, all, second);
+            write_two(rt, out, fuel, all, (first, sign(expression), second));
         }
         Expression::If(condition, first, second) => {
-            put(rt, out, "if ");
-            write_expression(rt, out, fuel - 1, all, condition);
-            put(rt, out, " then ");
-            write_expression(rt, out, fuel - 1, all, first);
+            write_two(rt, out, fuel, all, (condition, " then ", first));
             put(rt, out, " else ");
-            write_expression(rt, out, fuel - 1, all, second);
+            write_expression(rt, out, fuel, all, second);
         }
     }
-    put(rt, out, ")");
 }
 
-// What is written before the first of two parts, and the name that is bound in it.
+#[cycle(write_expression)]
+fn write_two(
+    rt: &impl Abort,
+    out: &mut String,
+    fuel: u32,
+    all: &[Expression],
+    (first, between, second): (usize, &str, usize),
+) {
+    write_expression(rt, out, fuel, all, first);
+    put(rt, out, between);
+    write_expression(rt, out, fuel, all, second);
+}
+
+// What is written before the first part, with the name that is bound in it, or that it is.
 fn words(expression: Expression) -> (&'static str, &'static str, &'static str) {
     match expression {
+        Expression::Integer => ("7", "", ""),
+        Expression::Boolean => ("true", "", ""),
+        Expression::Name(name) => (name_text(name), "", ""),
+        Expression::Lambda(name, _) => ("fun ", name_text(name), " -> "),
         Expression::Let(name, ..) => ("let ", name_text(name), " = "),
         Expression::LetRec(name, ..) => ("let rec ", name_text(name), " = "),
+        Expression::If(..) => ("if ", "", ""),
         _ => ("", "", ""),
     }
 }

@@ -1,6 +1,6 @@
 //! Inference as a textbook has it: types are trees, which are compared part by part, and what is
 //! unknown is general where nothing in scope speaks of it.
-use crate::tests::random::{Expression, put};
+use crate::tests::random::{Expression, expression_at, less, put};
 use std::alloc::Global;
 use std::process::Abort;
 
@@ -24,6 +24,14 @@ impl Plain {
             _ => Plain::Pair(a, b),
         }
     }
+
+    // What is written between the parts, and how closely each is held.
+    fn sign(self) -> (u8, &'static str, u8) {
+        match self {
+            Plain::Function(..) => (1, " -> ", 0),
+            _ => (2, " * ", 2),
+        }
+    }
 }
 
 /// Why an expression has no type.
@@ -40,6 +48,10 @@ pub struct Reference {
     alloc: Global,
     types: Vec<Plain>,
     scope: Vec<(u8, usize)>,
+    // The variables of the type that is being written.
+    seen: Vec<usize>,
+    // What was found wrong first.
+    wrong: Option<Kind>,
 }
 
 impl Reference {
@@ -48,6 +60,14 @@ impl Reference {
             alloc,
             types: Vec::new(alloc),
             scope: Vec::new(alloc),
+            seen: Vec::new(alloc),
+            wrong: None,
+        }
+    }
+
+    fn fail(&mut self, kind: Kind) {
+        if self.wrong.is_none() {
+            self.wrong = Some(kind);
         }
     }
 
@@ -90,8 +110,8 @@ impl Reference {
         }
     }
 
-    fn unify(&mut self, rt: &impl Abort, fuel: u32, left: usize, right: usize) -> Result<(), Kind> {
-        assert!(rt; fuel > 0);
+    fn unify(&mut self, rt: &impl Abort, fuel: u32, left: usize, right: usize) {
+        let fuel = less(rt, fuel);
         let (left, first) = self.find(left);
         let (right, second) = self.find(right);
         match (first, second) {
@@ -99,23 +119,23 @@ impl Reference {
             (_, Plain::Unknown) => self.bind(right, left),
             (Plain::Function(a, b), Plain::Function(c, d))
             | (Plain::Pair(a, b), Plain::Pair(c, d)) => {
-                self.unify(rt, fuel - 1, a, c)?;
-                self.unify(rt, fuel - 1, b, d)
+                self.unify(rt, fuel, a, c);
+                self.unify(rt, fuel, b, d);
             }
-            (Plain::Integer, Plain::Integer) | (Plain::Boolean, Plain::Boolean) => Ok(()),
-            _ => Err(Kind::Clash),
+            (Plain::Integer, Plain::Integer) | (Plain::Boolean, Plain::Boolean) => {}
+            _ => self.fail(Kind::Clash),
         }
     }
 
-    fn bind(&mut self, unknown: usize, to: usize) -> Result<(), Kind> {
+    fn bind(&mut self, unknown: usize, to: usize) {
         if unknown == to {
-            return Ok(());
+            return;
         }
         if self.occurs(FUEL, unknown, to) {
-            return Err(Kind::Infinite);
+            self.fail(Kind::Infinite);
+        } else {
+            self.set(unknown, Plain::Is(to));
         }
-        self.set(unknown, Plain::Is(to));
-        Ok(())
     }
 
     // Whether something in scope speaks of an unknown type.
@@ -127,13 +147,13 @@ impl Reference {
 
     // A copy in which what is unknown and not free is any type.
     fn general(&mut self, rt: &impl Abort, fuel: u32, place: usize) -> usize {
-        assert!(rt; fuel > 0);
+        let fuel = less(rt, fuel);
         let (place, plain) = self.find(place);
         match plain {
             Plain::Unknown if !self.is_free(place) => self.add(rt, Plain::Any(place)),
             Plain::Function(a, b) | Plain::Pair(a, b) => {
-                let a = self.general(rt, fuel - 1, a);
-                let b = self.general(rt, fuel - 1, b);
+                let a = self.general(rt, fuel, a);
+                let b = self.general(rt, fuel, b);
                 self.add(rt, plain.over(a, b))
             }
             _ => place,
@@ -148,13 +168,13 @@ impl Reference {
         place: usize,
         fresh: &mut Vec<(usize, usize)>,
     ) -> usize {
-        assert!(rt; fuel > 0);
+        let fuel = less(rt, fuel);
         let (place, plain) = self.find(place);
         match plain {
             Plain::Any(number) => self.fresh(rt, number, fresh),
             Plain::Function(a, b) | Plain::Pair(a, b) => {
-                let a = self.instance(rt, fuel - 1, a, fresh);
-                let b = self.instance(rt, fuel - 1, b, fresh);
+                let a = self.instance(rt, fuel, a, fresh);
+                let b = self.instance(rt, fuel, b, fresh);
                 self.add(rt, plain.over(a, b))
             }
             _ => place,
@@ -172,11 +192,24 @@ impl Reference {
         place
     }
 
-    fn name(&mut self, rt: &impl Abort, name: u8) -> Result<usize, Kind> {
-        let found = self.scope.iter().rev().find(|bound| bound.0 == name);
-        let place = found.ok_or(Kind::Unbound)?.1;
-        let mut fresh = Vec::new(self.alloc);
-        Ok(self.instance(rt, FUEL, place, &mut fresh))
+    // The place of the innermost type of a name.
+    fn look_up(&self, name: u8) -> Option<usize> {
+        for bound in self.scope.iter().rev() {
+            if bound.0 == name {
+                return Some(bound.1);
+            }
+        }
+        None
+    }
+
+    fn name(&mut self, rt: &impl Abort, name: u8) -> usize {
+        match self.look_up(name) {
+            Some(place) => self.instance(rt, FUEL, place, &mut Vec::new(self.alloc)),
+            None => {
+                self.fail(Kind::Unbound);
+                self.add(rt, Plain::Unknown)
+            }
+        }
     }
 
     fn bind_name(&mut self, rt: &impl Abort, name: u8, place: usize) {
@@ -192,9 +225,9 @@ impl Reference {
         all: &[Expression],
         first: usize,
         second: usize,
-    ) -> Result<(usize, usize), Kind> {
-        let first = self.infer(rt, fuel, all, first)?;
-        Ok((first, self.infer(rt, fuel, all, second)?))
+    ) -> (usize, usize) {
+        let first = self.infer(rt, fuel, all, first);
+        (first, self.infer(rt, fuel, all, second))
     }
 
     // The type of an expression in which a name is bound to a type.
@@ -206,99 +239,86 @@ impl Reference {
         all: &[Expression],
         (name, place): (u8, usize),
         at: usize,
-    ) -> Result<usize, Kind> {
+    ) -> usize {
         self.bind_name(rt, name, place);
-        let inferred = self.infer(rt, fuel, all, at)?;
+        let inferred = self.infer(rt, fuel, all, at);
         self.scope.pop();
-        Ok(inferred)
+        inferred
     }
 
-    // The type of an expression.
+    // The type of an expression. Where it has none, any type, and what is wrong.
     #[cycle(infer)]
-    fn infer(
-        &mut self,
-        rt: &impl Abort,
-        fuel: u32,
-        all: &[Expression],
-        at: usize,
-    ) -> Result<usize, Kind> {
-        assert!(rt; fuel > 0);
-        let fuel = fuel - 1;
-        match *all.get(at).expect(rt, "an expression") {
-            Expression::Integer => Ok(self.add(rt, Plain::Integer)),
-            Expression::Boolean => Ok(self.add(rt, Plain::Boolean)),
+    fn infer(&mut self, rt: &impl Abort, fuel: u32, all: &[Expression], at: usize) -> usize {
+        let fuel = less(rt, fuel);
+        match expression_at(rt, all, at) {
+            Expression::Integer => self.add(rt, Plain::Integer),
+            Expression::Boolean => self.add(rt, Plain::Boolean),
             Expression::Name(name) => self.name(rt, name),
             Expression::Lambda(name, body) => {
                 let parameter = self.add(rt, Plain::Unknown);
-                let body = self.within(rt, fuel, all, (name, parameter), body)?;
-                Ok(self.add(rt, Plain::Function(parameter, body)))
+                let body = self.within(rt, fuel, all, (name, parameter), body);
+                self.add(rt, Plain::Function(parameter, body))
             }
             Expression::Apply(function, argument) => {
-                let (function, argument) = self.two(rt, fuel, all, function, argument)?;
+                let (function, argument) = self.two(rt, fuel, all, function, argument);
                 self.apply(rt, function, argument)
             }
             Expression::Let(name, bound, body) => {
-                let bound = self.infer(rt, fuel, all, bound)?;
+                let bound = self.infer(rt, fuel, all, bound);
                 let general = self.general(rt, FUEL, bound);
                 self.within(rt, fuel, all, (name, general), body)
             }
             Expression::LetRec(name, bound, body) => {
                 let own = self.add(rt, Plain::Unknown);
-                let bound = self.within(rt, fuel, all, (name, own), bound)?;
-                let general = self.own(rt, own, bound)?;
+                let bound = self.within(rt, fuel, all, (name, own), bound);
+                let general = self.own(rt, own, bound);
                 self.within(rt, fuel, all, (name, general), body)
             }
             Expression::If(condition, first, second) => {
-                let condition = self.infer(rt, fuel, all, condition)?;
-                self.expect(rt, condition, Plain::Boolean)?;
-                let (first, second) = self.two(rt, fuel, all, first, second)?;
-                self.unify(rt, FUEL, first, second)?;
-                Ok(first)
+                let condition = self.infer(rt, fuel, all, condition);
+                self.expect(rt, condition, Plain::Boolean);
+                let (first, second) = self.two(rt, fuel, all, first, second);
+                self.unify(rt, FUEL, first, second);
+                first
             }
             Expression::Pair(first, second) => {
-                let (first, second) = self.two(rt, fuel, all, first, second)?;
-                Ok(self.add(rt, Plain::Pair(first, second)))
+                let (first, second) = self.two(rt, fuel, all, first, second);
+                self.add(rt, Plain::Pair(first, second))
             }
             Expression::Operate(compares, left, right) => {
-                let (left, right) = self.two(rt, fuel, all, left, right)?;
+                let (left, right) = self.two(rt, fuel, all, left, right);
                 self.operate(rt, compares, left, right)
             }
         }
     }
 
     // What is bound to its own name, in general.
-    fn own(&mut self, rt: &impl Abort, own: usize, bound: usize) -> Result<usize, Kind> {
-        self.unify(rt, FUEL, own, bound)?;
-        Ok(self.general(rt, FUEL, bound))
+    fn own(&mut self, rt: &impl Abort, own: usize, bound: usize) -> usize {
+        self.unify(rt, FUEL, own, bound);
+        self.general(rt, FUEL, bound)
     }
 
-    fn apply(&mut self, rt: &impl Abort, function: usize, argument: usize) -> Result<usize, Kind> {
+    fn apply(&mut self, rt: &impl Abort, function: usize, argument: usize) -> usize {
         let answer = self.add(rt, Plain::Unknown);
         let wanted = self.add(rt, Plain::Function(argument, answer));
-        self.unify(rt, FUEL, function, wanted)?;
-        Ok(answer)
+        self.unify(rt, FUEL, function, wanted);
+        answer
     }
 
-    fn operate(
-        &mut self,
-        rt: &impl Abort,
-        compares: bool,
-        left: usize,
-        right: usize,
-    ) -> Result<usize, Kind> {
-        self.expect(rt, left, Plain::Integer)?;
-        self.expect(rt, right, Plain::Integer)?;
+    fn operate(&mut self, rt: &impl Abort, compares: bool, left: usize, right: usize) -> usize {
+        self.expect(rt, left, Plain::Integer);
+        self.expect(rt, right, Plain::Integer);
         let answer = if compares {
             Plain::Boolean
         } else {
             Plain::Integer
         };
-        Ok(self.add(rt, answer))
+        self.add(rt, answer)
     }
 
-    fn expect(&mut self, rt: &impl Abort, place: usize, plain: Plain) -> Result<(), Kind> {
+    fn expect(&mut self, rt: &impl Abort, place: usize, plain: Plain) {
         let wanted = self.add(rt, plain);
-        self.unify(rt, FUEL, place, wanted)
+        self.unify(rt, FUEL, place, wanted);
     }
 
     /// Declares an expression under a name, and answers its type.
@@ -309,59 +329,82 @@ impl Reference {
         all: &[Expression],
         at: usize,
     ) -> Result<usize, Kind> {
-        let outside = self.scope.len();
+        self.wrong = None;
         let inferred = self.infer(rt, FUEL, all, at);
-        self.scope.truncate(outside);
-        let general = self.general(rt, FUEL, inferred?);
-        self.bind_name(rt, name, general);
-        Ok(general)
+        match self.wrong {
+            Some(kind) => Err(kind),
+            None => {
+                let general = self.general(rt, FUEL, inferred);
+                self.bind_name(rt, name, general);
+                Ok(general)
+            }
+        }
     }
 
     /// Appends a type.
-    pub fn write(
-        &self,
+    pub fn write(&mut self, rt: &impl Abort, out: &mut String, place: usize) {
+        self.seen.clear();
+        self.write_part(rt, FUEL, out, place, 0);
+    }
+
+    #[cycle(write)]
+    fn write_part(
+        &mut self,
         rt: &impl Abort,
         fuel: u32,
         out: &mut String,
-        seen: &mut Vec<usize>,
-        (place, holds): (usize, u8),
+        place: usize,
+        holds: u8,
     ) {
-        assert!(rt; fuel > 0);
-        let (a, between, b, is_held) = match self.find(place).1 {
-            Plain::Integer => return put(rt, out, "int"),
-            Plain::Boolean => return put(rt, out, "bool"),
-            Plain::Any(number) => return self.write_variable(rt, out, seen, number),
-            Plain::Function(a, b) => ((a, 1), " -> ", (b, 0), holds > 0),
-            Plain::Pair(a, b) => ((a, 2), " * ", (b, 2), holds > 1),
-            _ => return put(rt, out, "?"),
-        };
-        let (before, behind) = if is_held { ("(", ")") } else { ("", "") };
+        let fuel = less(rt, fuel);
+        let plain = self.find(place).1;
+        match plain {
+            Plain::Integer => put(rt, out, "int"),
+            Plain::Boolean => put(rt, out, "bool"),
+            Plain::Any(number) => put_variable(rt, out, self.index_of(rt, number)),
+            Plain::Function(a, b) | Plain::Pair(a, b) => {
+                self.write_parts(rt, fuel, out, (a, plain.sign(), b), holds);
+            }
+            _ => put(rt, out, "?"),
+        }
+    }
+
+    #[cycle(write)]
+    fn write_parts(
+        &mut self,
+        rt: &impl Abort,
+        fuel: u32,
+        out: &mut String,
+        (a, (left, between, right), b): (usize, (u8, &str, u8), usize),
+        holds: u8,
+    ) {
+        let (before, behind) = if holds >= left { ("(", ")") } else { ("", "") };
         put(rt, out, before);
-        self.write(rt, fuel - 1, out, seen, a);
+        self.write_part(rt, fuel, out, a, left);
         put(rt, out, between);
-        self.write(rt, fuel - 1, out, seen, b);
+        self.write_part(rt, fuel, out, b, right);
         put(rt, out, behind);
     }
 
-    fn write_variable(
-        &self,
-        rt: &impl Abort,
-        out: &mut String,
-        seen: &mut Vec<usize>,
-        number: usize,
-    ) {
-        let known = seen.iter().position(|other| *other == number);
-        let index = known.unwrap_or(seen.len());
+    // The index of a variable among those that were seen, of which it is one then.
+    fn index_of(&mut self, rt: &impl Abort, number: usize) -> usize {
+        let known = self.seen.iter().position(|other| *other == number);
+        let index = known.unwrap_or(self.seen.len());
         if known.is_none() {
-            seen.push(number).expect(rt, "memory");
+            self.seen.push(number).expect(rt, "memory");
         }
-        let letter = char::from(b'a' + (index % 26) as u8);
-        let written = match index / 26 {
-            0 => write!(out, "'{letter}"),
-            round => write!(out, "'{letter}{round}"),
-        };
-        written.expect(rt, "memory");
+        index
     }
+}
+
+// Appends a variable: 'a to 'z, 'a1 to 'z1, and so on.
+fn put_variable(rt: &impl Abort, out: &mut String, index: usize) {
+    let letter = char::from(b'a' + (index % 26) as u8);
+    let written = match index / 26 {
+        0 => write!(out, "'{letter}"),
+        round => write!(out, "'{letter}{round}"),
+    };
+    written.expect(rt, "memory");
 }
 
 /// How deep expressions and types may be.
