@@ -16,4 +16,6 @@ mod numbers;
 #[cfg(test)]
 mod slices;
 #[cfg(test)]
+mod steps;
+#[cfg(test)]
 mod values;

@@ -4,6 +4,7 @@ ghost use Rattle.std.specs.FinMap as map;
 ghost use Rattle.intern_index.specs.IndexEntry.{IsLed};
 
 use crate::apart::{APART, Apart};
+use crate::steps::is_equal;
 use intern_index::{BirthOrder, Births, Hashes, Index, Offer, Query};
 use intern_store::{Keeps, Spot};
 use std::alloc::Global;
@@ -162,7 +163,7 @@ impl<B: Births> Numbers<B> {
 
     /// Removes a number.
     pub(crate) fn take(&mut self, rt: &impl Abort, spot: Spot) {
-        assert_eq!(rt; self.index.remove(spot), Some(spot.birth));
+        is_equal(rt, self.index.remove(spot), Some(spot.birth));
     }
 
     /// Keeps the numbers that are marked.
@@ -195,16 +196,23 @@ impl<B: Births> Numbers<B> {
             birth,
             place: place ^ 1,
         };
-        assert_eq!(rt; self.index.get(spot).copied(), Some(birth));
-        assert_eq!(rt; self.index.payload(elsewhere), Some(!birth));
-        assert_eq!(rt; self.found(birth), Some(place));
+        is_equal(rt, self.index.get(spot).copied(), Some(birth));
+        is_equal(rt, self.index.payload(elsewhere), Some(!birth));
+        is_equal(rt, self.found(birth), Some(place));
     }
 
     /// Reads nothing of a number that went.
-    pub(crate) fn has_not(&self, rt: &impl Abort, spot: Spot) {
+    fn has_not(&self, rt: &impl Abort, spot: Spot) {
         assert!(rt; self.index.get(spot).is_none());
-        assert_eq!(rt; self.index.place(spot.birth), None);
-        assert_eq!(rt; self.found(spot.birth), None);
+        is_equal(rt, self.index.place(spot.birth), None);
+        is_equal(rt, self.found(spot.birth), None);
+    }
+
+    /// Reads nothing of numbers that went.
+    pub(crate) fn has_none(&self, rt: &impl Abort, spots: &[Spot]) {
+        for spot in spots {
+            self.has_not(rt, *spot);
+        }
     }
 
     // The place of a number by its hash.
@@ -236,7 +244,7 @@ impl Numbers<BirthOrder> {
             let (spot, _, _) = self.index.nth(at, last).expect(rt, "a rank has no entry");
             if at >= before {
                 let wanted = spots.get(at - before).expect(rt, "one entry too many");
-                assert_eq!(rt; (spot.birth, spot.place), (wanted.birth, wanted.place));
+                is_equal(rt, (spot.birth, spot.place), (wanted.birth, wanted.place));
             }
             last = Some(spot);
         }
