@@ -40,7 +40,6 @@ listed : {K : Type 0} (test : K → Bool) (es : List (K × Ref (Values TypeNode)
 listed test [] n is = absurd (cc)
 listed test (e ∷ es) n is = listed_first (test e.0) e.1 (lookup test es) _ n (listed test es n) is
 
-
 module _ (e : Environment) where
   -- the environment with these types
   abbrev over : State TypeNode → Environment

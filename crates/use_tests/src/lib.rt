@@ -28,6 +28,8 @@ mod room;
 #[cfg(test)]
 mod roots;
 #[cfg(test)]
+mod steps;
+#[cfg(test)]
 mod terms;
 #[cfg(test)]
 mod types;

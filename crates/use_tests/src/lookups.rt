@@ -1,7 +1,8 @@
 //! One storage of numbers.
 ghost use Rattle.std.specs.Prelude.{true};
 
-use ra_ap_intern::{InternStorage, Internable, Text};
+use crate::steps::is_equal;
+use ra_ap_intern::{InternStorage, Internable, InternedRef, Text};
 use std::alloc::Global;
 use std::process::Abort;
 use use_lookups::{Qualified, find, find_or_intern, find_or_intern_all, find_qualified};
@@ -22,24 +23,34 @@ fn what_is_stored_is_found(rt: HostRuntime) {
     let seven = find_or_intern(&mut numbers, Number(7)).expect(&rt, "memory");
     let again = find_or_intern(&mut numbers, Number(7)).expect(&rt, "stored");
     assert!(rt; seven == again);
-    assert_eq!(rt; find(&numbers, &Number(7)), Some(&Number(7)));
-    assert_eq!(rt; find(&numbers, &Number(8)), None);
+    is_equal(&rt, find(&numbers, &Number(7)), Some(&Number(7)));
+    is_equal(&rt, find(&numbers, &Number(8)), None);
+}
+
+/// Stores the numbers, and gives their references.
+fn store_all(
+    rt: &impl Abort,
+    alloc: Global,
+    numbers: &mut InternStorage<Number>,
+    each: &[u64],
+) -> Vec<InternedRef<Number>> {
+    let mut values = Vec::new(alloc);
+    for number in each {
+        assert!(rt; values.push(Number(*number)).is_ok());
+    }
+    let mut references = Vec::new(alloc);
+    let stored = find_or_intern_all(numbers, &mut values.into_iter(), &mut references);
+    assert!(rt; stored.is_ok());
+    references
 }
 
 #[test]
 fn many_are_stored_once(rt: HostRuntime) {
-    let alloc = rt.alloc();
-    let mut numbers = InternStorage::new(alloc, 1);
-    let mut values = Vec::new(alloc);
-    for number in [7, 8, 7] {
-        assert!(rt; values.push(Number(number)).is_ok());
-    }
-    let mut references = Vec::new(alloc);
-    let stored = find_or_intern_all(&mut numbers, &mut values.into_iter(), &mut references);
-    assert!(rt; stored.is_ok());
-    assert_eq!(rt; references.len(), 3);
+    let mut numbers = InternStorage::new(rt.alloc(), 1);
+    let references = store_all(&rt, rt.alloc(), &mut numbers, &[7, 8, 7]);
+    is_equal(&rt, references.len(), 3);
     assert!(rt; references.first() == references.last());
-    assert_eq!(rt; numbers.len(), 2);
+    is_equal(&rt, numbers.len(), 2);
 }
 
 fn qualified(rt: &impl Abort, alloc: Global, scope: &str, name: &str) -> Qualified {

@@ -1,7 +1,9 @@
 //! Memos of a function of two numbers.
 ghost use Rattle.std.specs.Prelude.{true, []};
 
-use ra_ap_intern::{GarbageCollector, GcInternedVisit, Internable, Refusal};
+use crate::steps::is_equal;
+use ra_ap_intern::{GarbageCollector, GcInternedVisit, Internable};
+use std::process::Abort;
 use use_memos::Memos;
 
 /// Two numbers.
@@ -20,18 +22,26 @@ impl GcInternedVisit for Two {
     fn visit_with(&self, _gc: &mut GarbageCollector) {}
 }
 
+fn note(rt: &impl Abort, sums: &mut Memos<Two, u64>, argument: Two, value: u64) {
+    assert!(rt; sums.note(argument, value).is_ok());
+}
+
+/// This is what was noted of the argument.
+fn finds(rt: &impl Abort, sums: &Memos<Two, u64>, argument: Two, value: Option<u64>) {
+    is_equal(rt, sums.look_up(&argument).copied(), value);
+}
+
 #[test]
-fn what_was_noted_last_is_found_until_it_is_forgotten(rt: HostRuntime) -> Result<(), Refusal> {
+fn what_was_noted_last_is_found_until_it_is_forgotten(rt: HostRuntime) {
     let mut sums = Memos::new(rt.alloc(), 1);
-    sums.note(Two(1, 2), 12)?;
-    sums.note(Two(3, 4), 7)?;
-    sums.note(Two(1, 2), 3)?;
-    assert_eq!(rt; sums.look_up(&Two(1, 2)), Some(&3));
-    assert_eq!(rt; sums.look_up(&Two(2, 1)), None);
+    note(&rt, &mut sums, Two(1, 2), 12);
+    note(&rt, &mut sums, Two(3, 4), 7);
+    note(&rt, &mut sums, Two(1, 2), 3);
+    finds(&rt, &sums, Two(1, 2), Some(3));
+    finds(&rt, &sums, Two(2, 1), None);
     let kept = sums.arguments.get(&Two(3, 4)).expect(&rt, "stored");
-    assert_eq!(rt; sums.keep(&[kept]), Ok(1));
-    assert_eq!(rt; sums.look_up(&Two(1, 2)), None);
-    assert_eq!(rt; sums.look_up(&Two(3, 4)), Some(&7));
-    assert_eq!(rt; sums.results.len(), 1);
-    Ok(())
+    is_equal(&rt, sums.keep(&[kept]), Ok(1));
+    finds(&rt, &sums, Two(1, 2), None);
+    finds(&rt, &sums, Two(3, 4), Some(7));
+    is_equal(&rt, sums.results.len(), 1);
 }

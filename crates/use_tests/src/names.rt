@@ -1,17 +1,26 @@
 //! A scope of numbers.
-use ra_ap_intern::Refusal;
+use crate::steps::is_equal;
+use std::process::Abort;
 use use_names::Scope;
 
+fn declare(rt: &impl Abort, scope: &mut Scope<u64>, name: &str, value: u64) {
+    assert!(rt; scope.declare(name, value).is_ok());
+}
+
+/// This is what was declared last under the name.
+fn finds(rt: &impl Abort, scope: &Scope<u64>, name: &str, value: Option<u64>) {
+    is_equal(rt, scope.look_up(name).copied(), value);
+}
+
 #[test]
-fn the_last_declaration_is_found(rt: HostRuntime) -> Result<(), Refusal> {
+fn the_last_declaration_is_found(rt: HostRuntime) {
     let mut scope = Scope::new(rt.alloc(), 1);
-    scope.declare("my_width", 3)?;
-    scope.declare("self", 4)?;
-    assert_eq!(rt; scope.look_up("my_width"), Some(&3));
-    assert_eq!(rt; scope.look_up("self"), Some(&4));
-    assert_eq!(rt; scope.look_up("my_height"), None);
-    scope.declare("my_width", 5)?;
-    assert_eq!(rt; scope.look_up("my_width"), Some(&5));
-    assert_eq!(rt; scope.names.len(), 1);
-    Ok(())
+    declare(&rt, &mut scope, "my_width", 3);
+    declare(&rt, &mut scope, "self", 4);
+    finds(&rt, &scope, "my_width", Some(3));
+    finds(&rt, &scope, "self", Some(4));
+    finds(&rt, &scope, "my_height", None);
+    declare(&rt, &mut scope, "my_width", 5);
+    finds(&rt, &scope, "my_width", Some(5));
+    is_equal(&rt, scope.names.len(), 1);
 }

@@ -1,43 +1,58 @@
 //! Names go with the nodes that had them.
-use ra_ap_intern::{InternStorage, Interned, InternedRef, Refusal, Symbol, SymbolTable};
+use crate::steps::is_equal;
+use ra_ap_intern::{InternStorage, Interned, InternedRef, Symbol, SymbolTable};
 use std::alloc::Global;
+use std::process::Abort;
 use use_removed::{Node, Nodes};
 
 // A node of a new name, which counts it.
 fn node(
+    rt: &impl Abort,
     alloc: Global,
     nodes: &mut Nodes,
     name: &str,
     next: &[InternedRef<Node>],
-) -> Result<InternedRef<Node>, Refusal> {
-    let name = Symbol::intern(&mut nodes.names, name)?.as_ref();
-    let mut behind = Vec::new(alloc);
-    if behind.extend_from_slice(next).is_err() {
-        return Err(Refusal::OutOfMemory);
-    }
-    let (reference, _) = Interned::new_gc(&mut nodes.nodes, Node { name, behind })?;
-    Ok(reference)
+) -> InternedRef<Node> {
+    let name = Symbol::intern(&mut nodes.names, name).expect(rt, "a name");
+    let node = Node {
+        name: name.as_ref(),
+        behind: next.to_vec(alloc).expect(rt, "memory"),
+    };
+    let (reference, _) = Interned::new_gc(&mut nodes.nodes, node)
+        .ok()
+        .expect(rt, "a node");
+    reference
+}
+
+/// How many nodes were visited, and how many went, where these roots stay.
+fn collect(
+    rt: &impl Abort,
+    alloc: Global,
+    nodes: &mut Nodes,
+    roots: &[InternedRef<Node>],
+) -> (usize, usize) {
+    let told = nodes.collect(alloc, roots).expect(rt, "memory");
+    (told.visits, told.removed)
 }
 
 #[test]
 fn names_go_with_their_nodes(rt: HostRuntime) {
+    let alloc = rt.alloc();
     let mut nodes = Nodes {
-        names: SymbolTable::new(rt.alloc(), 1),
-        nodes: InternStorage::new(rt.alloc(), 2),
+        names: SymbolTable::new(alloc, 1),
+        nodes: InternStorage::new(alloc, 2),
     };
-    let first = node(rt.alloc(), &mut nodes, "my_first", &[]).expect(&rt, "a node");
-    let second = node(rt.alloc(), &mut nodes, "my_second", &[first]).expect(&rt, "a node");
-    for name in ["my_third", "self", "my_first"] {
-        assert!(rt; node(rt.alloc(), &mut nodes, name, &[second]).is_ok());
-    }
+    let first = node(&rt, alloc, &mut nodes, "my_first", &[]);
+    let second = node(&rt, alloc, &mut nodes, "my_second", &[first]);
+    let _ = node(&rt, alloc, &mut nodes, "my_third", &[second]);
+    let _ = node(&rt, alloc, &mut nodes, "self", &[second]);
+    let _ = node(&rt, alloc, &mut nodes, "my_first", &[second]);
 
-    let told = nodes.collect(rt.alloc(), &[second]);
-    assert!(rt; told.is_ok_and(|told| (told.visits, told.removed) == (2, 3)));
-    assert_eq!(rt; nodes.names.len(), 2);
-    let (name, other) = (nodes.names.get("my_first"), nodes.names.get("my_third"));
-    assert!(rt; name.is_some() && other.is_none());
+    is_equal(&rt, collect(&rt, alloc, &mut nodes, &[second]), (2, 3));
+    is_equal(&rt, nodes.names.len(), 2);
+    assert!(rt; nodes.names.get("my_first").is_some());
+    assert!(rt; nodes.names.get("my_third").is_none());
 
-    let told = nodes.collect(rt.alloc(), &[]);
-    assert!(rt; told.is_ok_and(|told| told.removed == 2));
+    is_equal(&rt, collect(&rt, alloc, &mut nodes, &[]), (0, 2));
     assert!(rt; nodes.names.is_empty());
 }

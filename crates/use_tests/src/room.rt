@@ -1,6 +1,7 @@
 //! Two values, and two lists, in one call each.
 ghost use Rattle.std.specs.Prelude.{true};
 
+use crate::steps::is_equal;
 use ra_ap_intern::{
     InternSliceStorage, InternStorage, Internable, InternedRef, InternedSliceRef, SliceInternable,
 };
@@ -39,15 +40,25 @@ fn two(
     intern_two(numbers, Number(first), Number(second)).expect(rt, "memory")
 }
 
+/// The reference reads this number.
+fn reads(
+    rt: &impl Abort,
+    numbers: &InternStorage<Number>,
+    reference: InternedRef<Number>,
+    number: u64,
+) {
+    is_equal(rt, reference.get(numbers), Some(&Number(number)));
+}
+
 #[test]
 fn both_values_are_stored_once(rt: HostRuntime) {
     let mut numbers = InternStorage::new(rt.alloc(), 1);
     let (seven, eight) = two(&rt, &mut numbers, 7, 8);
     let (again, nine) = two(&rt, &mut numbers, 8, 9);
     assert!(rt; again == eight);
-    assert_eq!(rt; seven.get(&numbers), Some(&Number(7)));
-    assert_eq!(rt; nine.get(&numbers), Some(&Number(9)));
-    assert_eq!(rt; numbers.len(), 3);
+    reads(&rt, &numbers, seven, 7);
+    reads(&rt, &numbers, nine, 9);
+    is_equal(&rt, numbers.len(), 3);
 }
 
 #[test]
@@ -55,7 +66,7 @@ fn room_is_passed_on(rt: HostRuntime) {
     let mut numbers = InternStorage::new(rt.alloc(), 1);
     let room = numbers.reserve(1).expect(&rt, "memory");
     let seven = intern_next(room, Number(7)).expect(&rt, "room");
-    assert_eq!(rt; seven.get(&numbers), Some(&Number(7)));
+    reads(&rt, &numbers, seven, 7);
 }
 
 fn two_lists(
@@ -74,5 +85,5 @@ fn both_lists_are_stored_once(rt: HostRuntime) {
     let (again, third) = two_lists(&rt, &mut rows, &[1, 2], &[]);
     assert!(rt; again == first);
     assert!(rt; third != second);
-    assert_eq!(rt; rows.len(), 3);
+    is_equal(&rt, rows.len(), 3);
 }

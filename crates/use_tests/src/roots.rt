@@ -1,6 +1,7 @@
 //! What two roots keep.
 ghost use Rattle.std.specs.Prelude.{◌≡◌, true};
 
+use crate::steps::is_equal;
 use ra_ap_intern::{GarbageCollector, InternStorage, Internable, Interned, InternedRef, Text};
 use std::alloc::Global;
 use std::process::Abort;
@@ -78,8 +79,8 @@ fn what_the_roots_declare_stays(rt: HostRuntime) {
     // Three classes of one name, and a method with its own; a class goes, its method and their name.
     assert!(rt; GarbageCollector::distinct(&code));
     let told = collect(alloc, &mut code, deque, size).expect(&rt, "memory");
-    assert_eq!(rt; (told.visits, told.mark_calls, told.removed), (6, 7, 3));
-    assert_eq!(rt; code.first.first.len(), 2);
+    is_equal(&rt, (told.visits, told.mark_calls, told.removed), (6, 7, 3));
+    is_equal(&rt, code.first.first.len(), 2);
     assert!(rt; gone.get(&code.first.second).is_none());
     assert!(rt; lost.get(&code.second).is_none());
 }
@@ -98,9 +99,9 @@ fn a_counted_name_stays(rt: HostRuntime) {
 
     assert!(rt; GarbageCollector::distinct(&code));
     let told = collect(alloc, &mut code, deque, size).expect(&rt, "memory");
-    assert_eq!(rt; (told.visits, told.removed), (7, 3));
+    is_equal(&rt, (told.visits, told.removed), (7, 3));
     let names = &mut code.first.first;
-    assert_eq!(rt; names.count(held), Some(1));
+    is_equal(&rt, names.count(held), Some(1));
     assert!(rt; held.get(names).is_some_and(|name| name.0.is("held")));
     assert!(rt; owner.release(names).is_ok());
 }

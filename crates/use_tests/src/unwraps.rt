@@ -1,17 +1,23 @@
 //! A value is handed out by its only handle.
-use ra_ap_intern::{InternStorage, Refusal};
+use crate::steps::is_equal;
+use ra_ap_intern::{InternStorage, Interned, Text};
+use std::process::Abort;
 use use_unwrap::try_unwrap;
 
+fn word(rt: &impl Abort, words: &mut InternStorage<Text>, text: &str) -> Interned<Text> {
+    words.intern_text(text).expect(rt, "memory")
+}
+
 #[test]
-fn the_only_handle_hands_its_value_out(rt: HostRuntime) -> Result<(), Refusal> {
+fn the_only_handle_hands_its_value_out(rt: HostRuntime) {
     let mut words = InternStorage::new(rt.alloc(), 1);
-    let first = words.intern_text("to")?;
-    let other = words.intern_text("be")?;
-    let second = first.clone(&mut words)?;
+    let first = word(&rt, &mut words, "to");
+    let other = word(&rt, &mut words, "be");
+    let second = first.clone(&mut words).expect(&rt, "a handle");
 
     // Two handles count, so the one that is given comes back.
     let first = try_unwrap(&mut words, first).expect_err(&rt, "shared");
-    assert_eq!(rt; words.count(first.as_ref()), Some(2));
+    is_equal(&rt, words.count(first.as_ref()), Some(2));
 
     // One is released, and the other is the only one.
     assert!(rt; second.release(&mut words).is_ok());
@@ -20,15 +26,13 @@ fn the_only_handle_hands_its_value_out(rt: HostRuntime) -> Result<(), Refusal> {
     assert!(rt; word.is("to"));
     assert!(rt; reference.get(&words).is_none());
     assert!(rt; other.get(&words).is_some_and(|word| word.is("be")));
-    Ok(())
 }
 
 #[test]
-fn a_foreign_handle_comes_back(rt: HostRuntime) -> Result<(), Refusal> {
+fn a_foreign_handle_comes_back(rt: HostRuntime) {
     let mut words = InternStorage::new(rt.alloc(), 1);
     let mut others = InternStorage::new(rt.alloc(), 2);
-    let word = words.intern_text("to")?;
+    let word = word(&rt, &mut words, "to");
     let word = try_unwrap(&mut others, word).expect_err(&rt, "foreign");
     assert!(rt; try_unwrap(&mut words, word).is_ok());
-    Ok(())
 }

@@ -1,4 +1,5 @@
 //! A word is stored once.
+use crate::steps::is_equal;
 use ra_ap_intern::{Interned, Text};
 use std::alloc::Global;
 use std::process::Abort;
@@ -7,6 +8,18 @@ use use_words::Words;
 fn intern(rt: &impl Abort, alloc: Global, words: &mut Words, word: &str) -> Interned<Text> {
     let word = Text::new(alloc, word).expect(rt, "memory");
     words.intern(word).expect(rt, "a handle")
+}
+
+/// Releases a handle beside which there are others.
+fn release(rt: &impl Abort, words: &mut Words, handle: Interned<Text>) {
+    let left = words.release(handle).expect(rt, "an owner");
+    assert!(rt; left.is_none());
+}
+
+/// Releases the last handle of a word, which comes back.
+fn release_last(rt: &impl Abort, words: &mut Words, handle: Interned<Text>, text: &str) {
+    let left = words.release(handle).expect(rt, "the last owner");
+    assert!(rt; left.expect(rt, "a word").is(text));
 }
 
 #[test]
@@ -19,15 +32,13 @@ fn equal_words_have_one_handle(rt: HostRuntime) {
     assert!(rt; first == second);
     assert!(rt; first != other);
     assert!(rt; words.find("hello") == Some(first.as_ref()));
-    assert_eq!(rt; words.word(&other), Some("goodbye"));
+    is_equal(&rt, words.word(&other), Some("goodbye"));
     let third = words.share(&other).expect(&rt, "an owner");
     assert!(rt; third == other);
-    let left = words.release(first).expect(&rt, "an owner");
-    assert!(rt; left.is_none());
-    let last = words.release(second).expect(&rt, "the last owner");
-    assert!(rt; last.is_some_and(|word| word.is("hello")));
+    release(&rt, &mut words, first);
+    release_last(&rt, &mut words, second, "hello");
     assert!(rt; words.find("hello").is_none());
-    assert!(rt; words.release(other).is_ok_and(|left| left.is_none()));
-    assert_eq!(rt; words.word(&third), Some("goodbye"));
-    assert!(rt; words.release(third).is_ok_and(|left| left.is_some()));
+    release(&rt, &mut words, other);
+    is_equal(&rt, words.word(&third), Some("goodbye"));
+    release_last(&rt, &mut words, third, "goodbye");
 }
