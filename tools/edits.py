@@ -113,6 +113,16 @@ def function_at(lines, number):
     return below[1] if below else ""
 
 
+def is_renamed(lines, at):
+    """Whether the prover may have a name of its own for the function whose head is at a line: one of a trait, of a type with
+    arguments, or of a type of another file."""
+    if not lines[at].startswith(" "):
+        return False
+    block = next(it for it in reversed(range(at)) if BLOCK.match(lines[it]))
+    plain = re.fullmatch(r"impl (\w+)", head_at(lines, block).strip())
+    return not plain or plain[1] not in {found[1] for found in map(TYPE.match, lines) if found}
+
+
 @functools.cache
 def types_of(crate):
     """The names of a crate's types, and of those that it implements traits for."""

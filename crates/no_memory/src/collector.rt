@@ -45,9 +45,7 @@ pub(crate) fn check(rt: &impl Eprint, alloc: Global) -> Result<(), Fault> {
 
 fn check_over(rt: &impl Eprint, alloc: Global, storages: &mut Storages) -> Result<(), Fault> {
     let known = fill_surely(alloc, storages)?;
-    check_collector(rt, alloc, storages, known)?;
-    check_mark_all(rt, alloc, storages, known)?;
-    check_trace(rt, alloc, storages, known)?;
+    check_collections(rt, alloc, storages, known)?;
     check_interning(rt, alloc, &mut storages.first.second, known)?;
     check_release(rt, &mut storages.first.second, known)
 }
@@ -114,13 +112,29 @@ fn intern(
     Ok(reference)
 }
 
-// A collector before and after it registers the storages.
-fn check_collector(
+// What collectors of a family answer. Over any family, since what is known of one makes proofs long.
+fn check_collections<F: Family>(
     rt: &impl Eprint,
     alloc: Global,
-    storages: &Storages,
+    storages: &F,
     known: Known,
-) -> Result<(), Fault> {
+) -> Result<(), Fault>
+    requires { F.collected ≡ true }
+{
+    check_collector(rt, alloc, storages, known)?;
+    check_mark_all(rt, alloc, storages, known)?;
+    check_trace(rt, alloc, storages, known)
+}
+
+// A collector before and after it registers the storages.
+fn check_collector<F: Family>(
+    rt: &impl Eprint,
+    alloc: Global,
+    storages: &F,
+    known: Known,
+) -> Result<(), Fault>
+    requires { F.collected ≡ true }
+{
     takes_none(rt, "GarbageCollector::new");
     let mut gc = GarbageCollector::new(alloc);
     check_marks(rt, &mut gc, known, false)?;
@@ -167,12 +181,14 @@ fn check_marks(
 }
 
 // Marks a node, and none of what is gone.
-fn check_mark_all(
+fn check_mark_all<F: Family>(
     rt: &impl Eprint,
     alloc: Global,
-    storages: &Storages,
+    storages: &F,
     known: Known,
-) -> Result<(), Fault> {
+) -> Result<(), Fault>
+    requires { F.collected ≡ true }
+{
     prepares(rt);
     let mut gc = GarbageCollector::new(alloc);
     register(&mut gc, storages)?;
@@ -183,12 +199,14 @@ fn check_mark_all(
 }
 
 // What a node keeps, which nothing else declares here.
-fn check_trace(
+fn check_trace<F: Family>(
     rt: &impl Eprint,
     alloc: Global,
-    storages: &Storages,
+    storages: &F,
     known: Known,
-) -> Result<(), Fault> {
+) -> Result<(), Fault>
+    requires { F.collected ≡ true }
+{
     prepares(rt);
     let trace = trace(alloc, storages, &known.node)?;
     takes_none(rt, "Trace::keeps");

@@ -237,7 +237,13 @@ fn check_births(rt: &impl Eprint, storage: &Storage, handles: &Handles) -> Resul
     ensure(storage.contains(handles.zero.as_ref()) && !storage.contains(handles.gone.as_ref()))?;
     takes_none(rt, "Storage::check");
     storage.check(handles.zero.as_ref())?;
-    is_refused(storage.check(handles.gone.as_ref()), Refusal::Gone)
+    is_refused(storage.check(handles.gone.as_ref()), Refusal::Gone)?;
+    takes_none(rt, "Storage::check_all");
+    storage.check_all(&[handles.live.as_ref(), handles.zero.as_ref()])?;
+    is_refused(
+        storage.check_all(&[handles.live.as_ref(), handles.gone.as_ref()]),
+        Refusal::Gone,
+    )
 }
 
 // What holds the first of two references, and what holds none.
