@@ -127,10 +127,9 @@ fn intern_again<L: Layout<u64>>(
 ) -> Result<(), Fault> {
     let items = input.items.as_slice();
     let (again, back) = InternedSlice::from_header_and_slice(storage, offer, items)?;
-    ensure(again == reference, "a stored slice has another birth")?;
     ensure(
-        back.as_ref() == Some(&input.header),
-        "a stored header did not come back",
+        again == reference && back.as_ref() == Some(&input.header),
+        "a stored slice has another birth, or its header did not come back",
     )
 }
 
@@ -142,10 +141,9 @@ fn own_twice<L: Layout<u64>>(
 ) -> Result<(), Fault> {
     let owned = reference.to_owned(storage)?;
     let second = owned.clone(storage)?;
-    ensure(owned == second, "two handles of a slice differ")?;
     ensure(
-        input.is_read(owned.get(storage)),
-        "a handle reads something else",
+        owned == second && input.is_read(owned.get(storage)),
+        "two handles of a slice differ, or one reads something else",
     )?;
     owned.release(storage)?;
     Ok(())
