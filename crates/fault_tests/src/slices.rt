@@ -141,9 +141,10 @@ fn own_twice<L: Layout<u64>>(
 ) -> Result<(), Fault> {
     let owned = reference.to_owned(storage)?;
     let second = owned.clone(storage)?;
+    ensure(owned == second, "two handles of a slice differ")?;
     ensure(
-        owned == second && input.is_read(owned.get(storage)),
-        "two handles of a slice differ, or one reads something else",
+        input.is_read(owned.get(storage)),
+        "a handle reads something else",
     )?;
     owned.release(storage)?;
     Ok(())
