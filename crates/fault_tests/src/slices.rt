@@ -127,9 +127,10 @@ fn intern_again<L: Layout<u64>>(
 ) -> Result<(), Fault> {
     let items = input.items.as_slice();
     let (again, back) = InternedSlice::from_header_and_slice(storage, offer, items)?;
+    ensure(again == reference, "a stored slice has another birth")?;
     ensure(
-        again == reference && back.as_ref() == Some(&input.header),
-        "a stored slice has another birth, or its header did not come back",
+        back.as_ref() == Some(&input.header),
+        "a stored header did not come back",
     )
 }
 
