@@ -261,15 +261,19 @@ impl Registration<'_> {
     // Registers the family. Where that is refused, all is as it was, and it is tried once more.
     fn register(&mut self, rt: &impl Eprint) -> Result<(), Fault> {
         marks::asks(rt, "GarbageCollector::register");
-        if register(&mut self.gc, &self.grove.storages).is_err() {
+        if self.try_register().is_err() {
             marks::refused(rt, "GarbageCollector::register");
             self.is_as_it_was()?;
-            register(&mut self.gc, &self.grove.storages)?;
+            self.try_register()?;
         }
         self.is_registered = true;
         self.is_marked = false;
         marks::takes_none(rt, "reads");
         self.is_as_it_was()
+    }
+
+    fn try_register(&mut self) -> Result<(), Fault> {
+        register(&mut self.gc, &self.grove.storages)
     }
 
     fn is_as_it_was(&self) -> Result<(), Fault> {

@@ -10,7 +10,7 @@ use input::{ALL, CallKind, FOUNDERS, Input};
 use intern_world::{Back, Call, Numbers, Reply, Slot, World, run};
 pub(crate) use one_value::{check_new, check_one_value};
 use ra_ap_intern::{Collected, Refusal, Text};
-use std::alloc::Global;
+use std::alloc::{AllocError, Global};
 
 /// How many lists of calls are run, each with every call that may want memory.
 const ROUNDS: usize = 140;
@@ -56,7 +56,7 @@ struct Watched {
 pub(crate) fn check_runs(rt: &(impl Print + Eprint), alloc: Global) -> Result<(), Fault> {
     run_rounds(rt, alloc)?;
     println!(rt; "run: {ROUNDS}")?;
-    for kind in ALL {
+    for kind in ALL.iter() {
         println!(rt; "{}: {ROUNDS}", kind.name())?;
     }
     Ok(())
@@ -125,12 +125,25 @@ fn run_all(world: &mut TestWorld, calls: Calls) -> Result<Replies, Calls> {
     run(world, calls)
 }
 
+// Makes the calls. Where the run is refused, they are dropped.
+fn run_or_drop(world: &mut TestWorld, calls: Calls) -> Result<Replies, Fault> {
+    match run_all(world, calls) {
+        Ok(replies) => Ok(replies),
+        Err(_) => Err(Fault::NoMemory),
+    }
+}
+
 // Runs one call, which gives a handle.
 fn make_one(world: &mut TestWorld, alloc: Global, call: TestCall) -> Result<(), Fault> {
-    let mut calls = Vec::with_capacity(alloc, 1)?;
-    calls.push(call)?;
-    let replies = run_all(world, calls).map_err(|_| Fault::NoMemory)?;
+    let replies = run_or_drop(world, list_of(alloc, call)?)?;
     is_made(replies.get(0))
+}
+
+// A list of one call.
+fn list_of(alloc: Global, call: TestCall) -> Result<Calls, AllocError> {
+    let mut calls = Vec::new(alloc);
+    calls.push(call)?;
+    Ok(calls)
 }
 
 fn is_made(reply: Option<&TestReply>) -> Result<(), Fault> {
@@ -174,10 +187,9 @@ impl Watched {
     // Makes all calls, the last of which collects what they stored, and collects what was stored
     // only at a second try.
     fn run_round(&mut self, rt: &impl Eprint, alloc: Global, number: usize) -> Result<(), Fault> {
-        marks::prepares(rt);
-        self.inputs.push(Input::make(alloc, number)?)?;
+        self.add_input(rt, alloc, number)?;
         self.make_all(rt, alloc, &ALL)?;
-        if self.uncounted() > 0 {
+        if self.uncounted(self.inputs.len()) > 0 {
             self.make_all(rt, alloc, &[CallKind::Collect])?;
         }
         Ok(())
@@ -185,9 +197,14 @@ impl Watched {
 
     // Stores a node and a slice.
     fn store(&mut self, rt: &impl Eprint, alloc: Global, number: usize) -> Result<(), Fault> {
+        self.add_input(rt, alloc, number)?;
+        self.make_all(rt, alloc, &[CallKind::NewGc, CallKind::FromHeaderAndSlice])
+    }
+
+    fn add_input(&mut self, rt: &impl Eprint, alloc: Global, number: usize) -> Result<(), Fault> {
         marks::prepares(rt);
         self.inputs.push(Input::make(alloc, number)?)?;
-        self.make_all(rt, alloc, &[CallKind::NewGc, CallKind::FromHeaderAndSlice])
+        Ok(())
     }
 
     fn input(&self) -> Result<&Input, Fault> {
@@ -221,7 +238,7 @@ impl Watched {
         alloc: Global,
         kinds: &[CallKind],
     ) -> Result<Option<CallKind>, Fault> {
-        let calls = self.calls(alloc, kinds)?;
+        let calls = self.input()?.calls(alloc, kinds)?;
         let replies = self.run(rt, calls, kinds)?;
         self.take(&replies, kinds)
     }
@@ -238,27 +255,9 @@ impl Watched {
             Err(back) => {
                 marks::refused(rt, "run");
                 self.are_back(&back, kinds)?;
-                run_all(&mut self.world, back).map_err(|_| Fault::NoMemory)
+                run_or_drop(&mut self.world, back)
             }
         }
-    }
-
-    // At the second try where the first is refused.
-    fn calls(&self, alloc: Global, kinds: &[CallKind]) -> Result<Calls, Fault> {
-        match self.try_calls(alloc, kinds) {
-            Ok(calls) => Ok(calls),
-            Err(_) => self.try_calls(alloc, kinds),
-        }
-    }
-
-    fn try_calls(&self, alloc: Global, kinds: &[CallKind]) -> Result<Calls, Fault> {
-        let input = self.input()?;
-        let mut calls = Vec::with_capacity(alloc, kinds.len())?;
-        for kind in kinds {
-            let call = input.call(alloc, *kind)?;
-            calls.push(call)?;
-        }
-        Ok(calls)
     }
 
     // Fails unless the calls are back and all is as it was.
@@ -329,10 +328,14 @@ impl Watched {
 
     // Collects, and keeps what is in the slots of the lower half of the inputs. Tells the visits.
     fn keep_listed(&mut self, rt: &impl Eprint, alloc: Global) -> Result<usize, Fault> {
-        let listed = LISTED / 2;
         marks::prepares(rt);
-        let slots = self.slots_below(alloc, listed)?;
-        let told = self.collect(rt, &slots)?;
+        let slots = self.slots_below(alloc, LISTED / 2)?;
+        self.keep(rt, &slots, LISTED / 2)
+    }
+
+    // Collects, and keeps these slots, which are those of the inputs below a number.
+    fn keep(&mut self, rt: &impl Eprint, slots: &[usize], listed: usize) -> Result<usize, Fault> {
+        let told = self.collect(rt, slots)?;
         ensure(
             told == self.told(listed),
             "a collection that keeps slots tells something else",
@@ -344,7 +347,7 @@ impl Watched {
     }
 
     // The slots of the inputs below a number.
-    fn slots_below(&self, alloc: Global, number: usize) -> Result<Vec<usize>, Fault> {
+    fn slots_below(&self, alloc: Global, number: usize) -> Result<Vec<usize>, AllocError> {
         let mut slots = room(alloc, self.held.len())?;
         for (held, n) in self.held.iter().zip(0..) {
             if held.number < number {
@@ -377,15 +380,11 @@ impl Watched {
 
     // What a collection tells that keeps what the inputs below a number stored.
     fn told(&self, listed: usize) -> Collected {
-        let kept = self
-            .held
-            .iter()
-            .filter(|held| held.is_uncounted() && held.number < listed)
-            .count();
+        let kept = self.uncounted(listed);
         Collected {
             visits: kept.saturating_add(FOUNDERS),
             mark_calls: 1,
-            removed: self.uncounted().saturating_sub(kept),
+            removed: self.uncounted(self.inputs.len()).saturating_sub(kept),
         }
     }
 
@@ -398,17 +397,26 @@ impl Watched {
         }
     }
 
-    // How many entries there are that the next collection removes.
-    fn uncounted(&self) -> usize {
-        self.held.iter().filter(|held| held.is_uncounted()).count()
+    // How many entries the inputs below a number stored that the next collection removes.
+    fn uncounted(&self, below: usize) -> usize {
+        let mut count: usize = 0;
+        for held in self.held.iter() {
+            if held.is_uncounted() && held.number < below {
+                count = count.saturating_add(1);
+            }
+        }
+        count
     }
 
     // How many entries the calls of a kind stored that are not gone.
     fn stored(&self, kind: CallKind) -> usize {
-        self.held
-            .iter()
-            .filter(|held| held.kind == kind && !held.is_gone)
-            .count()
+        let mut count: usize = 0;
+        for held in self.held.iter() {
+            if held.kind == kind && !held.is_gone {
+                count = count.saturating_add(1);
+            }
+        }
+        count
     }
 
     // Fails unless the world has exactly the slots and the entries that it has to have.

@@ -1,5 +1,5 @@
 //! The calls of a run that may want memory, each with the values and the texts of a number.
-use super::TestWorld;
+use super::{Calls, TestWorld};
 use crate::collections::node::{Branch, Node, items_of};
 use crate::values::text_of;
 use intern_world::{Back, Call, Slot};
@@ -89,12 +89,8 @@ impl Input {
         Node::new(self.number, None)
     }
 
-    /// The call of a kind.
-    pub(crate) fn call(
-        &self,
-        alloc: Global,
-        kind: CallKind,
-    ) -> Result<Call<Text, Node, Branch>, AllocError> {
+    // The call of a kind.
+    fn call(&self, alloc: Global, kind: CallKind) -> Result<Call<Text, Node, Branch>, AllocError> {
         Ok(match kind {
             CallKind::New => Call::New(Text::new(alloc, self.text.as_str())?),
             CallKind::NewGc => Call::NewGc(self.node()),
@@ -106,6 +102,23 @@ impl Input {
             CallKind::GeneratedGet => Call::GeneratedGet(large(self.number)),
             CallKind::Collect => Call::Collect,
         })
+    }
+
+    fn try_calls(&self, alloc: Global, kinds: &[CallKind]) -> Result<Calls, AllocError> {
+        let mut calls = Vec::with_capacity(alloc, kinds.len())?;
+        for kind in kinds {
+            let call = self.call(alloc, *kind)?;
+            calls.push(call)?;
+        }
+        Ok(calls)
+    }
+
+    /// The calls of these kinds, at the second try where the first is refused.
+    pub(crate) fn calls(&self, alloc: Global, kinds: &[CallKind]) -> Result<Calls, AllocError> {
+        match self.try_calls(alloc, kinds) {
+            Ok(calls) => Ok(calls),
+            Err(_) => self.try_calls(alloc, kinds),
+        }
     }
 
     /// Whether a call is that one.

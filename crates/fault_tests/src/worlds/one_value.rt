@@ -1,6 +1,8 @@
 //! A run that interns one value twice, on a new world. Where its first call is refused for want of
 //! memory, its third gives the first handle.
-use super::{Calls, NUMBERS, Replies, TestCall, TestReply, TestWorld, new_world, run_all};
+use super::{
+    Calls, NUMBERS, Replies, TestCall, TestReply, TestWorld, new_world, run_all, run_or_drop,
+};
 use crate::fault::{Fault, ensure};
 use crate::marks;
 use intern_world::{Back, Call, Reply, World};
@@ -103,7 +105,7 @@ fn run_calls(rt: &impl Eprint, world: &mut TestWorld, calls: Calls) -> Result<Re
         Err(back) => {
             marks::refused(rt, "run, on one value");
             check_back(world, &back)?;
-            run_all(world, back).map_err(|_| Fault::NoMemory)
+            run_or_drop(world, back)
         }
     }
 }
