@@ -1,14 +1,13 @@
 //! References that are stale, or of a storage outside.
-use crate::kinds::{Link, LinkSlice};
-use crate::nodes::{given_up, intern_leaf, intern_owned, registers_nodes};
+use crate::kinds::Link;
+use crate::nodes::{given_up, intern_leaf, intern_leaves, intern_owned, registers_nodes};
+use crate::pairs::{collects_slices_last, drop_slices_last, slices_last};
 use crate::steps::{
-    collects, collects_values, drop_collector, intern, intern_slice, is_equal, own, own_slice,
-    release, release_slice,
+    collects_values, drop_collector, intern, intern_slice, is_equal, own, own_slice, release,
+    release_slice,
 };
 use intern_fixtures::{drop_values, new_slices, new_values, refusal};
-use ra_ap_intern::{
-    GarbageCollector, InternSliceStorage, InternStorage, InternedRef, NoStorages, Pair, Refusal,
-};
+use ra_ap_intern::{GarbageCollector, InternedRef, Refusal};
 use std::alloc::Global;
 use std::ops::ControlFlow;
 use std::process::Abort;
@@ -69,9 +68,7 @@ fn a_declared_birth_counts_once_it_is_given(rt: HostRuntime) {
     let mut storage = new_values(alloc, 7);
     let _ = intern_owned(&rt, alloc, &mut storage, &[fifth], 0);
     collects_values(&rt, alloc, &mut storage, (1, 1, 0));
-    for birth in 1..6 {
-        let _ = intern_leaf(&rt, alloc, &mut storage, birth, birth);
-    }
+    intern_leaves(&rt, alloc, &mut storage, 1, 6);
     collects_values(&rt, alloc, &mut storage, (2, 1, 4));
     drop_values(storage);
 }
@@ -92,12 +89,12 @@ fn a_declared_birth_is_found_wherever_its_entry_is(rt: HostRuntime) {
     drop_values(storage);
 }
 
-/// A storage of values, and one of slices of such values.
-type Links = Pair<Pair<NoStorages, InternStorage<Link>>, InternSliceStorage<LinkSlice>>;
-
 /// A reference to the entry of birth 0 in a storage of number 7, which is given up.
 fn first_of_a_storage_given_up(rt: &impl Abort, alloc: Global) -> InternedRef<Link> {
-    intern(rt, &mut InternStorage::new(alloc, 7), Link(None), 0)
+    let mut storage = new_values(alloc, 7);
+    let first = intern(rt, &mut storage, Link(None), 0);
+    drop_values(storage);
+    first
 }
 
 #[test]
@@ -108,14 +105,14 @@ fn a_loop_through_two_storages_is_collected(rt: HostRuntime) {
     let slice = intern_slice(&rt, &mut slices, (), &[first], 0);
     let mut links = new_values(alloc, 7);
     let link = intern(&rt, &mut links, Link(Some(slice)), 0);
-    let family = GarbageCollector::add_storage(NoStorages, links);
-    let mut family: Links = GarbageCollector::add_slice_storage(family, slices);
+    let mut family = slices_last(links, slices);
 
     let link = own(&rt, &mut family.first.second, link);
-    collects(&rt, alloc, &mut family, (2, 2, 0));
+    collects_slices_last(&rt, alloc, &mut family, None, (2, 2, 0));
     release(&rt, &mut family.first.second, link);
     let slice = own_slice(&rt, &mut family.second, slice);
-    collects(&rt, alloc, &mut family, (2, 2, 0));
+    collects_slices_last(&rt, alloc, &mut family, None, (2, 2, 0));
     release_slice(&rt, &mut family.second, slice);
-    collects(&rt, alloc, &mut family, (0, 0, 2));
+    collects_slices_last(&rt, alloc, &mut family, None, (0, 0, 2));
+    drop_slices_last(family);
 }

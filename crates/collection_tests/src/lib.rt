@@ -21,6 +21,8 @@ mod nodes;
 #[cfg(test)]
 mod outers;
 #[cfg(test)]
+mod pairs;
+#[cfg(test)]
 mod paths;
 #[cfg(test)]
 mod pool;

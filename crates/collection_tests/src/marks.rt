@@ -8,8 +8,8 @@ use crate::steps::{collects_by, drop_collector, has_len, is_equal, own};
 use crate::texts::intern_text;
 use intern_fixtures::{GcString, NodeSlice, StringSlice, drop_values, new_values};
 use ra_ap_intern::{
-    GarbageCollector, GcInternedSliceVisit, GcInternedVisit, InternStorage, Internable,
-    InternedRef, InternedSliceRef, Name,
+    GarbageCollector, GcInternedSliceVisit, GcInternedVisit, Internable, InternedRef,
+    InternedSliceRef, Name,
 };
 use std::alloc::Global;
 use std::ops::ControlFlow;
@@ -81,7 +81,10 @@ fn a_mark_call_marks_what_is_registered_and_not_counted(rt: HostRuntime) {
 
 /// A reference to a text of a storage outside.
 fn a_text_outside(rt: &impl Abort, alloc: Global) -> InternedRef<GcString> {
-    intern_text(rt, alloc, &mut InternStorage::new(alloc, 9), "abc", 0)
+    let mut storage = new_values(alloc, 9);
+    let text = intern_text(rt, alloc, &mut storage, "abc", 0);
+    drop_values(storage);
+    text
 }
 
 /// Marks the slice twice, the value over it, and a text of a storage outside. Only the first call
@@ -107,19 +110,31 @@ fn a_registration_forgets_all_marks(rt: HostRuntime) {
     let text = a_text_outside(&rt, alloc);
     marks_four_times(&rt, &mut gc, outer, inner, text);
     registers_outers(&rt, &mut gc, &family);
-    none_is_marked(&rt, &gc, [inner.name(), outer.name(), text.name()]);
-    has_tallies(&rt, &gc, (0, 0));
-    marks_slice(&rt, &mut gc, inner, MARKED);
-    marks(&rt, &mut gc, text, NOT_MARKED);
-    assert!(rt; !gc.is_marked(text.name()));
+    begins_anew(&rt, &mut gc, outer, inner, text);
     drop_outers(family);
     drop_collector(gc);
 }
 
+/// Nothing is marked, and there were no visits and no mark calls. The slice can be marked again, and
+/// the text of a storage outside still can't.
+fn begins_anew(
+    rt: &impl Abort,
+    gc: &mut GarbageCollector,
+    outer: InternedRef<Outer>,
+    inner: InternedSliceRef<StringSlice>,
+    text: InternedRef<GcString>,
+) {
+    none_is_marked(rt, gc, &[inner.name(), outer.name(), text.name()]);
+    has_tallies(rt, gc, (0, 0));
+    marks_slice(rt, gc, inner, MARKED);
+    marks(rt, gc, text, NOT_MARKED);
+    assert!(rt; !gc.is_marked(text.name()));
+}
+
 /// No name is marked.
-fn none_is_marked(rt: &impl Abort, gc: &GarbageCollector, names: [Name; 3]) {
+fn none_is_marked(rt: &impl Abort, gc: &GarbageCollector, names: &[Name]) {
     for name in names {
-        assert!(rt; !gc.is_marked(name));
+        assert!(rt; !gc.is_marked(*name));
     }
 }
 

@@ -1,17 +1,20 @@
 //! A value over a slice of another storage.
+ghost use Rattle.std.specs.Prelude.{◌≡◌, true};
+
 use crate::kinds::Outer;
-use crate::steps::{collects, intern, is_equal, registers};
+use crate::pairs::{Two, collects_two, registers_two};
+use crate::steps::{intern, is_equal};
 use crate::texts::intern_numbers;
-use intern_fixtures::{StringSlice, new_slices, new_values};
+use intern_fixtures::{StringSlice, drop_slices, drop_values, new_slices, new_values};
 use ra_ap_intern::{
-    GarbageCollector, InternSliceStorage, InternStorage, InternedRef, InternedSliceRef, NoStorages,
-    Pair,
+    GarbageCollector, GcInternedSliceVisit, GcInternedVisit, InternSliceStorage, InternStorage,
+    Internable, InternedRef, InternedSliceRef, Name, NoStorages, SliceInternable,
 };
 use std::alloc::Global;
 use std::process::Abort;
 
 /// A storage of slices, and one of values over them.
-pub type Outers = Pair<Pair<NoStorages, InternSliceStorage<StringSlice>>, InternStorage<Outer>>;
+pub type Outers = Two<InternSliceStorage<StringSlice>, InternStorage<Outer>>;
 
 /// A value over a slice, neither of which is owned, with references to both.
 pub fn a_value_over_a_slice(
@@ -23,27 +26,44 @@ pub fn a_value_over_a_slice(
     let inner = intern_numbers(rt, alloc, &mut slices, pair, 0);
     let mut outers = new_values(alloc, 2);
     let outer = intern(rt, &mut outers, Outer(inner), 0);
+    (slices_first(slices, outers), outer, inner)
+}
+
+/// The family of a storage of slices and one of values.
+fn slices_first<K: SliceInternable + GcInternedSliceVisit, T: Internable + GcInternedVisit + Drop>(
+    slices: InternSliceStorage<K>,
+    values: InternStorage<T>,
+) -> Two<InternSliceStorage<K>, InternStorage<T>>
+where
+    K::Header: Drop,
+    requires slices { K.SliceInternable.USE_GC ≡ true }
+    requires values { T.Internable.USE_GC ≡ true }
+{
     let family = GarbageCollector::add_slice_storage(NoStorages, slices);
-    let family = GarbageCollector::add_storage(family, outers);
-    (family, outer, inner)
+    GarbageCollector::add_storage(family, values)
 }
 
 /// Drops the storages.
-pub fn drop_outers(_outers: Outers) {}
+pub fn drop_outers(outers: Outers) {
+    drop_slices(outers.first.second);
+    drop_values(outers.second);
+}
 
-/// Collects the storages: the visits, the mark calls and the removed entries are these.
+/// Collects the storages, with a list of roots if there is one: the visits, the mark calls and the
+/// removed entries are these.
 pub fn collects_outers(
     rt: &impl Abort,
     alloc: Global,
     outers: &mut Outers,
+    roots: Option<&[Name]>,
     answer: (usize, u64, usize),
 ) {
-    collects(rt, alloc, outers, answer);
+    collects_two(rt, alloc, outers, roots, answer);
 }
 
 /// Registers the storages.
 pub fn registers_outers(rt: &impl Abort, gc: &mut GarbageCollector, outers: &Outers) {
-    registers(rt, gc, outers);
+    registers_two(rt, gc, outers);
 }
 
 /// The storages have this many values and this many slices.

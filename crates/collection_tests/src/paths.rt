@@ -1,14 +1,15 @@
 //! What paths of declared children keep.
+ghost use Rattle.std.specs.Prelude.{◌≡◌, true};
+
 use crate::kinds::{Link, LinkSlice};
 use crate::nodes::{Nodes, intern_leaf, intern_node, intern_owned, registers_nodes};
+use crate::pairs::{SlicesLast, Two, drop_slices_last, slices_last};
 use crate::steps::{
     collects, collects_values, drop_collector, has_count, intern, intern_slice, is_equal, own,
     release,
 };
 use intern_fixtures::{Node, drop_values, new_slices, new_values};
-use ra_ap_intern::{
-    GarbageCollector, InternSliceStorage, InternStorage, InternedRef, NoStorages, Pair,
-};
+use ra_ap_intern::{Family, GarbageCollector, InternStorage, InternedRef, Pair};
 use std::alloc::Global;
 use std::ops::ControlFlow;
 use std::process::Abort;
@@ -59,10 +60,7 @@ fn an_owned_child_is_visited_once(rt: HostRuntime) {
 }
 
 /// Two storages of values, with one of slices between them.
-type Links = Pair<
-    Pair<Pair<NoStorages, InternStorage<Link>>, InternSliceStorage<LinkSlice>>,
-    InternStorage<Link>,
->;
+type Links = Pair<SlicesLast<Link, LinkSlice>, InternStorage<Link>>;
 
 /// A value over a slice over a value of another storage, none of which is owned, with a reference
 /// to the first.
@@ -73,10 +71,30 @@ fn a_path_through_three_storages(rt: &impl Abort, alloc: Global) -> (Links, Inte
     let slice = intern_slice(rt, &mut slices, (), &[bottom], 0);
     let mut above = new_values(alloc, 3);
     let top = intern(rt, &mut above, Link(Some(slice)), 0);
+    let family = Pair {
+        first: slices_last(below, slices),
+        second: above,
+    };
+    (family, top)
+}
 
-    let family = GarbageCollector::add_storage(NoStorages, below);
-    let family = GarbageCollector::add_slice_storage(family, slices);
-    (GarbageCollector::add_storage(family, above), top)
+/// Collects three storages, with this answer.
+fn collects_three<A: Family, B: Family, C: Family>(
+    rt: &impl Abort,
+    alloc: Global,
+    family: &mut Pair<Two<A, B>, C>,
+    answer: (usize, u64, usize),
+)
+    requires first { A.collected ≡ true }
+    requires second { B.collected ≡ true }
+    requires third { C.collected ≡ true }
+{
+    collects(rt, alloc, family, answer);
+}
+
+/// Collects the storages, with this answer.
+fn collects_links(rt: &impl Abort, alloc: Global, links: &mut Links, answer: (usize, u64, usize)) {
+    collects_three(rt, alloc, links, answer);
 }
 
 #[test]
@@ -84,9 +102,11 @@ fn a_path_goes_through_storages(rt: HostRuntime) {
     let alloc = rt.alloc();
     let (mut family, top) = a_path_through_three_storages(&rt, alloc);
     let top = own(&rt, &mut family.second, top);
-    collects(&rt, alloc, &mut family, (3, 2, 0));
+    collects_links(&rt, alloc, &mut family, (3, 2, 0));
     release(&rt, &mut family.second, top);
-    collects(&rt, alloc, &mut family, (0, 0, 3));
+    collects_links(&rt, alloc, &mut family, (0, 0, 3));
+    drop_slices_last(family.first);
+    drop_values(family.second);
 }
 
 #[test]

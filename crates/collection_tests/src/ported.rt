@@ -18,7 +18,7 @@ fn simple_gc(rt: HostRuntime) {
     let def = second_text(&rt, &family);
     has_count(&rt, &family.first.second, def, 0);
 
-    collects_texts(&rt, alloc, &mut family, (2, 0, 1));
+    collects_texts(&rt, alloc, &mut family, None, (2, 0, 1));
     have_lens(&rt, &family, (1, 1));
     are_counted_once(&rt, &family, text.as_ref(), slice.as_ref());
     reads_text(&rt, &family.first.second, def, None);
@@ -49,10 +49,10 @@ fn second_text(rt: &impl Abort, family: &Texts) -> InternedRef<GcString> {
 fn simple_gc_after_the_release(rt: HostRuntime) {
     let alloc = rt.alloc();
     let (mut family, text, slice) = two_texts_and_a_slice(&rt, alloc);
-    collects_texts(&rt, alloc, &mut family, (2, 0, 1));
+    collects_texts(&rt, alloc, &mut family, None, (2, 0, 1));
     release(&rt, &mut family.first.second, text);
     release_slice(&rt, &mut family.second, slice);
-    collects_texts(&rt, alloc, &mut family, (0, 0, 2));
+    collects_texts(&rt, alloc, &mut family, None, (0, 0, 2));
     have_lens(&rt, &family, (0, 0));
     drop_texts(family);
 }
@@ -65,11 +65,11 @@ fn gc_visit(rt: HostRuntime) {
     slice_has_count(&rt, &family.first.second, inner, 0);
     has_count(&rt, &family.second, outer.as_ref(), 1);
 
-    collects_outers(&rt, alloc, &mut family, (2, 1, 0));
+    collects_outers(&rt, alloc, &mut family, None, (2, 1, 0));
     outers_have_lens(&rt, &family, (1, 1));
     reads_over(&rt, &family, &outer, ("abc", &[123, 456, 789]));
     release(&rt, &mut family.second, outer);
-    collects_outers(&rt, alloc, &mut family, (0, 0, 2));
+    collects_outers(&rt, alloc, &mut family, None, (0, 0, 2));
     outers_have_lens(&rt, &family, (0, 0));
     drop_outers(family);
 }

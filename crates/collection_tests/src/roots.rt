@@ -2,10 +2,9 @@
 use crate::nodes::{Nodes, intern_leaf, intern_node};
 use crate::outers::{a_value_over_a_slice, collects_outers, drop_outers};
 use crate::steps::{
-    collects_from, collects_keeping, collects_values, has_count, has_len, own, release,
-    release_slice,
+    collects_from, collects_values, has_count, has_len, own, release, release_slice,
 };
-use crate::texts::{drop_texts, have_lens, two_texts_and_a_slice};
+use crate::texts::{collects_texts, drop_texts, have_lens, two_texts_and_a_slice};
 use intern_fixtures::{Node, drop_values, new_values};
 use ra_ap_intern::{InternedRef, Name, Owed};
 use std::alloc::Global;
@@ -26,9 +25,9 @@ fn a_root_is_kept_as_if_it_were_counted(rt: HostRuntime) {
     release_slice(&rt, &mut family.second, slice);
 
     let roots = [abc, numbers, abc, ELSEWHERE];
-    collects_keeping(&rt, alloc, &mut family, &roots, (2, 0, 1));
+    collects_texts(&rt, alloc, &mut family, Some(&roots), (2, 0, 1));
     have_lens(&rt, &family, (1, 1));
-    collects_keeping(&rt, alloc, &mut family, &[], (0, 0, 2));
+    collects_texts(&rt, alloc, &mut family, Some(&[]), (0, 0, 2));
     have_lens(&rt, &family, (0, 0));
     drop_texts(family);
 }
@@ -39,10 +38,10 @@ fn a_root_keeps_what_it_declares(rt: HostRuntime) {
     let (mut family, outer, inner) = a_value_over_a_slice(&rt, alloc);
     let owned = own(&rt, &mut family.second, outer);
     release(&rt, &mut family.second, owned);
-    collects_keeping(&rt, alloc, &mut family, &[outer.name()], (2, 1, 0));
-    collects_keeping(&rt, alloc, &mut family, &[inner.name()], (1, 0, 1));
+    collects_outers(&rt, alloc, &mut family, Some(&[outer.name()]), (2, 1, 0));
+    collects_outers(&rt, alloc, &mut family, Some(&[inner.name()]), (1, 0, 1));
     has_len(&rt, &family.second, 0);
-    collects_outers(&rt, alloc, &mut family, (0, 0, 1));
+    collects_outers(&rt, alloc, &mut family, None, (0, 0, 1));
     drop_outers(family);
 }
 

@@ -2,7 +2,7 @@
 ghost use Rattle.std.specs.Prelude.{true};
 
 use crate::nodes::{Nodes, intern_leaf};
-use crate::steps::{collects_from, intern, is_equal};
+use crate::steps::{collects_declared, collects_from, intern};
 use intern_fixtures::{Node, drop_values, new_values};
 use ra_ap_intern::{GarbageCollector, GcInternedVisit, Internable, InternedRef, Pair};
 use std::alloc::Global;
@@ -66,10 +66,9 @@ fn keeps_four(rt: &impl Abort, shelf: Shelf, nodes: Nodes, alloc: Global) {
         first: nodes,
         second: shelves,
     };
-    assert!(rt; GarbageCollector::distinct(&family));
-    let told = GarbageCollector::new(alloc).collect_from(&mut family, &shelf);
-    let told = told.expect(rt, "memory");
-    is_equal(rt, (told.visits, told.mark_calls, told.removed), (5, 4, 1));
+    collects_declared(rt, alloc, &mut family, &shelf, (5, 4, 1));
+    drop_values(family.first);
+    drop_values(family.second);
 }
 
 #[test]

@@ -3,7 +3,7 @@ ghost use Rattle.std.specs.Prelude.{◌≡◌, true};
 
 use intern_fixtures::{allowed, told};
 use ra_ap_intern::{
-    Family, GarbageCollector, GcInternedSliceVisit, GcInternedVisit, InternSliceStorage,
+    Collected, Family, GarbageCollector, GcInternedSliceVisit, GcInternedVisit, InternSliceStorage,
     InternStorage, Internable, Interned, InternedRef, InternedSlice, InternedSliceRef, Name,
     SliceInternable,
 };
@@ -82,7 +82,13 @@ pub fn collects_by<F: Family>(
     requires { F.collected ≡ true }
 {
     assert!(rt; GarbageCollector::distinct(family));
-    is_equal(rt, told(gc.collect(family)), Some(answer));
+    let (visits, mark_calls, removed) = answer;
+    let expected = Collected {
+        visits,
+        mark_calls,
+        removed,
+    };
+    is_equal(rt, gc.collect(family), Ok(expected));
 }
 
 /// Collects a family with a list of roots: the visits, the mark calls and the removed entries are
@@ -115,8 +121,8 @@ pub fn collects_from<T: Internable + GcInternedVisit + Drop, R: GcInternedVisit>
     collects_declared(rt, alloc, storage, roots, answer);
 }
 
-// The same of a family.
-fn collects_declared<F: Family, R: GcInternedVisit>(
+/// The same of a family.
+pub fn collects_declared<F: Family, R: GcInternedVisit>(
     rt: &impl Abort,
     alloc: Global,
     family: &mut F,

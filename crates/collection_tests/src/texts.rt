@@ -1,15 +1,15 @@
 //! Steps of tests over texts, and over numbers behind texts: neither declares anything.
-use crate::steps::{collects, intern, intern_slice, is_equal, own, own_slice};
+use crate::pairs::{SlicesLast, collects_slices_last, drop_slices_last, slices_last};
+use crate::steps::{intern, intern_slice, is_equal, own, own_slice};
 use intern_fixtures::{GcString, StringSlice, allowed, make_gc_string, new_slices, new_values};
 use ra_ap_intern::{
-    GarbageCollector, InternSliceStorage, InternStorage, Interned, InternedRef, InternedSlice,
-    InternedSliceRef, NoStorages, Pair,
+    InternSliceStorage, InternStorage, Interned, InternedRef, InternedSlice, InternedSliceRef, Name,
 };
 use std::alloc::Global;
 use std::process::Abort;
 
 /// A storage of texts, and one of numbers behind texts.
-pub type Texts = Pair<Pair<NoStorages, InternStorage<GcString>>, InternSliceStorage<StringSlice>>;
+pub type Texts = SlicesLast<GcString, StringSlice>;
 
 /// Interns a text that isn't stored: it gets this birth.
 pub fn intern_text(
@@ -76,16 +76,20 @@ pub fn reads_numbers(
 }
 
 /// Drops the storages.
-pub fn drop_texts(_texts: Texts) {}
+pub fn drop_texts(texts: Texts) {
+    drop_slices_last(texts);
+}
 
-/// Collects the storages: the visits, the mark calls and the removed entries are these.
+/// Collects the storages, with a list of roots if there is one: the visits, the mark calls and the
+/// removed entries are these.
 pub fn collects_texts(
     rt: &impl Abort,
     alloc: Global,
     texts: &mut Texts,
+    roots: Option<&[Name]>,
     answer: (usize, u64, usize),
 ) {
-    collects(rt, alloc, texts, answer);
+    collects_slices_last(rt, alloc, texts, roots, answer);
 }
 
 /// The storages have this many texts and this many slices.
@@ -109,7 +113,5 @@ pub fn two_texts_and_a_slice(
     let _ = intern_numbers_again(rt, alloc, &mut slices, pair, slice);
     let slice = own_slice(rt, &mut slices, slice);
 
-    let family = GarbageCollector::add_storage(NoStorages, texts);
-    let family = GarbageCollector::add_slice_storage(family, slices);
-    (family, abc, slice)
+    (slices_last(texts, slices), abc, slice)
 }
