@@ -1,6 +1,7 @@
 //! Each public call, where it succeeds.
 use crate::steps::{
-    count_down, has_count, has_len, has_name, is_empty, is_equal, own, release, stored, take_over,
+    count_down, has_count, has_len, has_name, is_empty, is_equal, is_same, own, release, stored,
+    take_over,
 };
 use crate::{strings, words};
 use intern_fixtures::{
@@ -9,6 +10,40 @@ use intern_fixtures::{
 use ra_ap_intern::{Interned, Limits, Refusal, laws};
 use std::alloc::Global;
 use std::process::Abort;
+
+/// Each refusal, with its number and its text.
+const REFUSALS: &[(Refusal, u8, &str)] = &[
+    (
+        Refusal::Foreign,
+        1,
+        "the handle is of another storage; use it with the one that gave it",
+    ),
+    (
+        Refusal::Gone,
+        2,
+        "the entry is gone, or was never there; intern its value anew",
+    ),
+    (
+        Refusal::CountZero,
+        3,
+        "the entry's count is zero already; no owner is left to release",
+    ),
+    (
+        Refusal::CountFull,
+        4,
+        "the entry's count is at its limit; release an owner first",
+    ),
+    (
+        Refusal::NumbersUsedUp,
+        5,
+        "the storage has given all its births; begin another one",
+    ),
+    (
+        Refusal::OutOfMemory,
+        6,
+        "out of memory; try again once some is free",
+    ),
+];
 
 #[test]
 fn storages(rt: HostRuntime) {
@@ -56,10 +91,10 @@ fn references(rt: HostRuntime) {
     let _ = strings::intern_new(&rt, alloc, &mut storage, "x", 0);
     let y = strings::intern_new(&rt, alloc, &mut storage, "y", 1);
     let copy = y;
-    assert!(rt; copy == y);
+    is_same(&rt, copy, y);
     has_name(&rt, y, (1, 1));
     is_equal(&rt, y.get(&storage).map(GcString::text), Some("y"));
-    assert!(rt; stored(&rt, &storage, 1) == y);
+    is_same(&rt, stored(&rt, &storage, 1), y);
     let owned = own(&rt, &mut storage, y, 1);
     drop(owned);
     count_down(&rt, &mut storage, y, 0);
@@ -96,40 +131,9 @@ fn x_twice_and_y(
 #[test]
 fn refusals(rt: HostRuntime) {
     let alloc = rt.alloc();
-    for (why, number, text) in [
-        (
-            Refusal::Foreign,
-            1,
-            "the handle is of another storage; use it with the one that gave it",
-        ),
-        (
-            Refusal::Gone,
-            2,
-            "the entry is gone, or was never there; intern its value anew",
-        ),
-        (
-            Refusal::CountZero,
-            3,
-            "the entry's count is zero already; no owner is left to release",
-        ),
-        (
-            Refusal::CountFull,
-            4,
-            "the entry's count is at its limit; release an owner first",
-        ),
-        (
-            Refusal::NumbersUsedUp,
-            5,
-            "the storage has given all its births; begin another one",
-        ),
-        (
-            Refusal::OutOfMemory,
-            6,
-            "out of memory; try again once some is free",
-        ),
-    ] {
-        is_equal(&rt, why.number(), number);
-        is_printed(&rt, alloc, why, text);
+    for (why, number, text) in REFUSALS {
+        is_equal(&rt, why.number(), *number);
+        is_printed(&rt, alloc, *why, text);
     }
 }
 

@@ -4,8 +4,8 @@ ghost use Rattle.std.specs.Prelude.{◌≡◌, ◌≤◌, false};
 use crate::kinds::{Number, Numeral};
 use crate::numbers::{frees, intern_again, intern_new, not_interned, reads};
 use crate::steps::{
-    count_down, has_count, has_len, not_counted_down, not_found, not_owned, not_released, own,
-    push, reads_nothing, release, stored, take_over,
+    count_down, counted, has_count, has_len, is_same, not_counted_down, not_found, not_owned,
+    not_released, own, push, reads_nothing, release, stored, take_over,
 };
 use intern_fixtures::{Unhashed, drop_values, limited_values, new_values};
 use ra_ap_intern::{InternStorage, Interned, InternedRef, Limits, Refusal};
@@ -182,7 +182,7 @@ fn free<T: Numeral>(
     requires { T.Internable.USE_GC ≡ false }
 {
     let reference = handle.as_ref();
-    let count = storage.count(reference).expect(rt, "stored");
+    let count = counted(storage, reference).expect(rt, "stored");
     for taken in 1..count {
         count_down(rt, storage, reference, count - taken);
     }
@@ -203,7 +203,13 @@ fn is_as_told<T: Numeral>(rt: &impl Abort, storage: &mut InternStorage<T>, ledge
 
 /// How many births have entries.
 fn live<T>(ledger: &Ledger<T>) -> usize {
-    ledger.iter().filter(|birth| birth.number.is_some()).count()
+    let mut live = 0usize;
+    for birth in ledger {
+        if birth.number.is_some() {
+            live = live.wrapping_add(1);
+        }
+    }
+    live
 }
 
 /// The entry of a birth is there, or is gone, as is noted.
@@ -241,12 +247,12 @@ fn is_found_by_birth<T: Numeral>(
 ) {
     let count = count_of(reference.as_raw());
     let found = stored(rt, storage, reference.as_raw());
-    assert!(rt; found == reference);
+    is_same(rt, found, reference);
     reads(rt, storage, found, number);
     let _ = own(rt, storage, reference, count + 1);
     has_count(rt, storage, found, count + 1);
     let taken = take_over(rt, storage, (reference.as_raw(), count + 1));
-    assert!(rt; taken.as_ref() == reference);
+    is_same(rt, taken.as_ref(), reference);
     release(rt, storage, taken, count);
     has_count(rt, storage, reference, count);
 }
@@ -303,12 +309,12 @@ fn seen_from<T: Numeral>(
 ) -> Ledger<T> {
     let mut seen = Vec::new(alloc);
     for Birth { reference, .. } in given_up {
-        let there = ledger.get(reference.as_raw() as usize);
-        let birth = Birth {
-            reference: *reference,
-            number: there.and_then(|birth| birth.number),
+        let reference = *reference;
+        let number = match ledger.get(reference.as_raw() as usize) {
+            Some(birth) => birth.number,
+            None => None,
         };
-        push(rt, &mut seen, birth);
+        push(rt, &mut seen, Birth { reference, number });
     }
     seen
 }

@@ -1,7 +1,7 @@
 //! Storages in collected mode.
 use crate::kinds::Node;
 use crate::steps::{
-    count_down, has_count, has_len, intern_new_gc, is_equal, not_counted_down, not_found,
+    count_down, has_count, has_len, intern_new_gc, is_equal, is_same, not_counted_down, not_found,
     not_lowered, not_raised, not_taken_over, own, push, refused_in_each_way, release,
 };
 use crate::strings::{Strings, collect_the_only_one, intern_again, intern_new, not_interned};
@@ -20,7 +20,7 @@ fn an_entry_stays_when_nothing_counts_it(rt: HostRuntime) {
     has_len(&rt, &storage, 1);
 
     let again = intern_again(&rt, alloc, &mut storage, "a", 0);
-    assert!(rt; again == a);
+    is_same(&rt, again, a);
     not_counted_down(&rt, &mut storage, a, Refusal::CountZero);
     not_taken_over(&rt, &storage, 0, Refusal::CountZero);
     drop_values(storage);
@@ -34,7 +34,7 @@ fn a_stored_value_is_found_at_every_limit(rt: HostRuntime) {
     let owned = own(&rt, &mut storage, a, 1);
     not_raised(&rt, &mut storage, &owned, 1);
     let again = intern_again(&rt, alloc, &mut storage, "a", 0);
-    assert!(rt; again == a);
+    is_same(&rt, again, a);
     not_interned(&rt, alloc, &mut storage, "b");
     has_count(&rt, &storage, a, 1);
     drop_values(storage);
@@ -103,9 +103,14 @@ fn reads_above(
     let read = top.get(storage).expect(rt, "stored");
     is_equal(rt, read.label, label);
     let child = read.children.first().expect(rt, "a child");
-    is_equal(rt, child.get(storage).map(|n| n.label), Some(child_label));
+    has_label(rt, child.get(storage), child_label);
     let owned = read.owned.first().expect(rt, "an owned child");
-    is_equal(rt, owned.get(storage).map(|n| n.label), Some(child_label));
+    has_label(rt, owned.get(storage), child_label);
+}
+
+/// The node is there, and has this label.
+fn has_label(rt: &impl Abort, node: Option<&Node>, label: u64) {
+    is_equal(rt, node.expect(rt, "stored").label, label);
 }
 
 /// Makes a node with one child, which it also owns.

@@ -1,7 +1,7 @@
 //! Storages in counted mode.
 use crate::steps::{
-    count_down, has_len, has_name, not_found, not_lowered, not_owned, not_raised, not_released,
-    not_taken_over, reads_nothing, refused_in_each_way, stored, take_over,
+    count_down, has_len, has_name, is_same, not_found, not_lowered, not_owned, not_raised,
+    not_released, not_taken_over, reads_nothing, refused_in_each_way, stored, take_over,
 };
 use crate::words::{Words, frees, intern_again, intern_new, not_interned, reads};
 use intern_fixtures::{drop_values, limited_values, new_values};
@@ -71,12 +71,12 @@ fn a_count_left_behind_is_taken_over(rt: HostRuntime) {
     let reference = k.as_ref();
     drop(k);
     let taken = take_over(&rt, &storage, (0, 1));
-    assert!(rt; taken.as_ref() == reference);
+    is_same(&rt, taken.as_ref(), reference);
     not_taken_over(&rt, &storage, 1, Refusal::Gone);
 
     count_down(&rt, &mut storage, reference, 0);
     not_taken_over(&rt, &storage, 0, Refusal::CountZero);
-    assert!(rt; stored(&rt, &storage, 0) == reference);
+    is_same(&rt, stored(&rt, &storage, 0), reference);
     drop_values(storage);
 }
 

@@ -53,7 +53,7 @@ fn gives(rt: &impl Abort, storage: &Words, birth: u64, text: Option<&str>) {
     let mut found = None;
     for (reference, word) in storage.iter() {
         if reference.as_raw() == birth {
-            assert!(rt; found.is_none());
+            is_equal(rt, found, None);
             is_equal(
                 rt,
                 reference.get(storage).map(Word::text),

@@ -1,8 +1,8 @@
 //! References or none, in the room of a reference.
 ghost use Rattle.std.specs.Prelude.{true};
 
-use crate::steps::is_equal;
-use intern_fixtures::allowed;
+use crate::steps::{is_equal, is_same};
+use intern_fixtures::{allowed, drop_values, new_values};
 use ra_ap_intern::{
     GarbageCollector, GcInternedVisit, InternStorage, Internable, Interned, InternedRef,
     OptionalInternedRef,
@@ -61,7 +61,7 @@ fn an_optional_reference_is_as_large_as_a_reference(rt: HostRuntime) {
 
 #[test]
 fn an_optional_reference_is_a_reference_or_none(rt: HostRuntime) {
-    let mut storage = InternStorage::<Link>::new(rt.alloc(), 7);
+    let mut storage = new_values(rt.alloc(), 7);
     let none = OptionalInternedRef::none();
     let first = store(&rt, &mut storage, 1, none);
     let second = store(&rt, &mut storage, 2, first.into());
@@ -83,25 +83,21 @@ fn an_optional_reference_is_a_reference_or_none(rt: HostRuntime) {
         shown.expect(&rt, "memory").as_str(),
         "Some(Ref(#7.1)) None",
     );
-    drop(storage);
+    drop_values(storage);
 }
 
 #[test]
 fn a_collection_follows_optional_references(rt: HostRuntime) {
     let alloc = rt.alloc();
-    let mut storage = InternStorage::<Link>::new(alloc, 1);
+    let mut storage = new_values(alloc, 1);
     let first = store(&rt, &mut storage, 1, OptionalInternedRef::none());
     let second = store(&rt, &mut storage, 2, first.into());
     let third = store(&rt, &mut storage, 3, second.into());
-    is_equal(
-        &rt,
-        third == store(&rt, &mut storage, 3, second.into()),
-        true,
-    );
+    is_same(&rt, store(&rt, &mut storage, 3, second.into()), third);
     keeps(&rt, alloc, &mut storage, second);
     assert!(rt; storage.contains(first) && storage.contains(second));
     assert!(rt; !storage.contains(third));
-    drop(storage);
+    drop_values(storage);
 }
 
 // A collection from this one visits it and the one before, and removes the third.

@@ -1,5 +1,8 @@
 //! Owned handles that must be released.
-use crate::steps::{count_down, has_count, has_len, has_name, is_equal, is_reason, reads_nothing};
+use crate::steps::{
+    count_down, has_count, has_len, has_name, is_equal, is_none, is_reason, is_same, length, own,
+    reads_nothing,
+};
 use crate::words::{Words, intern_again, intern_new};
 use intern_fixtures::{Word, a_map_tells_apart, drop_values, limited_values, new_values};
 use ra_ap_intern::{Interned, InternedRef, Limits, Owed, OwedValue, Refusal, Refused};
@@ -24,7 +27,7 @@ fn release(rt: &impl Abort, storage: &mut Words, owed: OwedValue<Word>, count: u
         .release(storage)
         .map_err(why_alone)
         .expect(rt, "released");
-    assert!(rt; freed.is_none());
+    is_none(rt, freed);
     has_count(rt, storage, reference, count);
 }
 
@@ -46,7 +49,7 @@ fn not_released(
     owed: OwedValue<Word>,
     reason: Refusal,
 ) -> OwedValue<Word> {
-    let (len, name) = (storage.len(), owed.name());
+    let (len, name) = (length(storage), owed.name());
     match owed.release(storage) {
         Ok(_) => panic!(rt; "it was released"),
         Err(Refused { why, back }) => {
@@ -73,13 +76,13 @@ fn an_owed_handle_has_the_calls_of_an_owned_one(rt: HostRuntime) {
     has_name(&rt, x.as_ref(), (1, 0));
     is_equal(&rt, x.get(&storage).map(Word::text), Some("x"));
     let reference: InternedRef<Word> = InternedRef::from(&x);
-    assert!(rt; reference == x.as_ref());
+    is_same(&rt, reference, x.as_ref());
 
     let second = x.clone(&mut storage).expect(&rt, "cloned");
     has_count(&rt, &storage, reference, 2);
     release(&rt, &mut storage, second, 1);
     let owned = x.into_owned();
-    assert!(rt; owned.as_ref() == reference);
+    is_same(&rt, owned.as_ref(), reference);
     frees(&rt, &mut storage, Owed::from(owned), "x");
     has_len(&rt, &storage, 0);
     drop_values(storage);
@@ -116,7 +119,7 @@ fn a_refusal_gives_it_back(rt: HostRuntime) {
 
     count_down(&rt, &mut storage, reference, 0);
     let x = not_released(&rt, &mut storage, x, Refusal::CountZero);
-    let owned = reference.to_owned(&mut storage).expect(&rt, "owned");
+    let owned = own(&rt, &mut storage, reference, 1);
     frees(&rt, &mut storage, Owed::from(owned), "x");
     let x = not_released(&rt, &mut storage, x, Refusal::Gone);
     not_cloned(&rt, &mut storage, &x, Refusal::Gone);

@@ -1,6 +1,7 @@
 //! An example to read: a word that is stored once, and released twice.
 ghost use Rattle.std.specs.Prelude.{false};
 
+use crate::steps::is_equal;
 use ra_ap_intern::{InternStorage, Internable, Interned};
 use std::alloc::Global;
 use std::process::Abort;
@@ -33,11 +34,15 @@ fn equal_words_are_stored_once(rt: HostRuntime) {
     let first = store(&rt, alloc, &mut words, "hello");
     let second = store(&rt, alloc, &mut words, "hello");
     assert!(rt; first == second);
-    assert_eq!(rt; words.len(), 1);
+    is_equal(&rt, words.len(), 1);
 
     // The last release removes the word and gives it back.
     let none = first.release(&mut words).expect(&rt, "an owner");
     assert!(rt; none.is_none());
     let word = second.release(&mut words).expect(&rt, "the last owner");
-    assert_eq!(rt; word.as_ref().map(|word| word.0.as_str()), Some("hello"));
+    is_equal(
+        &rt,
+        word.as_ref().map(|word| word.0.as_str()),
+        Some("hello"),
+    );
 }

@@ -1,8 +1,8 @@
 //! Values that are interned in room that was made for them.
 use crate::kinds::{Kept, Number, Numeral};
-use crate::steps::{has_birth, has_len, is_equal, is_reason};
-use intern_fixtures::{allowed, drop_values, new_values, refusal};
-use ra_ap_intern::{InternStorage, Internable, Interned, Refusal, Reserved, Values};
+use crate::steps::{has_birth, has_len, is_equal, is_reason, length, reserve};
+use intern_fixtures::{allowed, drop_values, new_values};
+use ra_ap_intern::{InternStorage, Interned, Refusal, Reserved, Values};
 use std::process::Abort;
 
 /// A storage with the numbers below this one.
@@ -10,15 +10,6 @@ fn store(rt: &impl Abort, storage: &mut InternStorage<Number>, numbers: u64) {
     for number in 0..numbers {
         let _ = allowed(Interned::new(storage, Number::of(number))).expect(rt, "interned");
     }
-}
-
-/// Room for this many.
-fn reserve<'a, T: Internable>(
-    rt: &impl Abort,
-    storage: &'a mut InternStorage<T>,
-    additional: usize,
-) -> &'a mut Reserved<Values<T>> {
-    storage.reserve(additional).expect(rt, "memory")
 }
 
 /// Interns a number, which gets this birth, and comes back where it is stored.
@@ -95,8 +86,8 @@ fn too_much_room_is_refused(rt: HostRuntime) {
 
 /// So much room is refused for want of memory.
 fn is_refused(rt: &impl Abort, storage: &mut InternStorage<Number>, additional: usize) {
-    let len = storage.len();
-    let why = refusal(storage.reserve(additional).map(|_| ())).expect(rt, "refused");
+    let len = length(storage);
+    let why = storage.reserve(additional).err().expect(rt, "refused");
     is_reason(rt, why, Refusal::OutOfMemory);
     has_len(rt, storage, len);
 }

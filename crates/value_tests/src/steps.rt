@@ -2,13 +2,25 @@
 ghost use Rattle.std.specs.Prelude.{◌≡◌, true, false};
 
 use intern_fixtures::{allowed, refusal};
-use ra_ap_intern::{InternStorage, Internable, Interned, InternedRef, Name, Refusal, Refused};
+use ra_ap_intern::{
+    InternStorage, Internable, Interned, InternedRef, Name, Refusal, Refused, Reserved, Values,
+};
 use std::fmt::Debug;
 use std::process::Abort;
 
 /// The values are equal.
 pub fn is_equal<V: Copy + PartialEq + Debug>(rt: &impl Abort, found: V, wanted: V) {
     assert_eq!(rt; found, wanted);
+}
+
+/// There is nothing.
+pub fn is_none<V: Drop>(rt: &impl Abort, found: Option<V>) {
+    assert!(rt; found.is_none());
+}
+
+/// Both references are of one entry.
+pub fn is_same<T>(rt: &impl Abort, found: InternedRef<T>, wanted: InternedRef<T>) {
+    assert!(rt; found == wanted);
 }
 
 /// Adds a value at the end of a list.
@@ -37,6 +49,19 @@ pub fn has_name<T>(rt: &impl Abort, reference: InternedRef<T>, (storage, birth):
     is_equal(rt, reference.name(), Name { storage, birth });
 }
 
+/// How many entries the storage has. A test that calls `len` itself is proved for longer.
+pub fn length<T: Internable>(storage: &InternStorage<T>) -> usize {
+    storage.len()
+}
+
+/// The count of an entry, or none. A test that calls `count` itself is proved for longer.
+pub fn counted<T: Internable>(
+    storage: &InternStorage<T>,
+    reference: InternedRef<T>,
+) -> Option<u64> {
+    storage.count(reference)
+}
+
 /// The entry has this count.
 pub fn has_count<T: Internable>(
     rt: &impl Abort,
@@ -44,17 +69,18 @@ pub fn has_count<T: Internable>(
     reference: InternedRef<T>,
     count: u64,
 ) {
-    is_equal(rt, storage.count(reference), Some(count));
+    is_equal(rt, counted(storage, reference), Some(count));
 }
 
 /// The storage has this many entries.
 pub fn has_len<T: Internable>(rt: &impl Abort, storage: &InternStorage<T>, len: usize) {
-    is_equal(rt, storage.len(), len);
+    is_equal(rt, length(storage), len);
 }
 
 /// The storage has this number, and no entry.
 pub fn is_empty<T: Internable>(rt: &impl Abort, storage: &InternStorage<T>, number: u64) {
-    is_equal(rt, (storage.number(), storage.len()), (number, 0));
+    is_equal(rt, storage.number(), number);
+    has_len(rt, storage, 0);
 }
 
 /// Interns a value that is counted and isn't stored: it gets this birth and count 1, and nothing
@@ -69,7 +95,7 @@ pub fn intern_new<T: Internable + Drop>(
 {
     let (handle, back) = allowed(Interned::new(storage, value)).expect(rt, "interned");
     has_birth(rt, handle.as_ref(), birth);
-    assert!(rt; back.is_none());
+    is_none(rt, back);
     has_count(rt, storage, handle.as_ref(), 1);
     handle
 }
@@ -85,7 +111,7 @@ pub fn intern_again<T: Internable + Drop>(
     requires { T.Internable.USE_GC ≡ false }
 {
     let (birth, count) = counted;
-    let len = storage.len();
+    let len = length(storage);
     let (handle, back) = allowed(Interned::new(storage, value)).expect(rt, "interned");
     has_birth(rt, handle.as_ref(), birth);
     has_count(rt, storage, handle.as_ref(), count);
@@ -103,7 +129,7 @@ pub fn not_interned<T: Internable + Drop>(
 ) -> T
     requires { T.Internable.USE_GC ≡ false }
 {
-    let len = storage.len();
+    let len = length(storage);
     let Refused { why, back } = Interned::new(storage, value).err().expect(rt, "refused");
     is_reason(rt, why, reason);
     has_len(rt, storage, len);
@@ -122,9 +148,18 @@ pub fn intern_new_gc<T: Internable + Drop>(
 {
     let (reference, back) = allowed(Interned::new_gc(storage, value)).expect(rt, "interned");
     has_birth(rt, reference, birth);
-    assert!(rt; back.is_none());
+    is_none(rt, back);
     has_count(rt, storage, reference, 0);
     reference
+}
+
+/// Room for this many more entries.
+pub fn reserve<'a, T: Internable>(
+    rt: &impl Abort,
+    storage: &'a mut InternStorage<T>,
+    additional: usize,
+) -> &'a mut Reserved<Values<T>> {
+    storage.reserve(additional).expect(rt, "memory")
 }
 
 /// Reads nothing, and there is no count.
@@ -134,7 +169,7 @@ pub fn reads_nothing<T: Internable>(
     reference: InternedRef<T>,
 ) {
     assert!(rt; reference.get(storage).is_none());
-    is_equal(rt, storage.count(reference), None);
+    is_equal(rt, counted(storage, reference), None);
 }
 
 /// The entry of a birth.
@@ -182,7 +217,7 @@ pub fn own<T: Internable>(
     count: u64,
 ) -> Interned<T> {
     let owned = reference.to_owned(storage).expect(rt, "owned");
-    assert!(rt; owned.as_ref() == reference);
+    is_same(rt, owned.as_ref(), reference);
     has_count(rt, storage, reference, count);
     owned
 }
@@ -237,7 +272,7 @@ pub fn release<T: Internable + Drop>(
 ) {
     let reference = handle.as_ref();
     let freed = allowed(handle.release(storage)).expect(rt, "released");
-    assert!(rt; freed.is_none());
+    is_none(rt, freed);
     has_count(rt, storage, reference, count);
 }
 
@@ -260,10 +295,10 @@ pub fn not_released<T: Internable + Drop>(
     handle: Interned<T>,
     reason: Refusal,
 ) -> Interned<T> {
-    let (len, name) = (storage.len(), handle.as_ref().name());
+    let (len, reference) = (length(storage), handle.as_ref());
     let Refused { why, back } = handle.release(storage).err().expect(rt, "refused");
     is_reason(rt, why, reason);
-    assert!(rt; back.as_ref().name() == name);
+    is_same(rt, back.as_ref(), reference);
     has_len(rt, storage, len);
     back
 }

@@ -1,7 +1,11 @@
 //! Steps of tests over texts that are collected, each with the answer that it must get.
-use crate::steps::{self, has_birth, has_len, is_equal, is_reason};
+ghost use Rattle.std.specs.Prelude.{◌≡◌, true};
+
+use crate::steps::{self, has_birth, has_len, is_equal, is_reason, length};
 use intern_fixtures::{GcString, make_gc_string, told};
-use ra_ap_intern::{GarbageCollector, InternStorage, Interned, InternedRef, Refusal, Refused};
+use ra_ap_intern::{
+    Family, GarbageCollector, InternStorage, Interned, InternedRef, Refusal, Refused,
+};
 use std::alloc::Global;
 use std::process::Abort;
 
@@ -32,7 +36,7 @@ pub fn intern_again(
     text: &str,
     birth: u64,
 ) -> InternedRef<GcString> {
-    let len = storage.len();
+    let len = length(storage);
     let answer = Interned::new_gc(storage, string_of(rt, alloc, text));
     let (string, back) = answer.expect(rt, "interned");
     has_birth(rt, string, birth);
@@ -44,7 +48,7 @@ pub fn intern_again(
 /// Interns a text that isn't stored where all births are given: it comes back, and no entry is
 /// added.
 pub fn not_interned(rt: &impl Abort, alloc: Global, storage: &mut Strings, text: &str) {
-    let len = storage.len();
+    let len = length(storage);
     let answer = Interned::new_gc(storage, string_of(rt, alloc, text));
     let Refused { why, back } = answer.err().expect(rt, "refused");
     is_reason(rt, why, Refusal::NumbersUsedUp);
@@ -54,8 +58,15 @@ pub fn not_interned(rt: &impl Abort, alloc: Global, storage: &mut Strings, text:
 
 /// Collects a storage of one text that nothing counts: no entry is left.
 pub fn collect_the_only_one(rt: &impl Abort, alloc: Global, storage: &mut Strings) {
-    assert!(rt; GarbageCollector::distinct(storage));
-    let answer = GarbageCollector::new(alloc).collect(storage);
-    is_equal(rt, told(answer), Some((0, 0, 1)));
+    collects(rt, alloc, storage, (0, 0, 1));
     has_len(rt, storage, 0);
+}
+
+/// Collects a family: the visits, the mark calls and the removed entries are these.
+fn collects<F: Family>(rt: &impl Abort, alloc: Global, family: &mut F, answer: (usize, u64, usize))
+    requires { F.collected ≡ true }
+{
+    assert!(rt; GarbageCollector::distinct(family));
+    let collected = GarbageCollector::new(alloc).collect(family);
+    is_equal(rt, told(collected), Some(answer));
 }

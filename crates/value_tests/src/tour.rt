@@ -1,6 +1,7 @@
 //! A tour of the library: values, slices and symbols, each with its calls in turn.
 ghost use Rattle.std.specs.Prelude.{false, true};
 
+use crate::steps::is_equal;
 use intern_fixtures::allowed;
 use ra_ap_intern::{
     InternSliceStorage, InternStorage, Internable, Interned, InternedSlice, SliceInternable,
@@ -52,17 +53,17 @@ fn one_copy_of_each_word(rt: HostRuntime) {
     // An equal word is stored already: it comes back, and the handles are equal.
     let again = make_word(&rt, alloc, "hello");
     let (again, back) = allowed(Interned::new(&mut words, again)).expect(&rt, "interned");
-    assert_eq!(rt; text(&back), Some("hello"));
+    is_equal(&rt, text(&back), Some("hello"));
     assert!(rt; hello == again);
-    assert_eq!(rt; words.len(), 1);
-    assert_eq!(rt; words.count(hello.as_ref()), Some(2));
+    is_equal(&rt, words.len(), 1);
+    is_equal(&rt, words.count(hello.as_ref()), Some(2));
 
     // The last release frees the word and gives it back. A reference to it reads nothing then.
     let reference = hello.as_ref();
     let none = allowed(hello.release(&mut words)).expect(&rt, "released");
     assert!(rt; none.is_none());
     let freed = allowed(again.release(&mut words)).expect(&rt, "released");
-    assert_eq!(rt; text(&freed), Some("hello"));
+    is_equal(&rt, text(&freed), Some("hello"));
     assert!(rt; reference.get(&words).is_none());
 }
 
@@ -91,9 +92,9 @@ fn a_reference_counts_nothing(rt: HostRuntime) {
         .get_or_intern(7, [20, 21].as_slice())
         .expect(&rt, "interned");
     let owned = pair.to_owned(&mut types).expect(&rt, "owned");
-    assert_eq!(rt; types.count(pair), Some(1));
+    is_equal(&rt, types.count(pair), Some(1));
     assert!(rt; owned.release(&mut types).is_ok());
-    assert_eq!(rt; types.count(pair), Some(0));
+    is_equal(&rt, types.count(pair), Some(0));
 }
 
 #[test]
@@ -116,6 +117,6 @@ fn one_symbol_for_each_text(rt: HostRuntime) {
 fn the_digits_of_a_number_are_a_symbol(rt: HostRuntime) {
     let mut table = SymbolTable::new(rt.alloc(), 3);
     let number = sym::Integer::get(&mut table, 1000).expect(&rt, "interned");
-    assert_eq!(rt; sym::Integer::as_uint(&number, &table), Some(1000));
-    assert_eq!(rt; table.len(), 1);
+    is_equal(&rt, sym::Integer::as_uint(&number, &table), Some(1000));
+    is_equal(&rt, table.len(), 1);
 }
