@@ -113,16 +113,6 @@ def function_at(lines, number):
     return below[1] if below else ""
 
 
-def is_renamed(lines, at):
-    """Whether the prover may have a name of its own for the function whose head is at a line: one of a trait, of a type with
-    arguments, or of a type of another file."""
-    if not lines[at].startswith(" "):
-        return False
-    block = next(it for it in reversed(range(at)) if BLOCK.match(lines[it]))
-    plain = re.fullmatch(r"impl (\w+)", head_at(lines, block).strip())
-    return not plain or plain[1] not in {found[1] for found in map(TYPE.match, lines) if found}
-
-
 @functools.cache
 def types_of(crate):
     """The names of a crate's types, and of those that it implements traits for."""
@@ -138,11 +128,17 @@ def type_of_folder(crate, folder):
     return max(begun, key=len, default=name)
 
 
+def function_of_name(crate, words):
+    """The function that the prover names by these words, as gc, family, PairFamily and len name Pair::len."""
+    *before, last = words
+    types = [type_of_folder(crate, it) for it in before if it[0].isupper()]
+    return "::".join([*types, last.partition("+")[0]])
+
+
 def function_of_proof(crate, path):
     """The function of whose proof this is a file, or else the file, where it is one of lemmas."""
     _, *folders, _ = path.split("/")
-    types = [type_of_folder(crate, it) for it in folders[:-1] if it[0].isupper()]
-    return "::".join([*types, folders[-1].partition("+")[0]]) if folders else path
+    return function_of_name(crate, folders) if folders else path
 
 
 def place_of(crate, said):
