@@ -172,6 +172,16 @@ fn check_marks(
     takes_none(rt, "GarbageCollector::mark_interned_slice_alive");
     ensure(has_joined(gc.mark_interned_slice_alive(known.slice)) == joins)?;
     ensure(!has_joined(gc.mark_interned_slice_alive(known.slice)))?;
+    check_marked(rt, gc, known, joins)
+}
+
+// What is marked after these calls.
+fn check_marked(
+    rt: &impl Eprint,
+    gc: &GarbageCollector,
+    known: Known,
+    joins: bool,
+) -> Result<(), Fault> {
     takes_none(rt, "GarbageCollector::is_marked");
     ensure(gc.is_marked(known.node.name()) == joins)?;
     ensure(gc.is_marked(known.slice.name()) == joins)?;

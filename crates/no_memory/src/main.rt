@@ -8,6 +8,7 @@
 
 mod collector;
 mod fault;
+mod handles;
 mod marks;
 mod presets;
 mod slices;

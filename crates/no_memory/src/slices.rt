@@ -1,11 +1,13 @@
 //! Storages of slices.
 use crate::collector::collect;
-use crate::fault::{Fault, ensure, gives_back, is_refused, of_owed};
+use crate::fault::{Fault, ensure, gives_back, of_owed};
+use crate::handles;
+use crate::handles::check_any;
 use crate::marks::{prepares, takes_none};
 use intern_fixtures::StringSlice;
 use ra_ap_intern::{
     GarbageCollector, HeaderSlice, InternSliceStorage, InternedSlice, InternedSliceRef, Limits,
-    NoStorages, Owed, Pair, Refusal,
+    NoStorages, Owed, Pair, Refusal, Slices,
 };
 use std::alloc::{AllocError, Global};
 
@@ -36,14 +38,7 @@ type Handle = InternedSlice<StringSlice>;
 type Reference = InternedSliceRef<StringSlice>;
 
 /// A handle of each slice, and one of another storage.
-#[derive(Drop)]
-struct Handles {
-    live: Handle,
-    full: Handle,
-    zero: Handle,
-    gone: Handle,
-    foreign: Handle,
-}
+type Handles = handles::Handles<Slices<StringSlice>>;
 
 /// Checks each call.
 pub(crate) fn check(rt: &impl Eprint, alloc: Global) -> Result<(), Fault> {
@@ -60,12 +55,11 @@ fn check_calls(
     storage: &mut Storage,
     handles: &Handles,
 ) -> Result<(), Fault> {
-    check_storage(rt, alloc, storage, handles)?;
+    check_any(rt, storage, handles)?;
+    check_look_ups(rt, alloc, storage, handles)?;
     check_find(rt, storage, handles)?;
     check_reads(rt, storage, handles)?;
-    check_interning(rt, alloc, storage, handles)?;
-    check_owning(rt, storage, handles)?;
-    check_lowering(rt, storage, handles)
+    check_interning(rt, alloc, storage, handles)
 }
 
 // What `make` does, at the second try where the first is refused.
@@ -137,7 +131,7 @@ fn offer(alloc: Global, text: &str) -> Result<String, AllocError> {
     }
 }
 
-fn check_storage(
+fn check_look_ups(
     rt: &impl Eprint,
     alloc: Global,
     storage: &Storage,
@@ -145,25 +139,12 @@ fn check_storage(
 ) -> Result<(), Fault> {
     prepares(rt);
     let live = offer(alloc, LIVE)?;
-    takes_none(
-        rt,
-        "InternSliceStorage::number, InternSliceStorage::len, InternSliceStorage::is_empty",
-    );
-    ensure(storage.number() == 1 && storage.len() == 3 && !storage.is_empty())?;
-    takes_none(rt, "InternSliceStorage::memory");
-    ensure(storage.memory() > 0)?;
     takes_none(rt, "InternSliceStorage::get");
     ensure(
         storage.get(&live, ITEMS) == Some(handles.live.as_ref()) && storage.get(&live, &[]) == None,
     )?;
     takes_none(rt, "InternSliceStorage::iter");
-    ensure(storage.iter().count() == 3)?;
-    takes_none(rt, "InternSliceStorage::count");
-    ensure(
-        storage.count(handles.full.as_ref()) == Some(2)
-            && storage.count(handles.gone.as_ref()) == None
-            && storage.count(handles.foreign.as_ref()) == None,
-    )
+    ensure(storage.iter().count() == 3)
 }
 
 fn check_find(rt: &impl Eprint, storage: &Storage, handles: &Handles) -> Result<(), Fault> {
@@ -192,20 +173,12 @@ fn check_reads(rt: &impl Eprint, storage: &Storage, handles: &Handles) -> Result
             && handles.gone.get(storage).is_none()
             && handles.foreign.get(storage).is_none(),
     )?;
-    takes_none(rt, "InternedSlice::as_ref, InternedSliceRef::get");
+    takes_none(rt, "InternedSliceRef::get");
     ensure(
         is_slice(handles.zero.as_ref().get(storage), ZERO)
             && handles.gone.as_ref().get(storage).is_none()
             && handles.foreign.as_ref().get(storage).is_none(),
-    )?;
-    takes_none(rt, "InternedSliceRef::name");
-    let (gone, foreign) = (handles.gone.as_ref(), handles.foreign.as_ref());
-    ensure(gone.name().birth == 3 && foreign.name().storage == 2)?;
-    takes_none(rt, "comparisons of handles of slices");
-    ensure(handles.live != handles.foreign && gone < foreign)?;
-    takes_none(rt, "Storage::reference, of slices");
-    ensure(storage.reference(handles.zero.name())? == handles.zero.as_ref())?;
-    is_refused(storage.reference(gone.name()), Refusal::Gone)
+    )
 }
 
 // A slice that is stored, and one that isn't, while all births are given.
@@ -226,38 +199,6 @@ fn check_interning(
     takes_none(rt, "InternedSlice::from_header_and_slice");
     let answer = InternedSlice::from_header_and_slice(storage, gone, ITEMS);
     ensure(gives_back(answer, Refusal::NumbersUsedUp)?.as_str() == GONE)
-}
-
-fn check_owning(rt: &impl Eprint, storage: &mut Storage, handles: &Handles) -> Result<(), Fault> {
-    takes_none(rt, "InternedSlice::clone");
-    ensure(handles.live.clone(storage)? == handles.live)?;
-    is_refused(handles.foreign.clone(storage), Refusal::Foreign)?;
-    is_refused(handles.gone.clone(storage), Refusal::Gone)?;
-    is_refused(handles.full.clone(storage), Refusal::CountFull)?;
-    takes_none(rt, "InternedSliceRef::to_owned");
-    ensure(handles.zero.as_ref().to_owned(storage)? == handles.zero)?;
-    is_refused(handles.foreign.as_ref().to_owned(storage), Refusal::Foreign)?;
-    is_refused(handles.gone.as_ref().to_owned(storage), Refusal::Gone)?;
-    is_refused(handles.full.as_ref().to_owned(storage), Refusal::CountFull)
-}
-
-// Takes back what `check_owning` counted.
-fn check_lowering(rt: &impl Eprint, storage: &mut Storage, handles: &Handles) -> Result<(), Fault> {
-    takes_none(rt, "InternedSliceRef::decrement_refcount");
-    handles.live.as_ref().decrement_refcount(storage)?;
-    handles.zero.as_ref().decrement_refcount(storage)?;
-    is_refused(
-        handles.foreign.as_ref().decrement_refcount(storage),
-        Refusal::Foreign,
-    )?;
-    is_refused(
-        handles.gone.as_ref().decrement_refcount(storage),
-        Refusal::Gone,
-    )?;
-    is_refused(
-        handles.zero.as_ref().decrement_refcount(storage),
-        Refusal::CountZero,
-    )
 }
 
 fn check_release(rt: &impl Eprint, storage: &mut Storage, handles: Handles) -> Result<(), Fault> {

@@ -60,8 +60,11 @@ fn check_calls(
     table: &mut SymbolTable,
     symbols: &mut Symbols,
 ) -> Result<(), Fault> {
-    check_table(rt, table, symbols)?;
+    check_table(rt, table)?;
+    check_look_ups(rt, table, symbols)?;
     check_reads(rt, table, symbols)?;
+    check_names(rt, symbols)?;
+    check_numbers(rt, table, symbols)?;
     check_presets(rt, table)?;
     check_interning(rt, table, symbols)?;
     check_integers(rt, table, symbols)?;
@@ -115,7 +118,7 @@ fn is_empty(table: SymbolTable) -> bool {
     table.is_empty()
 }
 
-fn check_table(rt: &impl Eprint, table: &SymbolTable, symbols: &Symbols) -> Result<(), Fault> {
+fn check_table(rt: &impl Eprint, table: &SymbolTable) -> Result<(), Fault> {
     takes_none(
         rt,
         "SymbolTable::number, SymbolTable::len, SymbolTable::is_empty",
@@ -123,7 +126,10 @@ fn check_table(rt: &impl Eprint, table: &SymbolTable, symbols: &Symbols) -> Resu
     ensure(table.number() == 1 && table.len() == 4 && !table.is_empty())?;
     takes_none(rt, "SymbolTable::memory");
     ensure(table.memory() > 0)?;
-    check_walk(rt, table)?;
+    check_walk(rt, table)
+}
+
+fn check_look_ups(rt: &impl Eprint, table: &SymbolTable, symbols: &Symbols) -> Result<(), Fault> {
     takes_none(rt, "SymbolTable::get");
     ensure(
         table.get(LIVE) == Some(symbols.live.as_ref())
@@ -173,12 +179,19 @@ fn check_reads(rt: &impl Eprint, table: &SymbolTable, symbols: &Symbols) -> Resu
     takes_none(rt, "Symbol::display, SymbolRef::display");
     let _ = symbols.live.display(table);
     let _ = symbols.live.as_ref().display(table);
+    Ok(())
+}
+
+fn check_names(rt: &impl Eprint, symbols: &Symbols) -> Result<(), Fault> {
     takes_none(rt, "SymbolRef::from");
     ensure(SymbolRef::from(&symbols.live) == symbols.live.as_ref())?;
     takes_none(rt, "Symbol::name, SymbolRef::name");
     ensure(symbols.foreign.name() == symbols.foreign.as_ref().name() && sym::Clone.name() == None)?;
     takes_none(rt, "comparisons of symbols");
-    ensure(symbols.live != symbols.foreign && symbols.live < symbols.full)?;
+    ensure(symbols.live != symbols.foreign && symbols.live < symbols.full)
+}
+
+fn check_numbers(rt: &impl Eprint, table: &SymbolTable, symbols: &Symbols) -> Result<(), Fault> {
     takes_none(rt, "Integer::as_uint, SymbolRef::as_uint");
     ensure(symbols.integer.as_ref().as_uint(table) == Some(NUMBER))?;
     ensure(

@@ -1,9 +1,11 @@
 //! Storages of values, in counted mode.
 use crate::fault::{Fault, ensure, gives_back, is_refused, of_owed};
+use crate::handles;
+use crate::handles::check_any;
 use crate::marks::{prepares, takes_none};
 use ra_ap_intern::{
     FixedState, InternStorage, Interned, InternedRef, Limits, OptionalInternedRef, Owed, Refusal,
-    Text,
+    Text, Values,
 };
 use std::alloc::{AllocError, Global};
 
@@ -27,14 +29,7 @@ type Storage = InternStorage<Text>;
 type Handle = Interned<Text>;
 
 /// A handle of each text, and one of another storage.
-#[derive(Drop)]
-struct Handles {
-    live: Handle,
-    full: Handle,
-    zero: Handle,
-    gone: Handle,
-    foreign: Handle,
-}
+type Handles = handles::Handles<Values<Text>>;
 
 /// Checks each call.
 pub(crate) fn check(rt: &impl Eprint, alloc: Global) -> Result<(), Fault> {
@@ -74,13 +69,13 @@ fn check_calls(
     storage: &mut Storage,
     handles: &Handles,
 ) -> Result<(), Fault> {
-    check_storage(rt, alloc, storage, handles)?;
+    check_any(rt, storage, handles)?;
+    check_look_ups(rt, alloc, storage, handles)?;
+    check_walk(rt, storage)?;
     check_reads(rt, storage, handles)?;
     check_births(rt, storage, handles)?;
     check_optional(rt, handles.live.as_ref(), handles.gone.as_ref())?;
     check_interning(rt, alloc, storage, handles)?;
-    check_owning(rt, storage, handles)?;
-    check_lowering(rt, storage, handles)?;
     check_owed(rt, storage, handles)
 }
 
@@ -151,7 +146,7 @@ fn offer(alloc: Global, text: &str) -> Result<Text, AllocError> {
     }
 }
 
-fn check_storage(
+fn check_look_ups(
     rt: &impl Eprint,
     alloc: Global,
     storage: &Storage,
@@ -160,24 +155,10 @@ fn check_storage(
     prepares(rt);
     let live = offer(alloc, LIVE)?;
     let gone = offer(alloc, GONE)?;
-    takes_none(
-        rt,
-        "InternStorage::number, InternStorage::len, InternStorage::is_empty",
-    );
-    ensure(storage.number() == 1 && storage.len() == 3 && !storage.is_empty())?;
-    takes_none(rt, "InternStorage::memory");
-    ensure(storage.memory() > 0)?;
     takes_none(rt, "InternStorage::get");
     ensure(storage.get(&live) == Some(handles.live.as_ref()) && storage.get(&gone) == None)?;
     takes_none(rt, "InternStorage::find");
-    ensure(storage.find(LIVE) == Some(handles.live.as_ref()) && storage.find(GONE) == None)?;
-    check_walk(rt, storage)?;
-    takes_none(rt, "InternStorage::count");
-    ensure(
-        storage.count(handles.full.as_ref()) == Some(2)
-            && storage.count(handles.gone.as_ref()) == None
-            && storage.count(handles.foreign.as_ref()) == None,
-    )
+    ensure(storage.find(LIVE) == Some(handles.live.as_ref()) && storage.find(GONE) == None)
 }
 
 fn check_walk(rt: &impl Eprint, storage: &Storage) -> Result<(), Fault> {
@@ -207,19 +188,16 @@ fn check_reads(rt: &impl Eprint, storage: &Storage, handles: &Handles) -> Result
             && is_text(handles.gone.get(storage), None)
             && is_text(handles.foreign.get(storage), None),
     )?;
-    takes_none(rt, "Interned::as_ref, InternedRef::get");
+    takes_none(rt, "InternedRef::get");
     ensure(
         is_text(handles.zero.as_ref().get(storage), Some(ZERO))
             && is_text(handles.gone.as_ref().get(storage), None)
             && is_text(handles.foreign.as_ref().get(storage), None),
     )?;
-    takes_none(rt, "InternedRef::as_raw, InternedRef::name");
-    let (gone, foreign) = (handles.gone.as_ref(), handles.foreign.as_ref());
-    ensure(gone.as_raw() == 3 && gone.name().birth == 3 && foreign.name().storage == 2)?;
+    takes_none(rt, "InternedRef::as_raw");
+    ensure(handles.gone.as_ref().as_raw() == 3)?;
     takes_none(rt, "InternedRef::from");
-    ensure(InternedRef::from(&handles.live) == handles.live.as_ref())?;
-    takes_none(rt, "comparisons of handles");
-    ensure(handles.live != handles.foreign && gone < foreign)
+    ensure(InternedRef::from(&handles.live) == handles.live.as_ref())
 }
 
 fn check_births(rt: &impl Eprint, storage: &Storage, handles: &Handles) -> Result<(), Fault> {
@@ -229,21 +207,7 @@ fn check_births(rt: &impl Eprint, storage: &Storage, handles: &Handles) -> Resul
     is_refused(Interned::from_raw(storage, 3), Refusal::Gone)?;
     takes_none(rt, "InternedRef::from_raw");
     ensure(InternedRef::from_raw(storage, 2)? == handles.zero.as_ref())?;
-    is_refused(InternedRef::from_raw(storage, 3), Refusal::Gone)?;
-    takes_none(rt, "Storage::reference");
-    ensure(storage.reference(handles.zero.name())? == handles.zero.as_ref())?;
-    is_refused(storage.reference(handles.gone.name()), Refusal::Gone)?;
-    takes_none(rt, "Storage::contains");
-    ensure(storage.contains(handles.zero.as_ref()) && !storage.contains(handles.gone.as_ref()))?;
-    takes_none(rt, "Storage::check");
-    storage.check(handles.zero.as_ref())?;
-    is_refused(storage.check(handles.gone.as_ref()), Refusal::Gone)?;
-    takes_none(rt, "Storage::check_all");
-    storage.check_all(&[handles.live.as_ref(), handles.zero.as_ref()])?;
-    is_refused(
-        storage.check_all(&[handles.live.as_ref(), handles.gone.as_ref()]),
-        Refusal::Gone,
-    )
+    is_refused(InternedRef::from_raw(storage, 3), Refusal::Gone)
 }
 
 // What holds the first of two references, and what holds none.
@@ -297,38 +261,6 @@ fn check_no_interning(
     takes_none(rt, "Interned::new");
     let back = gives_back(Interned::new(storage, offered), why)?;
     ensure(back.as_str() == text)
-}
-
-fn check_owning(rt: &impl Eprint, storage: &mut Storage, handles: &Handles) -> Result<(), Fault> {
-    takes_none(rt, "Interned::clone");
-    ensure(handles.live.clone(storage)? == handles.live)?;
-    is_refused(handles.foreign.clone(storage), Refusal::Foreign)?;
-    is_refused(handles.gone.clone(storage), Refusal::Gone)?;
-    is_refused(handles.full.clone(storage), Refusal::CountFull)?;
-    takes_none(rt, "InternedRef::to_owned");
-    ensure(handles.zero.as_ref().to_owned(storage)? == handles.zero)?;
-    is_refused(handles.foreign.as_ref().to_owned(storage), Refusal::Foreign)?;
-    is_refused(handles.gone.as_ref().to_owned(storage), Refusal::Gone)?;
-    is_refused(handles.full.as_ref().to_owned(storage), Refusal::CountFull)
-}
-
-// Takes back what `check_owning` counted.
-fn check_lowering(rt: &impl Eprint, storage: &mut Storage, handles: &Handles) -> Result<(), Fault> {
-    takes_none(rt, "InternedRef::decrement_refcount");
-    handles.live.as_ref().decrement_refcount(storage)?;
-    handles.zero.as_ref().decrement_refcount(storage)?;
-    is_refused(
-        handles.foreign.as_ref().decrement_refcount(storage),
-        Refusal::Foreign,
-    )?;
-    is_refused(
-        handles.gone.as_ref().decrement_refcount(storage),
-        Refusal::Gone,
-    )?;
-    is_refused(
-        handles.zero.as_ref().decrement_refcount(storage),
-        Refusal::CountZero,
-    )
 }
 
 // None that must be released lives where an answer is judged.

@@ -53,15 +53,19 @@ fn a_header_is_found_without_a_copy(rt: HostRuntime) {
 fn entries(rt: HostRuntime) {
     let alloc = rt.alloc();
     let mut storage: Numbered = new_slices(alloc, 1);
-    assert!(rt; storage.is_empty());
-    is_equal(&rt, storage.iter().count(), 0);
+    has_entries(&rt, &storage, 0);
     let _ = intern_new(&rt, alloc, &mut storage, ("x", &[1, 2]), 0);
     let _ = intern_new(&rt, alloc, &mut storage, ("y", &[]), 1);
-    assert!(rt; !storage.is_empty());
-    is_equal(&rt, storage.iter().count(), 2);
+    has_entries(&rt, &storage, 2);
     gives(&rt, &storage, 0, ("x", &[1, 2]));
     gives(&rt, &storage, 1, ("y", &[]));
     drop_slices(storage);
+}
+
+/// The storage is gone over in as many steps, and is empty where there are none.
+fn has_entries(rt: &impl Abort, storage: &Numbered, count: usize) {
+    is_equal(rt, storage.is_empty(), count == 0);
+    is_equal(rt, storage.iter().count(), count);
 }
 
 /// Among the entries is one of this birth, with this pair.
@@ -90,9 +94,15 @@ fn references_alone(rt: HostRuntime) {
     assert!(rt; x == again && x != y);
     reads(&rt, &storage, x, ("x", &[1, 2]));
     has_len(&rt, &storage, 2);
-    assert!(rt; storage.reference(y.name()) == Ok(y));
-    assert!(rt; storage.check(y).is_ok() && storage.check_all(&[x, y]).is_ok());
+    is_there(&rt, &storage, y);
+    is_equal(&rt, storage.check_all(&[x, y]), Ok(()));
     drop_slices(storage);
+}
+
+/// The reference is that of its name, and can be read.
+fn is_there(rt: &impl Abort, storage: &Numbered, slice: InternedSliceRef<Numbers>) {
+    assert!(rt; storage.reference(slice.name()) == Ok(slice));
+    is_equal(rt, storage.check(slice), Ok(()));
 }
 
 /// The reference to a pair, which is stored unless it is already.

@@ -1,10 +1,10 @@
 //! Handles of another storage, and of slices that are gone.
 use crate::steps::{
-    Numbered, decrement, has_count, has_len, intern_new, is_equal, not_decremented, not_owned, own,
-    reads, refused_in_each_way, release,
+    Numbered, collect_one, decrement, has_count, has_len, intern_new, is_equal, not_decremented,
+    not_owned, own, reads, refused_in_each_way, release,
 };
-use intern_fixtures::{drop_slices, limited_slices, new_slices, told};
-use ra_ap_intern::{GarbageCollector, Limits, Refusal};
+use intern_fixtures::{drop_slices, limited_slices, new_slices};
+use ra_ap_intern::{Limits, Refusal};
 use std::alloc::Global;
 use std::process::Abort;
 
@@ -92,9 +92,7 @@ fn a_slice_that_was_collected_is_gone(rt: HostRuntime) {
 
 /// Collects a storage of one slice that nothing counts: no entry is left.
 fn collect_the_only_one(rt: &impl Abort, alloc: Global, storage: &mut Numbered) {
-    assert!(rt; GarbageCollector::distinct(storage));
-    let answer = GarbageCollector::new(alloc).collect(storage);
-    is_equal(rt, told(answer), Some((0, 0, 1)));
+    is_equal(rt, collect_one(rt, alloc, storage), Some((0, 0, 1)));
     has_len(rt, storage, 0);
 }
 

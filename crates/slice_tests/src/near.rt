@@ -1,8 +1,8 @@
 //! Storages that keep the items of short lists in their entries.
 use crate::kinds::Numbers;
-use crate::steps::{is_equal, is_pair, push, word_of};
+use crate::steps::{collect_one, is_equal, is_pair, push, word_of};
 use intern_fixtures::allowed;
-use ra_ap_intern::{GarbageCollector, InternedSlice, InternedSliceRef, Near, NearSliceStorage};
+use ra_ap_intern::{InternedSlice, InternedSliceRef, Near, NearSliceStorage};
 use std::alloc::Global;
 use std::process::Abort;
 
@@ -28,32 +28,34 @@ fn stores(
     slice
 }
 
+/// Words with numbers, each with the birth that they get.
+const PAIRS: &[(&str, &[u64], u64)] = &[
+    ("a", &[], 0),
+    ("a", &[0], 1),
+    ("a", &[0, 0], 2),
+    ("a", &[0, 0, 0], 3),
+    ("a", &[0, 1], 4),
+    ("a", &[0, 1, 2, 3, 4, 5], 5),
+    ("b", &[0, 1], 6),
+    ("b", &[], 7),
+];
+
 #[test]
 fn short_and_long_lists_are_told_apart(rt: HostRuntime) {
-    let rows = [
-        ("a", [].as_slice(), 0),
-        ("a", [0].as_slice(), 1),
-        ("a", [0, 0].as_slice(), 2),
-        ("a", [0, 0, 0].as_slice(), 3),
-        ("a", [0, 1].as_slice(), 4),
-        ("a", [0, 1, 2, 3, 4, 5].as_slice(), 5),
-        ("b", [0, 1].as_slice(), 6),
-        ("b", [].as_slice(), 7),
-    ];
-    let mut storage: NearNumbers = NearSliceStorage::new(rt.alloc(), 1);
+    let alloc = rt.alloc();
+    let mut storage: NearNumbers = NearSliceStorage::new(alloc, 1);
     for is_new in [true, false] {
-        for (text, items, birth) in rows {
-            stores(
-                &rt,
-                rt.alloc(),
-                &mut storage,
-                (text, items),
-                (birth, is_new),
-            );
-        }
+        stores_all(&rt, alloc, &mut storage, is_new);
     }
     is_equal(&rt, storage.len(), 8);
     is_equal(&rt, storage.iter().count(), 8);
+}
+
+/// Interns all pairs, which are stored already or not.
+fn stores_all(rt: &impl Abort, alloc: Global, storage: &mut NearNumbers, is_new: bool) {
+    for (text, items, birth) in PAIRS {
+        let _ = stores(rt, alloc, storage, (text, items), (*birth, is_new));
+    }
 }
 
 /// Numbers, each with the reference to its list, if that is stored.
@@ -109,10 +111,7 @@ fn collect(
         }
         push(rt, &mut left, (number, if stays { known } else { None }));
     }
-    assert!(rt; GarbageCollector::distinct(storage));
-    let _ = GarbageCollector::new(alloc)
-        .collect(storage)
-        .expect(rt, "collected");
+    assert!(rt; collect_one(rt, alloc, storage).is_some());
     left
 }
 

@@ -2,10 +2,10 @@
 ghost use Rattle.std.specs.Prelude.{◌≡◌, true};
 
 use crate::kinds::Numbers;
-use intern_fixtures::{Word, allowed, make_word, refusal};
+use intern_fixtures::{Word, allowed, make_word, refusal, told};
 use ra_ap_intern::{
-    HeaderSlice, InternSliceStorage, InternedSlice, InternedSliceRef, Refusal, Refused,
-    SliceInternable,
+    Family, GarbageCollector, HeaderSlice, InternSliceStorage, InternedSlice, InternedSliceRef,
+    Refusal, Refused, SliceInternable,
 };
 use std::alloc::Global;
 use std::fmt::Debug;
@@ -103,6 +103,19 @@ pub fn intern_in_vain(
     is_reason(rt, why, Refusal::NumbersUsedUp);
     is_equal(rt, back.text(), text);
     has_len(rt, storage, len);
+}
+
+/// Collects a storage, of any kind: what is known of one makes the proof long. It tells the visits,
+/// the mark calls and the removed entries.
+pub fn collect_one<F: Family>(
+    rt: &impl Abort,
+    alloc: Global,
+    storage: &mut F,
+) -> Option<(usize, u64, usize)>
+    requires { F.collected ≡ true }
+{
+    assert!(rt; GarbageCollector::distinct(storage));
+    told(GarbageCollector::new(alloc).collect(storage))
 }
 
 /// Reads this pair by a reference.
