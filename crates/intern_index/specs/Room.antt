@@ -13,10 +13,14 @@ free_in left t = min left (spare_of t)
 abbrev pub placed : ℕ → ℕ
 placed slots = if nat_lt slots (2 ^ 48) then slots else 0
 
+-- for how many entries a table is built where there are this many
+unfoldable pub grown : ℕ → ℕ
+grown entries = if nat_lt entries (2 ^ 15) then entries * 4 else entries * 2
+
 module _ {X : Type 0} where
-  -- for twice as many as there are, at least 64, and at least as many as there is room for
+  -- for more than there are, at least 64, and at least as many as there is room for
   abbrev pub room_for : Slab X → ℕ
-  room_for s = max (max (min (slab_len s * 2) (2 ^ 64 - 1)) s.capacity) 64
+  room_for s = max (max (min (grown (slab_len s)) (2 ^ 64 - 1)) s.capacity) 64
 
   -- how many may be entered once tables are built anew
   abbrev pub left_for : Slab X → ℕ

@@ -1,11 +1,11 @@
 //! A table of buckets that is built from the entries.
-ghost use Rattle.std.specs.Prelude.{◌≡◌, ◌==◌, ◌≤◌, ◌<◌, ◌+◌, ◌^◌, ℕ, true, Option, Some, IsOk, IfOk, OnOk, OnErr};
+ghost use Rattle.std.specs.Prelude.{◌≡◌, ◌==◌, ◌≤◌, ◌<◌, ◌+◌, ◌-◌, ◌^◌, ℕ, min, true, Option, Some, IsOk, IfOk, OnOk, OnErr};
 ghost use Rattle.slab.specs.Slab.{slab_len, HasRoomFor};
 ghost use Rattle.intern_buckets.specs.Filling.{homes_of, homes_for, full_of, HasRoom};
 ghost use Rattle.intern_buckets.specs.Leading.{leads};
 ghost use Rattle.intern_index.specs.Entries.{AreTold};
 ghost use Rattle.intern_index.specs.Keyed.{IsKeyed};
-ghost use Rattle.intern_index.specs.Room.{left_for, left_then, free_in};
+ghost use Rattle.intern_index.specs.Room.{grown, left_for, left_then, free_in};
 ghost use Rattle.intern_index.specs.declared.entry.Entry.{Entry as Kept};
 
 use crate::entry::Entry;
@@ -15,6 +15,10 @@ use std::alloc::{AllocError, Global};
 
 // The fewest entries that a table is built for.
 const LEAST: usize = 64;
+
+// How many entries are so few that a table is built for four times as many. To enter each of them
+// anew takes longer than to store it; a table for twice as many would be built twice as often.
+const FEW: usize = 1 << 15;
 
 /// What entries are entered under.
 pub(crate) trait Key<T, N: Copy> {
@@ -57,6 +61,19 @@ fn buckets_of<T, N: Copy, K: Key<T, N>>(
     Ok(buckets)
 }
 
+// For how many entries a table is built where there are so many.
+#[tactic(auto, unfolding(crate::specs::Room::grown))]
+fn grown(entries: usize) -> usize
+    ensures value { result ≡ min (grown entries) (2 ^ 64 - 1) }
+    ensures more { 0 < entries → entries < 2 ^ 63 → entries < result }
+{
+    if entries < FEW {
+        entries * 4
+    } else {
+        entries.saturating_mul(2)
+    }
+}
+
 impl Table {
     /// A table without an entry. It takes no memory.
     pub(crate) fn new(alloc: Global) -> Table
@@ -75,9 +92,10 @@ impl Table {
         self.left == 0
     }
 
-    /// Builds the table anew, with room for twice as many entries as there are. That goes over all
-    /// slots, vacant ones too, so there is room for as many insertions as there are slots: they
-    /// pay. Where there is no memory, the table is as it was.
+    /// Builds the table anew, with room for twice as many entries as there are, and for four times
+    /// as many where these are few. That goes over all slots, vacant ones too, so there is room for
+    /// as many insertions as there are slots: they pay. Where there is no memory, the table is as it
+    /// was.
     pub(crate) fn rebuild<T, N: Copy, K: Key<T, N>>(
         &mut self,
         alloc: Global,
@@ -92,7 +110,7 @@ impl Table {
         ensures same { OnErr result (self.new ≡ self.old) }
     {
         let entries = slots.len();
-        let room = entries.saturating_mul(2).max(slots.capacity()).max(LEAST);
+        let room = grown(entries).max(slots.capacity()).max(LEAST);
         self.buckets = buckets_of(alloc, slots, room, by)?;
         self.left = room.saturating_sub(entries);
         Ok(())

@@ -7,11 +7,13 @@ ghost use Rattle.intern_table.specs.Joined.{read_entry, IsLaid, IsCovered};
 use crate::layout::{NearItems, SliceRow, far_length};
 use intern_index::{BirthOrder, Change, Index};
 
-/// Where the items of an entry begin among those in the vector, how many it has, and its count.
+/// How many items an entry has, where they begin among those in the vector, and its count.
+///
+/// The length stands first, beside the items that lie in the entry: a look-up of these reads it too.
 #[derive(Clone, Copy)]
 pub struct SlicePayload {
-    pub(crate) start: usize,
     pub(crate) length: usize,
+    pub(crate) start: usize,
     pub(crate) count: u64,
 }
 

@@ -271,8 +271,8 @@ impl<'a, H: Hash + Eq, S: Hash + Eq + Copy, A: NearItems<S>, B: BuildHasher> Tak
             return Err((header, items));
         };
         let payload = SlicePayload {
-            start,
             length: items.len(),
+            start,
             count,
         };
         let by = SliceHash {

@@ -23,10 +23,10 @@ const PLACE: usize = 8;
 // slots.
 const SLOTS: usize = 1_024;
 
-// A table is built with room for twice as many entries as there are, which is 2,048, with a seventh
-// more homes, which is 2,340, and with 64 buckets to spare. Where hashes are spread, fewer entries
-// than that stand behind the homes.
-const BUCKETS: usize = 2_340 + 64;
+// A table is built with room for four times as many entries as there are, which is 4,096, with a
+// seventh more homes, which is 4,681, and with 64 buckets to spare. Where hashes are spread, fewer
+// entries than that stand behind the homes.
+const BUCKETS: usize = 4_681 + 64;
 
 // At most so many bytes: of the slots and the table of hashes, and of what finds births.
 #[derive(Clone, Copy)]
@@ -78,13 +78,13 @@ fn an_index_of_a_million_births_stays_small(rt: HostRuntime) {
     is_equal(&rt, numbers.len(), 1_024);
 }
 
-// At most 128 entries at a time, so there is room for 256, in 292 homes. Where all begin at the last
-// home, all but one stand behind it, in 547 buckets, and the vector may have doubled for them.
+// At most 128 entries at a time, so there is room for 512, in 585 homes. Where all begin at the last
+// home, all but one stand behind it, in 1,096 buckets, and the vector may have doubled for them.
 fn shares_a_hash(rt: &impl Abort, alloc: Global, hash: u64) {
     let mut numbers = Numbers::<InTable>::new(alloc, Sequence::of_one(hash));
     let bytes = Bytes {
-        index: 128 * SLOT + 2 * 547 * BUCKET,
-        births: (292 + 64) * BUCKET,
+        index: 128 * SLOT + 2 * 1_096 * BUCKET,
+        births: (585 + 64) * BUCKET,
     };
     rounds(rt, alloc, &mut numbers, (64, 155), bytes);
     is_equal(rt, numbers.next(), 10_048);
@@ -115,8 +115,8 @@ fn births_in_row_take_no_table(rt: HostRuntime) {
     }
 }
 
-// Where the first used slot breaks the row, there are 90 entries, so there is room for 90 births
-// beside. Once these were entered a new row begins, and the table is built for twice the 180
+// Where the first used slot breaks the row, there are 90 entries, so there is room for 270 births
+// beside. Once these were entered a new row begins, and the table is built for four times the 360
 // entries that lie before it, with a seventh more homes: the births behind leave it as it is.
 #[test]
 fn a_new_row_begins_behind_used_slots(rt: HostRuntime) {
@@ -130,7 +130,7 @@ fn a_new_row_begins_behind_used_slots(rt: HostRuntime) {
     numbers.has_all(&rt, &going);
     numbers.has_all(&rt, &behind);
     let bytes = numbers.memory_of_births();
-    assert!(rt; 0 < bytes && bytes <= (411 + 64) * BUCKET, "{bytes} bytes");
+    assert!(rt; 0 < bytes && bytes <= (1_645 + 64) * BUCKET, "{bytes} bytes");
 }
 
 // Adds entries, and removes all but one.
