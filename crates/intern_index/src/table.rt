@@ -16,8 +16,8 @@ use std::alloc::{AllocError, Global};
 // The fewest entries that a table is built for.
 const LEAST: usize = 64;
 
-// How many entries are so few that a table is built for four times as many. To enter each of them
-// anew takes longer than to store it; a table for twice as many would be built twice as often.
+// Below so many entries a table is built for four times as many: it is small all the same, and is
+// built half as often while a storage grows.
 const FEW: usize = 1 << 15;
 
 /// What entries are entered under.

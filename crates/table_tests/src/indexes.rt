@@ -130,7 +130,10 @@ fn a_new_row_begins_behind_used_slots(rt: HostRuntime) {
     numbers.has_all(&rt, &going);
     numbers.has_all(&rt, &behind);
     let bytes = numbers.memory_of_births();
-    assert!(rt; 0 < bytes && bytes <= (1_645 + 64) * BUCKET, "{bytes} bytes");
+    assert!(rt;
+        0 < bytes && bytes <= (1_645 + 64) * BUCKET,
+        "{bytes} bytes"
+    );
 }
 
 // Adds entries, and removes all but one.
