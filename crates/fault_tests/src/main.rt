@@ -25,7 +25,7 @@ mod worlds;
 use crate::alone::{AloneSlices, AloneValues};
 use crate::collections::{Collection, check_collection, check_registration};
 use crate::fault::Fault;
-use crate::many::{check_owned, check_references};
+use crate::many::{check_owned, check_references, check_texts};
 use crate::one_entry::{check_no_births, check_one_entry};
 use crate::reserved::check_reserved;
 use crate::scene::check;
@@ -68,6 +68,7 @@ fn check_all(rt: &(impl Print + Eprint), alloc: Global) -> Result<(), Fault> {
     check_two_texts(rt, alloc)?;
     check_owned(rt, alloc)?;
     check_references(rt, alloc)?;
+    check_texts(rt, alloc)?;
     check_copy(rt, alloc)?;
     check_reserved(rt, alloc)
 }

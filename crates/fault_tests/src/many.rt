@@ -6,10 +6,19 @@ use crate::marks;
 use crate::one_entry::Large;
 use crate::scene::room;
 use ra_ap_intern::{
-    InternHandle, InternStorage, Internable, Interned, InternedRef, Refusal, Refused,
+    InternHandle, InternStorage, Internable, Interned, InternedRef, Refusal, Refused, SymbolTable,
 };
 use std::alloc::{AllocError, Global};
 use std::vec::IntoIter;
+
+/// Texts, of which one is a preset, one is there twice, and some have more than 24 bytes.
+const TEXTS: &[&str] = &[
+    "Clone",
+    "a text of up to 24 bytes",
+    "one text of more than 24 bytes",
+    "a text of up to 24 bytes",
+    "another text of more than 24 bytes",
+];
 
 /// The letters, in order.
 const LETTERS: &str = "abcdefghijklmnopqrstuvwxyzabc";
@@ -119,6 +128,29 @@ fn check_letters<T: Letter, H: Listed<T>>(
     }
     have_letters(storage, handles.as_slice())?;
     println!(rt; "{}: {}", H::call(), handles.len())?;
+    Ok(())
+}
+
+/// Checks the call of a table. Where it is refused, the texts without a symbol in the list are interned.
+pub(crate) fn check_texts(rt: &(impl Print + Eprint), alloc: Global) -> Result<(), Fault> {
+    let mut table = SymbolTable::new(alloc, 1);
+    let mut symbols = Vec::new(alloc);
+    let call = "SymbolTable::extend";
+    marks::asks(rt, call);
+    if let Err(why) = table.extend(TEXTS, &mut symbols) {
+        marks::refused(rt, call);
+        ensure(why == Refusal::OutOfMemory, "a text is refused wrongly")?;
+        let left = TEXTS.get(symbols.len()..);
+        table.extend(left.unwrap_or(&[]), &mut symbols)?;
+    }
+    ensure(symbols.len() == TEXTS.len(), "symbols are missing")?;
+    for (symbol, text) in symbols.iter().zip(TEXTS) {
+        ensure(
+            symbol.as_str(&table) == Some(*text),
+            "a symbol reads another text",
+        )?;
+    }
+    println!(rt; "{}: {}", call, table.len())?;
     Ok(())
 }
 

@@ -1,14 +1,16 @@
 -- Symbols and the texts that they name: what a table names after an interning.
-use Rattle.std.proofs.Common.{◌≡◌, ◌↔◌, ℕ, ◌-◌, ◌^◌, Bool, true, false, List, Option, Some, None, refl, sym, ap, ◌∙◌, arith}
+use Rattle.std.proofs.Common.{◌≡◌, ◌↔◌, ℕ, zero, suc, ◌-◌, ◌^◌, Bool, true, false, List, [], ◌∷◌, Option, Some, None, refl, sym, ap, ◌∙◌, arith}
+use Rattle.std.specs.List.{fold, slice_get}
 use Rattle.std.specs.Option.{option_map}
 use Rattle.std.specs.Str.{bytes_eq}
 use Rattle.std.specs.Cmp.Lexicographic.{nat_list_eq_equiv}
 use Rattle.std.proofs.lemmas.Bool.{eq-eqb, eqb-true}
 use Rattle.std.proofs.lemmas.Option.{same_Some}
 use Rattle.std.proofs.lemmas.Slice.Eq.{bytes_eq-Decides}
+use Rattle.ra_ap_intern.specs.Interning.{NoneDue, given_in_turn}
 use Rattle.ra_ap_intern.specs.Presets.{place_of}
 use Rattle.ra_ap_intern.specs.State.{State, IsState, reads, name_of_value}
-use Rattle.ra_ap_intern.specs.Symbols.{Named, same_named, source_of, symbol_ref_name, text_of, named_in, named_at, symbol_in, symbol_at, due_symbol, due_symbol_at}
+use Rattle.ra_ap_intern.specs.Symbols.{Named, same_named, source_of, symbol_ref_name, text_of, named_in, named_at, symbol_in, symbol_at, due_symbol, due_symbol_at, AddsTexts}
 use Rattle.ra_ap_intern.specs.Symbols.Named.{preset, entry}
 use Rattle.ra_ap_intern.specs.declared.symbol.SymbolRef.{SymbolRef}
 use Rattle.intern_store.proofs.Named.{names_same, same_names}
@@ -109,3 +111,41 @@ text_stays s ok other (entry name) text is = go (place_of other)
     go : (p : Option ℕ) → reads (symbol_at p s other).table name ≡ Some text
     go (Some place) = is
     go None = interned_counted_reads_on bytes_eq s ok other name text is
+
+-- ---- after texts are interned in turn
+
+-- the table once one is interned, and its symbol
+abbrev then_table : State (List ℕ) → List ℕ → State (List ℕ)
+then_table s text = (symbol_in s text).table
+
+abbrev its_symbol : State (List ℕ) → List ℕ → Named
+its_symbol s text = (symbol_in s text).symbol
+
+texts_stay : (s : State (List ℕ)) → IsState bytes_eq s → (texts : List (List ℕ)) → NoneDue then_table due_symbol s texts
+    → (a : Named) (text : List ℕ) → text_of s a ≡ Some text → text_of (fold then_table s texts) a ≡ Some text
+texts_stay s ok [] free a text is = is
+texts_stay s ok (other ∷ texts) free a text is =
+    texts_stay (then_table s other) (state_symbol s other ok free.0) texts free.1 a text (text_stays s ok other a text is)
+
+each_reads : (s : State (List ℕ)) → IsState bytes_eq s → (texts : List (List ℕ)) → NoneDue then_table due_symbol s texts
+    → (i : ℕ) (text : List ℕ) → slice_get texts i ≡ Some text
+    → (a : Named) × (slice_get (given_in_turn then_table its_symbol s texts) i ≡ Some a) × (text_of (fold then_table s texts) a ≡ Some text)
+each_reads s ok [] free i text at = absurd (cc)
+each_reads s ok (first ∷ texts) free zero text at =
+    (its_symbol s first, refl,
+    texts_stay (then_table s first) (state_symbol s first ok free.0) texts free.1 (its_symbol s first) text (symbol_reads s first ∙ at))
+each_reads s ok (first ∷ texts) free (suc i) text at =
+    each_reads (then_table s first) (state_symbol s first ok free.0) texts free.1 i text at
+
+module _ (s new : State (List ℕ)) (texts : List (List ℕ)) (symbols : List Named) (ok : IsState bytes_eq s)
+    (adds : AddsTexts s new texts [] symbols) where
+  -- each of their symbols reads its text
+  pub added_reads : (i : ℕ) (text : List ℕ) → slice_get texts i ≡ Some text
+      → (a : Named) × (slice_get symbols i ≡ Some a) × (text_of new a ≡ Some text)
+  added_reads i text at =
+      let r = each_reads s ok texts adds.due i text at in
+      (r.0, ap (λ names. slice_get names i) adds.named ∙ r.1, ap (λ t. text_of t r.0) adds.state ∙ r.2)
+
+  -- and what was read is read
+  pub added_stay : (a : Named) (text : List ℕ) → text_of s a ≡ Some text → text_of new a ≡ Some text
+  added_stay a text is = ap (λ t. text_of t a) adds.state ∙ texts_stay s ok texts adds.due a text is

@@ -6,39 +6,40 @@ use Rattle.std.specs.List.{fold, slice_get}
 use Rattle.std.proofs.lemmas.List.Sums.{fold-append}
 use Rattle.std.proofs.lemmas.Option.{same_Some}
 use Rattle.intern_store.proofs.Reading.{interned_reads}
-use Rattle.ra_ap_intern.specs.Interning.{names_in_turn, NoneDue, Interns}
+use Rattle.ra_ap_intern.specs.Interning.{given_in_turn, names_in_turn, NoneDue, AddsInTurn}
 use Rattle.ra_ap_intern.specs.Name.{Name}
 use Rattle.ra_ap_intern.specs.Refusal.{Refusal}
-use Rattle.ra_ap_intern.specs.State.{State, IsState, reads, interned, interned_name, interned_counted, due_interning}
+use Rattle.ra_ap_intern.specs.State.{State, IsState, reads, interned, interned_name, interned_counted}
 use Rattle.ra_ap_intern.proofs.CallerInterning.{telling_alike, ReadsEqual, IsTelling, state_telling, interned_telling, counted_telling, interned_counted_reads}
 use Rattle.ra_ap_intern.proofs.CallerReads.{interned_reads_given, interned_counted_reads_given}
 
-module _ {V : Type 0} (after : State V → V → State V) (eq : V → V → Bool) where
-  -- the name of a value behind others
-  names_push : (s : State V) (values : List V) (v : V)
-      → names_in_turn after eq s (values ++ v ∷ []) ≡ names_in_turn after eq s values ++ interned_name eq (fold after s values) v ∷ []
-  names_push s [] v = refl
-  names_push s (w ∷ values) v = ap (λ names. interned_name eq s w ∷ names) (names_push (after s w) values v)
+module _ {S V N : Type 0} (after : S → V → S) (gives : S → V → N) where
+  -- what a value gives behind others
+  given_push : (s : S) (values : List V) (v : V)
+      → given_in_turn after gives s (values ++ v ∷ []) ≡ given_in_turn after gives s values ++ gives (fold after s values) v ∷ []
+  given_push s [] v = refl
+  given_push s (w ∷ values) v = ap (λ given. gives s w ∷ given) (given_push (after s w) values v)
 
-  module _ (owed : State V → ℕ → Option Refusal) where
+  module _ (due : S → V → Option Refusal) where
     -- one value more isn't due
-    due_push : (s : State V) (values : List V) (v : V) → NoneDue after eq owed s values
-        → due_interning eq (fold after s values) v (owed (fold after s values)) ≡ None → NoneDue after eq owed s (values ++ v ∷ [])
-    due_push s [] v before due = (due, tt)
-    due_push s (w ∷ values) v before due = (before.0, due_push (after s w) values v before.1 due)
+    due_push : (s : S) (values : List V) (v : V) → NoneDue after due s values
+        → due (fold after s values) v ≡ None → NoneDue after due s (values ++ v ∷ [])
+    due_push s [] v before free = (free, tt)
+    due_push s (w ∷ values) v before free = (before.0, due_push (after s w) values v before.1 free)
 
-    -- one value more is interned
-    pub interns_more : (old new : State V) (values : List V) (listed names : List Name) (v : V)
-        → Interns after eq owed old new values listed names → due_interning eq new v (owed new) ≡ None
-        → Interns after eq owed old (after new v) (values ++ v ∷ []) listed (names ++ interned_name eq new v ∷ [])
-    interns_more old new values listed names v turn due = record {
-      due = due_push old values v turn.due (ap (λ s. due_interning eq s v (owed s)) (sym turn.state) ∙ due);
+    -- one value more is taken
+    pub one_more : (old new : S) (values : List V) (listed given : List N) (v : V)
+        → AddsInTurn after gives due old new values listed given → due new v ≡ None
+        → AddsInTurn after gives due old (after new v) (values ++ v ∷ []) listed (given ++ gives new v ∷ [])
+    one_more old new values listed given v turn free = record {
+      due = due_push old values v turn.due (ap (λ s. due s v) (sym turn.state) ∙ free);
       state = ap (λ s. after s v) turn.state ∙ sym (fold-append after old values (v ∷ []));
-      named = (λ k. turn.named k ++ interned_name eq (turn.state k) v ∷ [])
-          ∙ append_assoc listed (names_in_turn after eq old values) (interned_name eq (fold after old values) v ∷ [])
-          ∙ ap (λ names. listed ++ names) (sym (names_push old values v));
+      named = (λ k. turn.named k ++ gives (turn.state k) v ∷ [])
+          ∙ append_assoc listed (given_in_turn after gives old values) (gives (fold after old values) v ∷ [])
+          ∙ ap (λ more. listed ++ more) (sym (given_push old values v));
     }
 
+module _ {V : Type 0} (after : State V → V → State V) (eq : V → V → Bool) where
   -- a step that interns a value: what it names reads an equal value, and what was given reads what it read
   pub record IsInterning : Type 0 where
     pub named : (s : State V) (v : V) → ReadsEqual eq (after s v) (interned_name eq s v) v

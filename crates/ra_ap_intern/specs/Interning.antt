@@ -12,6 +12,24 @@ use Rattle.ra_ap_intern.specs.Handle.{ref_name}
 use Rattle.ra_ap_intern.specs.declared.kind.Values.{Values}
 use Rattle.ra_ap_intern.specs.declared.storage.Ref.{Ref}
 
+module _ {S V : Type 0} (after : S → V → S) where
+  -- none of the values is due to be refused in its turn, where this is the state after each
+  abbrev pub NoneDue : (S → V → Option Refusal) → S → List V → Type 0
+  NoneDue due s [] = ⊤
+  NoneDue due s (v ∷ values) = (due s v ≡ None) × NoneDue due (after s v) values
+
+  module _ {N : Type 0} (gives : S → V → N) where
+    -- what the values give in turn
+    abbrev pub given_in_turn : S → List V → List N
+    given_in_turn s [] = []
+    given_in_turn s (v ∷ values) = gives s v ∷ given_in_turn (after s v) values
+
+    -- values were taken in turn, and what they gave is behind what was listed
+    pub record AddsInTurn (due_to : S → V → Option Refusal) (old new : S) (values : List V) (listed given : List N) : Type 0 where
+      pub due : NoneDue due_to old values
+      pub state : new ≡ fold after old values
+      pub named : given ≡ listed ++ given_in_turn old values
+
 module _ {V : Type 0} where
   -- what was read is read
   abbrev pub ReadsOn : State V → State V → Type 0
@@ -35,21 +53,12 @@ module _ {V : Type 0} where
 
   -- the names that values get in turn, where this is the state after each
   abbrev pub names_in_turn : (State V → V → State V) → (V → V → Bool) → State V → List V → List Name
-  names_in_turn after eq s [] = []
-  names_in_turn after eq s (v ∷ values) = interned_name eq s v ∷ names_in_turn after eq (after s v) values
-
-  -- none of the values is due to be refused in its turn
-  abbrev pub NoneDue : (State V → V → State V) → (V → V → Bool) → (State V → ℕ → Option Refusal) → State V → List V → Type 0
-  NoneDue after eq owed s [] = ⊤
-  NoneDue after eq owed s (v ∷ values) = (due_interning eq s v (owed s) ≡ None) × NoneDue after eq owed (after s v) values
+  names_in_turn after eq = given_in_turn after (interned_name eq)
 
   -- values were interned in turn, and their names are behind those that were listed
-  pub record Interns (after : State V → V → State V) (eq : V → V → Bool) (owed : State V → ℕ → Option Refusal)
-      (old new : State V) (values : List V) (listed names : List Name) : Type 0
-    where
-      pub due : NoneDue after eq owed old values
-      pub state : new ≡ fold after old values
-      pub named : names ≡ listed ++ names_in_turn after eq old values
+  abbrev pub Interns : (State V → V → State V) → (V → V → Bool) → (State V → ℕ → Option Refusal)
+      → State V → State V → List V → List Name → List Name → Type 0
+  Interns after eq owed = AddsInTurn after (interned_name eq) (λ s v. due_interning eq s v (owed s))
 
   -- a value is refused as interning it alone is, or for want of memory for the list, where this holds
   abbrev pub IsOwed : (V → V → Bool) → State V → (ℕ → Option Refusal) → Type 0 → Refused V → Type 0

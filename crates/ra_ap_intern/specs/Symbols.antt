@@ -1,5 +1,5 @@
 -- What symbols are, and what a table of texts holds.
-use Rattle.std.specs.Prelude.{◌≡◌, ℕ, ◌<◌, ◌==◌, Bool, false, ◌&&◌, List, Option, Some, None, is_none, map as list_map, ◌-◌, ◌^◌, if◌then◌else◌}
+use Rattle.std.specs.Prelude.{◌≡◌, ◌⊎◌, ℕ, ◌<◌, ◌==◌, Bool, false, ◌&&◌, List, ◌∷◌, ◌++◌, Option, Some, None, is_none, map as list_map, ◌-◌, ◌^◌, if◌then◌else◌}
 use Rattle.std.specs.FinMap as map
 use Rattle.std.specs.Option.{option_eq, option_map}
 use Rattle.std.specs.Ordering.{nat_cmp}
@@ -9,10 +9,13 @@ use Rattle.std.specs.declared.cmp.Ordering.TheVariants.{Less, Greater}
 use Rattle.intern_presets.specs.Presets.{preset_text, place_of}
 use Rattle.intern_store.specs.Kept.{Kept}
 use Rattle.intern_store.specs.Named.{key_name, same_name}
+use Rattle.intern_store.specs.Outcome.{IsWhy}
 use Rattle.intern_store.specs.State.{State, entry_at, name_in, name_of_value, reads, counts, is_new, interned_name, interned_counted, due, due_interning, full, any_count, released}
 use Rattle.intern_store.specs.declared.names.Name.{Name}
 use Rattle.intern_store.specs.declared.refusal.Refusal.{Refusal}
+use Rattle.intern_store.specs.declared.refusal.Refusal.TheVariants.{OutOfMemory}
 use Rattle.ra_ap_intern.specs.Handle.{name_cmp}
+use Rattle.ra_ap_intern.specs.Interning.{AddsInTurn}
 use Rattle.ra_ap_intern.specs.declared.symbol.Symbol.{Symbol}
 use Rattle.ra_ap_intern.specs.declared.symbol.SymbolRef.{SymbolRef}
 use Rattle.ra_ap_intern.specs.declared.symbol.display.SymbolDisplay.{SymbolDisplay}
@@ -150,3 +153,20 @@ named_texts s = list_map (λ e. (entry (name_in s e.0), e.1.value)) (map.entries
 -- whether a text is neither a preset nor stored
 abbrev pub is_new_text : State (List ℕ) → List ℕ → Bool
 is_new_text s t = is_none (place_of t) && is_new bytes_eq s t
+
+-- texts were interned in turn, and their symbols are behind those that were listed
+abbrev pub AddsTexts : State (List ℕ) → State (List ℕ) → List (List ℕ) → List Named → List Named → Type 0
+AddsTexts = AddsInTurn (λ s t. (symbol_in s t).table) (λ s t. (symbol_in s t).symbol) due_symbol
+
+-- of texts that were to be interned in turn one was refused, as it is alone, or the first, before
+-- anything changed, for want of room for their symbols
+pub record IsRefusedText (old new : State (List ℕ)) (all : List (List ℕ)) (listed names : List Named)
+    (no_room : Type 0) (reason : Refusal) : Type 0
+  where
+    pub done : List (List ℕ)
+    pub text : List ℕ
+    pub left : List (List ℕ)
+    pub texts : all ≡ done ++ text ∷ left
+    pub adds : AddsTexts old new done listed names
+    pub why : IsWhy (due_symbol new text) (is_new_text new text) reason
+        ⊎ ((reason ≡ OutOfMemory) × (new ≡ old) × no_room)

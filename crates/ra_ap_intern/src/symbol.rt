@@ -16,6 +16,7 @@ ghost use Rattle.ra_ap_intern.specs.Symbols.{IsTable, displayed, symbol_name, sy
 ghost use Rattle.ra_ap_intern.specs.declared.symbol.symbols.TheConstants as sym;
 
 mod display;
+mod each;
 mod iter;
 mod numbered;
 mod owed;

@@ -12,6 +12,8 @@ mod entries;
 #[cfg(test)]
 mod hostile;
 #[cfg(test)]
+mod in_turn;
+#[cfg(test)]
 mod large;
 #[cfg(test)]
 mod numbers;

@@ -1,17 +1,36 @@
-//! Names as symbols: a scope, which has values under names.
+//! Names as symbols: a lexer's keywords, and a scope, which has values under names.
 #![tactic(auto)]
 
-ghost use Rattle.std.specs.Prelude.{◌≡◌, ◌⊎◌, ℕ, List, Some, None, IfErr, OnOk, OnErr, if◌then◌else◌, option_copied};
+ghost use Rattle.std.specs.Prelude.{◌≡◌, ◌⊎◌, ℕ, List, map as list_map, Some, None, IfOk, IfErr, OnOk, OnErr, if◌then◌else◌, option_copied};
+ghost use Rattle.std.specs.List.{slice_get};
 ghost use Rattle.std.specs.Str.{bytes_eq};
 ghost use Rattle.ra_ap_intern.specs.Outcome.{Becomes};
 ghost use Rattle.ra_ap_intern.specs.Refusal.TheVariants.{OutOfMemory};
 ghost use Rattle.ra_ap_intern.specs.State.{new_state};
-ghost use Rattle.ra_ap_intern.specs.Symbols.{symbol_in, due_symbol};
+ghost use Rattle.ra_ap_intern.specs.Symbols.{Named, symbol_name, symbol_in, due_symbol, text_of};
 ghost use Rattle.ra_ap_intern.specs.Under.{under_text};
 
 use indexmap::IndexMap;
 use ra_ap_intern::{Refusal, Symbol, SymbolRef, SymbolTable, laws};
 use std::alloc::Global;
+
+/// The symbols of a lexer's keywords, in their order. Refused: `CountFull`, `NumbersUsedUp`,
+/// `OutOfMemory`; the words before the one that was refused are counted once more then.
+pub fn keywords(
+    alloc: Global,
+    names: &mut SymbolTable,
+    words: &[&str],
+) -> Result<Vec<Symbol>, Refusal>
+    ensures reads { IfOk result (λ symbols. (i : ℕ) (word : List ℕ) →
+        slice_get (list_map (λ w. w.now) words.now) i ≡ Some word → (a : Named)
+        × (slice_get (list_map symbol_name symbols.items) i ≡ Some a)
+        × (text_of names.new a ≡ Some word)) }
+{
+    let _number = names.number();
+    let mut symbols = Vec::new(alloc);
+    names.extend(words, &mut symbols)?;
+    Ok(symbols)
+}
 
 /// A scope: what is declared, under the symbols of a table.
 #[derive(Drop)]

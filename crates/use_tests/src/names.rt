@@ -1,7 +1,8 @@
 //! A scope of numbers.
 use crate::steps::is_equal;
+use ra_ap_intern::SymbolTable;
 use std::process::Abort;
-use use_names::Scope;
+use use_names::{Scope, keywords};
 
 fn declare(rt: &impl Abort, scope: &mut Scope<u64>, name: &str, value: u64) {
     assert!(rt; scope.declare(name, value).is_ok());
@@ -23,4 +24,16 @@ fn the_last_declaration_is_found(rt: HostRuntime) {
     declare(&rt, &mut scope, "my_width", 5);
     finds(&rt, &scope, "my_width", Some(5));
     is_equal(&rt, scope.names.len(), 1);
+}
+
+#[test]
+fn keywords_have_symbols(rt: HostRuntime) {
+    let mut names = SymbolTable::new(rt.alloc(), 1);
+    let words = ["unless", "while", "unless"];
+    let symbols = keywords(rt.alloc(), &mut names, words.as_slice()).expect(&rt, "memory");
+    for (symbol, word) in symbols.iter().zip(words) {
+        is_equal(&rt, symbol.as_str(&names), Some(word));
+    }
+    // "while" is a preset, which no table keeps.
+    is_equal(&rt, (symbols.len(), names.len()), (3, 1));
 }

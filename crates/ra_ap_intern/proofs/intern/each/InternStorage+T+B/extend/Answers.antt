@@ -1,9 +1,9 @@
 use Rattle.std.proofs.Common.{◌≡◌, ◌++◌, ◌∷◌, [], List, map as list_map, refl, sym, ap, ◌∙◌, append_assoc, rules, arith}
 use Rattle.std.proofs.lemmas.List.{append-nil, map-append}
 use Rattle.std.specs.Vec.Iter.{into_iter_items}
-use Rattle.intern_store.specs.State.{interned_name}
+use Rattle.intern_store.specs.State.{interned_name, due_interning}
 use Rattle.ra_ap_intern.specs.Interning.{Interns}
-use Rattle.ra_ap_intern.proofs.InTurn.{interns_more}
+use Rattle.ra_ap_intern.proofs.InTurn.{one_more}
 use Rattle.ra_ap_intern.proofs.intern.each.InternStorage+T+B.extend.Given.{Over}
 use Rattle.ra_ap_intern.proofs.intern.each.InternStorage+T+B.extend.Goals as goal
 use Rattle.ra_ap_intern.proofs.intern.each.InternStorage+T+B.extend.Goals.{After-push_reserved}
@@ -28,8 +28,8 @@ module _ (g : Over) (c : After-push_reserved g) where
   turn : Interns g.H.InternHandle.after g.T.PartialEq.eq g.H.InternHandle.owed c.args.self.now c.intern.new.storage (done ++ c.in-Some-next.value ∷ [])
       (list_map g.H.InternHandle.name c.args.handles.now.items) (list_map g.H.InternHandle.name c.push_reserved.new.self.items)
   turn =
-      let more = interns_more g.H.InternHandle.after g.T.PartialEq.eq g.H.InternHandle.owed c.args.self.now c.loop-value.self done _ _ c.in-Some-next.value
-      c.loop-value.invariant.turn c.in_ok-handle.ensures.refused in
+      let more = one_more g.H.InternHandle.after (interned_name g.T.PartialEq.eq) (λ s v. due_interning g.T.PartialEq.eq s v (g.H.InternHandle.owed s))
+      c.args.self.now c.loop-value.self done _ _ c.in-Some-next.value c.loop-value.invariant.turn c.in_ok-handle.ensures.refused in
       record { due = more.due; state = c.in_ok-handle.ensures.state ∙ more.state; named = named ∙ more.named }
 
 -- no value was interned yet
