@@ -21,7 +21,7 @@ pub fn keywords(
     names: &mut SymbolTable,
     words: &[&str],
 ) -> Result<Vec<Symbol>, Refusal>
-    ensures reads { IfOk result (λ symbols. (i : ℕ) (word : List ℕ) →
+    ensures { IfOk result (λ symbols. (i : ℕ) (word : List ℕ) →
         slice_get (list_map (λ w. w.now) words.now) i ≡ Some word → (a : Named)
         × (slice_get (list_map symbol_name symbols.items) i ≡ Some a)
         × (text_of names.new a ≡ Some word)) }
