@@ -131,9 +131,11 @@ each_reads : (s : State (List ℕ)) → IsState bytes_eq s → (texts : List (Li
     → (i : ℕ) (text : List ℕ) → slice_get texts i ≡ Some text
     → (a : Named) × (slice_get (given_in_turn then_table its_symbol s texts) i ≡ Some a) × (text_of (fold then_table s texts) a ≡ Some text)
 each_reads s ok [] free i text at = absurd (cc)
-each_reads s ok (first ∷ texts) free zero text at =
-    (its_symbol s first, refl,
-    texts_stay (then_table s first) (state_symbol s first ok free.0) texts free.1 (its_symbol s first) text (symbol_reads s first ∙ at))
+each_reads s ok (first ∷ texts) free zero text at = (
+  its_symbol s first,
+  refl,
+  texts_stay (then_table s first) (state_symbol s first ok free.0) texts free.1 (its_symbol s first) text (symbol_reads s first ∙ at),
+)
 each_reads s ok (first ∷ texts) free (suc i) text at =
     each_reads (then_table s first) (state_symbol s first ok free.0) texts free.1 i text at
 

@@ -57,8 +57,8 @@ loop-text-init g c = record {
 pub returns-in_err-symbol-clause-refused : goal.returns-in_err-symbol-clause-refused
 returns-in_err-symbol-clause-refused g c =
     let r : IsRefusedText c.args.self.now c.loop-text.self (bytes c.args.texts.now) (list_map symbol_name c.args.symbols.now.items)
-          (list_map symbol_name c.loop-text.symbols.items) (vec_capacity c.args.symbols.now < vec_len c.args.symbols.now + length c.args.texts.now)
-          c.in_err-symbol.field-0.0 = record {
+    (list_map symbol_name c.loop-text.symbols.items) (vec_capacity c.args.symbols.now < vec_len c.args.symbols.now + length c.args.texts.now)
+    c.in_err-symbol.field-0.0 = record {
       done = bytes (take c.loop-text.text-index c.args.texts.now);
       text = _;
       left = bytes (drop (suc c.loop-text.text-index) c.args.texts.now);
