@@ -140,8 +140,8 @@ pub(crate) fn check_texts(rt: &(impl Print + Eprint), alloc: Global) -> Result<(
     if let Err(why) = table.extend(TEXTS, &mut symbols) {
         marks::refused(rt, call);
         ensure(why == Refusal::OutOfMemory, "a text is refused wrongly")?;
-        let left = TEXTS.get(symbols.len()..);
-        table.extend(left.unwrap_or(&[]), &mut symbols)?;
+        let interned = symbols.len().min(TEXTS.len());
+        table.extend(&TEXTS[interned..], &mut symbols)?;
     }
     ensure(symbols.len() == TEXTS.len(), "symbols are missing")?;
     for (symbol, text) in symbols.iter().zip(TEXTS) {
