@@ -1,5 +1,5 @@
 -- What symbols are, and what a table of texts holds.
-use Rattle.std.specs.Prelude.{◌≡◌, ◌⊎◌, ℕ, ◌<◌, ◌==◌, Bool, false, ◌&&◌, List, ◌∷◌, ◌++◌, Option, Some, None, is_none, map as list_map, ◌-◌, ◌^◌, if◌then◌else◌}
+use Rattle.std.specs.Prelude.{◌≡◌, ◌⊎◌, ℕ, ◌<◌, ◌==◌, Bool, false, ◌&&◌, List, [], ◌∷◌, ◌++◌, Option, Some, None, is_none, map as list_map, ◌-◌, ◌^◌, if◌then◌else◌}
 use Rattle.std.specs.FinMap as map
 use Rattle.std.specs.Option.{option_eq, option_map}
 use Rattle.std.specs.Ordering.{nat_cmp}
@@ -158,8 +158,8 @@ is_new_text s t = is_none (place_of t) && is_new bytes_eq s t
 abbrev pub AddsTexts : State (List ℕ) → State (List ℕ) → List (List ℕ) → List Named → List Named → Type 0
 AddsTexts = AddsInTurn (λ s t. (symbol_in s t).table) (λ s t. (symbol_in s t).symbol) due_symbol
 
--- of texts that were to be interned in turn one was refused, as it is alone, or the first, before
--- anything changed, for want of room for their symbols
+-- of texts that were to be interned in turn one was refused, as it is alone, or the first, with none
+-- done, for want of room for their symbols
 pub record IsRefusedText (old new : State (List ℕ)) (all : List (List ℕ)) (listed names : List Named)
     (no_room : Type 0) (reason : Refusal) : Type 0
   where
@@ -169,4 +169,4 @@ pub record IsRefusedText (old new : State (List ℕ)) (all : List (List ℕ)) (l
     pub texts : all ≡ done ++ text ∷ left
     pub adds : AddsTexts old new done listed names
     pub why : IsWhy (due_symbol new text) (is_new_text new text) reason
-        ⊎ ((reason ≡ OutOfMemory) × (new ≡ old) × no_room)
+        ⊎ ((reason ≡ OutOfMemory) × (done ≡ []) × no_room)
