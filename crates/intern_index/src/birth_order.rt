@@ -31,7 +31,7 @@ fn birth_of<T, N: Copy>(slots: &Slab<Entry<T, N>>, place: usize) -> u64
     ensures { result ≡ birth_or_zero (birth_at slots.now place) }
 {
     match slots.get(place) {
-        Some(entry) => entry.birth,
+        Some(entry) => entry.birth.get(),
         None => 0,
     }
 }

@@ -37,7 +37,7 @@ impl<T, N: Copy> Test for OfBirth<'_, T, N> {
 
     fn passes(&self, place: usize) -> bool {
         match self.slots.get(place) {
-            Some(entry) => entry.birth == self.birth,
+            Some(entry) => entry.birth.get() == self.birth,
             None => false,
         }
     }

@@ -15,6 +15,7 @@ use crate::change::Change;
 use crate::entry::Entry;
 use crate::iter::Iter;
 use crate::offer::Offer;
+use crate::packed::Packed;
 use crate::query::{Fitting, Hashes, Query};
 use crate::size::size_of_option;
 use crate::sweep::keep_marked;
@@ -117,7 +118,7 @@ impl<T, N: Copy, B: Births> Index<T, N, B> {
         ensures { option_map (λ f. seen f.0 f.1.now) result ≡ map.get self.now.entries spot.birth }
     {
         match self.slots.get(spot.place) {
-            Some(entry) if entry.birth == spot.birth => Some((spot.place, entry)),
+            Some(entry) if entry.birth.get() == spot.birth => Some((spot.place, entry)),
             _ => {
                 let place = self.births.find(&self.slots, spot.birth)?;
                 Some((place, &self.slots[place]))
@@ -237,7 +238,7 @@ impl<T, N: Copy, B: Births> Index<T, N, B> {
         match offer.into_value(self.alloc) {
             Ok(value) => {
                 self.slots.insert_reserved(Entry {
-                    birth,
+                    birth: Packed::of(birth),
                     value,
                     payload,
                 });
@@ -266,7 +267,7 @@ impl<T, N: Copy, B: Births> Index<T, N, B> {
             query,
         };
         let place = search(&self.by_hash.buckets, hash, &test)?;
-        let birth = self.slots[place].birth;
+        let birth = self.slots[place].birth.get();
         Some(Spot { birth, place })
     }
 
@@ -297,7 +298,7 @@ impl<T, N: Copy, B: Births> Index<T, N, B> {
         };
         let place = search(&self.by_hash.buckets, hash, &test)?;
         let entry = &mut self.slots[place];
-        let birth = entry.birth;
+        let birth = entry.birth.get();
         let payload = entry.payload;
         entry.payload = change.changed(payload);
         Some((Spot { birth, place }, payload))
@@ -339,7 +340,7 @@ impl<T, N: Copy> Index<T, N, BirthOrder> {
     {
         let place = self.births.place(&self.slots, at, before)?;
         let entry = &self.slots[place];
-        let birth = entry.birth;
+        let birth = entry.birth.get();
         Some((Spot { birth, place }, &entry.value, entry.payload))
     }
 }

@@ -30,7 +30,7 @@ impl<'a, T, N: Copy> Iterator for Iter<'a, T, N> {
     fn next(&mut self) -> Option<(Spot, &'a T, N)> {
         let (place, entry) = self.slots.next()?;
         let spot = Spot {
-            birth: entry.birth,
+            birth: entry.birth.get(),
             place,
         };
         Some((spot, &entry.value, entry.payload))

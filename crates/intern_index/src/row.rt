@@ -31,7 +31,7 @@ impl Row {
     {
         let place = birth.checked_sub(self.shift)? as usize;
         match slots.get(place) {
-            Some(entry) if entry.birth == birth => Some(place),
+            Some(entry) if entry.birth.get() == birth => Some(place),
             _ => None,
         }
     }
@@ -42,9 +42,9 @@ impl<T, N: Copy> Key<T, N> for Row {
     ghost key = { λ r p e. row_key r.shift p e.birth };
 
     fn key(&self, place: usize, entry: &Entry<T, N>) -> Option<u64> {
-        if self.has(entry.birth, place) {
+        if self.has(entry.birth.get(), place) {
             return None;
         }
-        Some(mix(entry.birth))
+        Some(mix(entry.birth.get()))
     }
 }

@@ -15,7 +15,7 @@ pub(crate) fn keep_marked<T: Drop, N: Copy, M: Keeps>(slots: &mut Slab<Entry<T, 
     for place in 0..slots.capacity() {
         let is_stale = match slots.get(place) {
             Some(entry) => {
-                let birth = entry.birth;
+                let birth = entry.birth.get();
                 !marks.is_marked(Spot { birth, place })
             }
             None => false,

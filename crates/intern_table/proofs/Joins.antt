@@ -1,7 +1,7 @@
 -- What an index of slices has with the items of all, and the entries that it is seen as.
-use Rattle.std.proofs.Common.{◌≡◌, ◌⊎◌, inl, inr, ℕ, ◌+◌, ◌-◌, ◌<◌, ◌≤◌, Bool, true, false, cond, List, [], ◌++◌, length, take, drop, Option, Some, None, IfSome, IsSome, is_some, refl, sym, ap, subst, ◌∙◌, arith, append_assoc, length-append, length-drop}
-use Rattle.std.proofs.Math.Seq.{take-length, take_at, drop_at}
-use Rattle.std.proofs.lemmas.List.{append-nil, length-take, take-append-le, take-append-drop}
+use Rattle.std.proofs.Common.{◌≡◌, ◌⊎◌, inl, inr, ℕ, ◌+◌, ◌-◌, ◌<◌, ◌≤◌, Bool, true, false, cond, List, [], ◌++◌, length, take, drop, Option, Some, None, IsSome, is_some, Result, Ok, Err, refl, sym, ap, subst, ◌∙◌, arith, append_assoc, length-append, length-drop}
+use Rattle.std.proofs.Math.Seq.{take_at, drop_at}
+use Rattle.std.proofs.lemmas.List.{append-nil, length-take, take_all, take-append-le, take-append-drop}
 use Rattle.std.specs.Option.{option_map}
 use Rattle.std.specs.Hash as fed
 use Rattle.std.specs.Cmp.Lexicographic.{pointwise}
@@ -16,7 +16,7 @@ use Rattle.intern_index.specs.IndexEntry.{Indexed, IsLed, with_payload}
 use Rattle.intern_store.specs.Maps.{map_values}
 use Rattle.intern_table.specs.Sliced.{Sliced, sliced_eq, sliced_fits, sliced_input}
 use Rattle.intern_table.specs.Read.{shown, shown_row}
-use Rattle.intern_table.specs.Joined.{Row, far, far_length, items_in, end_of, read_entry, sliced_entry, sliced_hash, IsLaid, IsCovered, IsJoined}
+use Rattle.intern_table.specs.Joined.{Row, far, far_in, items_in, HasItems, end_of, read_entry, sliced_entry, sliced_hash, IsLaid, IsCovered, IsJoined}
 use Rattle.intern_table.specs.declared.layout.SliceRow.{SliceRow}
 use Rattle.intern_table.specs.declared.pool.SlicePayload.{SlicePayload}
 use Rattle.intern_store.proofs.Chosen.{here, away}
@@ -61,25 +61,25 @@ module _ {S : Type 0} where
   cut_back start xs ys longer shorter more begins cut = cut ∙ ap (take start) more ∙ take_at xs ys start (sym begins)
 
   -- more items behind those in the vector change nothing that an entry reads
-  same_items : (own : Option (List S)) (start n : ℕ) (xs ys : List S) → start + far_length own n ≤ length xs → items_in own start n (xs ++ ys) ≡ items_in own start n xs
-  same_items (Some own) start n xs ys fits = refl
-  same_items None start n xs ys fits = same_part start n xs ys fits
+  same_items : (own : Result (List S) ℕ) (start : ℕ) (xs ys : List S) → start + far_in own ≤ length xs → items_in own start (xs ++ ys) ≡ items_in own start xs
+  same_items (Ok own) start xs ys fits = refl
+  same_items (Err n) start xs ys fits = same_part start n xs ys fits
 
   -- an entry reads what was put behind all items, or what it has itself
-  pub added_items : (own : Option (List S)) (start : ℕ) (xs before items : List S) → IfSome own (λ zs. take (length xs) zs ≡ xs) → start ≡ length before → items ≡ before ++ take (far_length own (length xs)) xs → items_in own start (length xs) items ≡ xs
-  added_items (Some own) start xs before items has begins more = has
-  added_items None start xs before items has begins more = ap (λ zs. take (length xs) (drop start zs)) (more ∙ ap (λ zs. before ++ zs) (take-length xs)) ∙ last_part start (length xs) before xs begins refl
+  pub added_items : (own : Result (List S) ℕ) (start : ℕ) (xs before items : List S) → HasItems own xs → start ≡ length before → items ≡ before ++ take (far_in own) xs → items_in own start items ≡ xs
+  added_items (Ok own) start xs before items has begins more = has
+  added_items (Err n) start xs before items has begins more = ap (λ zs. take n (drop start zs)) (more ∙ ap (λ zs. before ++ zs) (take_all n xs (omega (arith, has)))) ∙ last_part start n before xs begins has
 
   -- as many items are put there as are to lie there
-  pub added_length : (own : Option (List S)) (xs : List S) → far_length own (length xs) ≡ length (take (far_length own (length xs)) xs)
-  added_length (Some own) xs = refl
-  added_length None xs = sym (ap length (take-length xs))
+  pub added_length : (own : Result (List S) ℕ) (xs : List S) → HasItems own xs → far_in own ≡ length (take (far_in own) xs)
+  added_length (Ok own) xs has = refl
+  added_length (Err n) xs has = has ∙ sym (ap length (take_all n xs (omega (arith, has))))
 
 -- a payload with another count
 abbrev pub recount : (ℕ → ℕ) → SlicePayload → SlicePayload
 recount g p = record p { count = g p.count }
 
-module _ {H S A : Type 0} (near : A → Option (List S)) where
+module _ {H S A : Type 0} (near : A → Result (List S) ℕ) where
   -- lists that lie where others did lie in order
   laid_by : (m n : FinMap nat_cmp (Row H A)) (k : ℕ) → ((b : ℕ) (r : Row H A) → get n b ≡ Some r → (s : Row H A) × (get m b ≡ Some s) × (r.payload.start ≡ s.payload.start) × (far near r ≡ far near s))
       → IsLaid near m k → IsLaid near n k
@@ -123,7 +123,7 @@ module _ {H S A : Type 0} (near : A → Option (List S)) where
       go true o r e = (r, e, refl, refl)
       go false o r e = absurd (cc)
 
-module _ {H S A : Type 0} (near : A → Option (List S)) where
+module _ {H S A : Type 0} (near : A → Result (List S) ℕ) where
   -- the count of an entry is that of its payload
   pub count_read : (index : FinMap nat_cmp (Row H A)) (xs : List S) (m : FinMap nat_cmp (Kept (Sliced H S))) → map_values (sliced_entry near xs) index ≡ m
       → (b : ℕ) (n : Option SlicePayload) → n ≡ option_map (λ r. r.payload) (get index b) → option_map (λ n. n.count) n ≡ option_map (λ k. k.count) (get m b)
@@ -170,7 +170,7 @@ module _ {H S A : Type 0} (near : A → Option (List S)) where
       same_hash : (b : ℕ) (r : Row H A) → get i.entries b ≡ Some r → sliced_hash near hash items' r.value r.payload ≡ sliced_hash near hash items r.value r.payload
       same_hash b r at =
           ap (λ xs. sliced_hash near hash xs r.value r.payload) longer
-          ∙ ap (λ xs. hash (record { header = r.value.header; items = xs })) (same_items (near r.value.near) r.payload.start r.payload.length items more (laid.within b r at))
+          ∙ ap (λ xs. hash (record { header = r.value.header; items = xs })) (same_items (near r.value.near) r.payload.start items more (laid.within b r at))
 
       pub longer_led : IsLed (sliced_hash near hash items) i → IsLed (sliced_hash near hash items') i
       longer_led is = alike_led (sliced_hash near hash items) (sliced_hash near hash items') i i refl (λ b r at. (r, at, refl, sym (same_hash b r at))) is
@@ -254,7 +254,7 @@ module _ {H S A : Type 0} (near : A → Option (List S)) where
         stays : (c : ℕ) (y : Row H A) → get index c ≡ Some y → sliced_entry near items' y ≡ sliced_entry near items y
         stays c y at =
             ap (λ zs. sliced_entry near zs y) more
-            ∙ ap (λ zs. record { value = record { header = y.value.header; items = zs }; count = y.payload.count }) (same_items (near y.value.near) y.payload.start y.payload.length items xs (is.laid.within c y at))
+            ∙ ap (λ zs. record { value = record { header = y.value.header; items = zs }; count = y.payload.count }) (same_items (near y.value.near) y.payload.start items xs (is.laid.within c y at))
 
         either : (c : ℕ) (y : Row H A) → get index' c ≡ Some y → ((c ≡ b) × (r ≡ y)) ⊎ ((c < b) × (get index c ≡ Some y))
         either c y at =
@@ -325,7 +325,7 @@ module _ {H S A : Type 0} (near : A → Option (List S)) where
         pub adds_joined : IsJoined near index' items'
         adds_joined = record { laid = adds_laid; full = adds_full }
 
-        pub adds_seen : (ys : List S) → items_in (near r.value.near) r.payload.start r.payload.length items' ≡ ys → (m : FinMap nat_cmp (Kept (Sliced H S))) → map_values (sliced_entry near items) index ≡ m
+        pub adds_seen : (ys : List S) → items_in (near r.value.near) r.payload.start items' ≡ ys → (m : FinMap nat_cmp (Kept (Sliced H S))) → map_values (sliced_entry near items) index ≡ m
             → map_values (sliced_entry near items') index' ≡ insert m b (record { value = record { header = r.value.header; items = ys }; count = r.payload.count })
         adds_seen ys are m view =
             map_values-insert (sliced_entry near items') index index' b r added

@@ -1,5 +1,5 @@
 -- The slices of entries, moved down one by one in the order of births.
-use Rattle.std.proofs.Common.{◌≡◌, inl, inr, ℕ, zero, suc, ◌+◌, ◌-◌, ◌<◌, ◌≤◌, Bool, true, false, cond, List, [], ◌∷◌, ◌++◌, length, take, drop, Option, Some, None, IfSome, IsSome, is_some, refl, sym, ap, subst, ◌∙◌, arith, append_assoc, length-append, length-drop}
+use Rattle.std.proofs.Common.{◌≡◌, inl, inr, ℕ, zero, suc, ◌+◌, ◌-◌, ◌<◌, ◌≤◌, Bool, true, false, cond, List, [], ◌∷◌, ◌++◌, length, take, drop, Option, Some, None, IsSome, is_some, Result, Ok, Err, refl, sym, ap, subst, ◌∙◌, arith, append_assoc, length-append, length-drop}
 use Rattle.std.specs.Prelude.{T}
 use Rattle.std.specs.List.{slice_get, copy_within}
 use Rattle.std.specs.Option.{option_map}
@@ -13,25 +13,25 @@ use Rattle.std.proofs.lemmas.Option.{same_Some, slice_get_cases}
 use Rattle.intern_store.proofs.Sorted.{parts, at_head, behind_head, put_at_head, put_behind, found, above_all, later}
 use Rattle.intern_store.specs.declared.names.Spot.{Spot}
 use Rattle.intern_index.specs.IndexEntry.{with_payload, spot_of, spot_at, spot_before}
-use Rattle.intern_table.specs.Joined.{Row, far, far_length, items_in, end_of, read_entry, IsLaid, IsCovered}
+use Rattle.intern_table.specs.Joined.{Row, far, far_in, items_in, end_of, read_entry, IsLaid, IsCovered}
 
 read_either : {X Y : Type 0} (f g : X → Y) (t : Bool) (x y : X) (o p : Option X) → f x ≡ g y → option_map f o ≡ option_map g p → option_map f (cond t (Some x) o) ≡ option_map g (cond t (Some y) p)
 read_either f g true x y o p same rest = ap Some same
 read_either f g false x y o p same rest = rest
 
-some_too : {X Y Z : Type 0} (f : X → Z) (g : Y → Z) (o : Option X) (p : Option Y) → option_map f o ≡ option_map g p → IsSome p → IsSome o
-some_too f g (Some x) p same some = refl
-some_too f g None None same some = some
+some_too : {X Y Z : Type 0} (f : X → Z) (g : Y → Z) (o : Option X) (p : Option Y) → option_map f o ≡ option_map g p → IsSome p → (x : X) × (o ≡ Some x)
+some_too f g (Some x) p same some = (x, refl)
+some_too f g None None same some = absurd (cc)
 some_too f g None (Some y) same some = absurd (cc)
 
 abbrev pub Rows : Type 0 → Type 0 → Type 0
 Rows H A = List (ℕ × Row H A)
 
 -- an entry reads the same once what it has in the vector lies from here on
-moved_items : {S : Type 0} (own : Option (List S)) (start n : ℕ) (xs before rest : List S) (lo : ℕ) → length before ≡ lo → length (take (far_length own n) (drop start xs)) ≡ far_length own n
-    → items_in own lo n (before ++ (take (far_length own n) (drop start xs) ++ rest)) ≡ items_in own start n xs
-moved_items (Some own) start n xs before rest lo begins long = refl
-moved_items None start n xs before rest lo begins long =
+moved_items : {S : Type 0} (own : Result (List S) ℕ) (start : ℕ) (xs before rest : List S) (lo : ℕ) → length before ≡ lo → length (take (far_in own) (drop start xs)) ≡ far_in own
+    → items_in own lo (before ++ (take (far_in own) (drop start xs) ++ rest)) ≡ items_in own start xs
+moved_items (Ok own) start xs before rest lo begins long = refl
+moved_items (Err n) start xs before rest lo begins long =
     let first = take n (drop start xs) in
     ap (take n) (drop_at before (first ++ rest) lo begins) ∙ take_at first rest n long
 
@@ -50,7 +50,7 @@ module _ {S : Type 0} (xs ys first : List S) (end : ℕ) (is : ys ≡ first ++ d
       ∙ ap (λ zs. (first ++ take n zs) ++ drop (end + n) ys) (behind start down)
       ∙ ap (λ zs. (first ++ take n (drop start xs)) ++ zs) (behind (end + n) (omega arith))
 
-module _ {H S A : Type 0} (near : A → Option (List S)) where
+module _ {H S A : Type 0} (near : A → Result (List S) ℕ) where
   abbrev pub started : Row H A → ℕ → Row H A
   started r n = record r { payload = record r.payload { start = n } }
 
@@ -215,7 +215,7 @@ module _ {H S A : Type 0} (near : A → Option (List S)) where
       let rest = gathered xs (length es) es in
       let long = slice_length xs e.1 (lies_within (end_of near e.1) (length xs) es lies.1) in
       read_either (read_entry near (before ++ (first ++ rest))) (read_entry near xs) (eq_by_cmp nat_cmp b e.0) (started e.1 lo) e.1 (find nat_cmp b (moved (length es) (lo + n) es)) (find nat_cmp b es)
-      (ap (λ zs. (e.1.place, record { value = record { header = e.1.value.header; items = zs }; count = e.1.payload.count })) (moved_items (near e.1.value.near) e.1.payload.start e.1.payload.length xs before rest lo begins long))
+      (ap (λ zs. (e.1.place, record { value = record { header = e.1.value.header; items = zs }; count = e.1.payload.count })) (moved_items (near e.1.value.near) e.1.payload.start xs before rest lo begins long))
       (ap (λ ys. option_map (read_entry near ys) (find nat_cmp b (moved (length es) (lo + n) es))) (sym (append_assoc before first rest))
       ∙ read_moved xs (before ++ first) (lo + n) (end_of near e.1) es (omega (arith, length-append before first, begins, long)) lies.1 b)
 
@@ -250,7 +250,7 @@ module _ {H S A : Type 0} (near : A → Option (List S)) where
     same_before (suc k) = ap (λ es. option_map spot_of (slice_get es k)) is.rows ∙ moved_spots n 0 k (entries m)
 
     -- the next row is there
-    pub is_left : n < len m → {X : Type 0} (f : X → Spot) (o : Option X) → option_map f o ≡ spot_at now n → IsSome o
+    pub is_left : n < len m → {X : Type 0} (f : X → Spot) (o : Option X) → option_map f o ≡ spot_at now n → (x : X) × (o ≡ Some x)
     is_left inside f o same =
         elim (slice_get_cases (entries m) n).1 [
           | inl w ↦ some_too f spot_of o (slice_get (entries now) n) same (ap is_some (nth ∙ w.2))
@@ -262,7 +262,7 @@ module _ {H S A : Type 0} (near : A → Option (List S)) where
     Moves b x o = (end ≤ x.payload.start) × (end_of near x ≤ length ys) × IsMoved m xs (with_payload (λ q. record q { start = end }) now b o) (copy_within ys x.payload.start (end_of near x) end) (n + 1) (end + far near x)
 
     -- that of the next is
-    next : (s : Spot) (x : Row H A) → Some s ≡ spot_at now n → get now s.birth ≡ Some x → Moves s.birth x (get now s.birth)
+    pub next : (s : Spot) (x : Row H A) → Some s ≡ spot_at now n → get now s.birth ≡ Some x → Moves s.birth x (get now s.birth)
     next s x its_spot had = go (slice_get (entries m) n) refl
       where
         go : (o : Option (ℕ × Row H A)) → slice_get (entries m) n ≡ o → Moves s.birth x (get now s.birth)
@@ -289,9 +289,6 @@ module _ {H S A : Type 0} (near : A → Option (List S)) where
                 ends = ap (λ i. i + k) is.ends ∙ sym w.ends;
               }),
             )
-
-    pub next_of : {X : Type 0} (f : X → Spot) (row : X → Row H A) (o : Option X) (r : X) → o ≡ Some r → option_map f o ≡ spot_at now n → IfSome o (λ q. get now (f q).birth ≡ Some (row q)) → Moves (f r).birth (row r) (get now (f r).birth)
-    next_of f row o r is its_spot had = next (f r) (row r) (sym (ap (option_map f) is) ∙ its_spot) (subst (λ p. IfSome p (λ q. get now (f q).birth ≡ Some (row q))) is had)
 
     -- all are moved, and what is behind them is cut
     module _ (every : n ≡ len m) (zs : List S) (cut : zs ≡ take end ys) where

@@ -1,5 +1,5 @@
 -- How an index and a vector of items make one map.
-use Rattle.std.specs.Prelude.{ℕ, ◌+◌, ◌<◌, ◌≤◌, ◌≡◌, List, length, take, drop, Option, Some, None}
+use Rattle.std.specs.Prelude.{ℕ, ◌+◌, ◌<◌, ◌≤◌, ◌≡◌, List, length, take, drop, Some, Result, Ok, Err}
 use Rattle.std.specs.Ordering.{nat_cmp}
 use Rattle.std.specs.FinMap.{FinMap, get}
 use Rattle.intern_store.specs.Kept.{Kept}
@@ -13,21 +13,26 @@ abbrev pub Row : Type 0 → Type 0 → Type 0
 Row H A = IndexEntry (SliceRow H A) SlicePayload
 
 module _ {S : Type 0} where
-  -- how many of so many items lie in the vector: none where the entry has them
-  abbrev pub far_length : Option (List S) → ℕ → ℕ
-  far_length (Some own) n = 0
-  far_length None n = n
+  -- how many items lie in the vector, of which an entry has this: none where it has them itself
+  abbrev pub far_in : Result (List S) ℕ → ℕ
+  far_in (Ok own) = 0
+  far_in (Err n) = n
 
-  -- so many items of an entry: the first ones of its own, or those from a start on in the vector
-  abbrev pub items_in : Option (List S) → ℕ → ℕ → List S → List S
-  items_in (Some own) start n xs = take n own
-  items_in None start n xs = take n (drop start xs)
+  -- the items of an entry: its own, or so many in the vector from a start on
+  abbrev pub items_in : Result (List S) ℕ → ℕ → List S → List S
+  items_in (Ok own) start xs = own
+  items_in (Err n) start xs = take n (drop start xs)
 
--- given what an entry has of its items
-module _ {H S A : Type 0} (near : A → Option (List S)) where
+  -- an entry has these items, or knows how many they are
+  abbrev pub HasItems : Result (List S) ℕ → List S → Type 0
+  HasItems (Ok own) xs = own ≡ xs
+  HasItems (Err n) xs = n ≡ length xs
+
+-- given what an entry has of its items: all, or how many lie in the vector
+module _ {H S A : Type 0} (near : A → Result (List S) ℕ) where
   -- how many items of a row lie in the vector, and where they end
   abbrev pub far : Row H A → ℕ
-  far r = far_length (near r.value.near) r.payload.length
+  far r = far_in (near r.value.near)
 
   abbrev pub end_of : Row H A → ℕ
   end_of r = r.payload.start + far r
@@ -51,7 +56,7 @@ module _ {H S A : Type 0} (near : A → Option (List S)) where
   sliced_entry xs r = record {
     value = record {
       header = r.value.header;
-      items = items_in (near r.value.near) r.payload.start r.payload.length xs;
+      items = items_in (near r.value.near) r.payload.start xs;
     };
     count = r.payload.count;
   }
@@ -63,7 +68,7 @@ module _ {H S A : Type 0} (near : A → Option (List S)) where
   -- the hash of a header with its items, where these lie in the vector
   abbrev pub sliced_hash : (Sliced H S → ℕ) → List S → SliceRow H A → SlicePayload → ℕ
   sliced_hash hash xs v p =
-      hash (record { header = v.header; items = items_in (near v.near) p.start p.length xs })
+      hash (record { header = v.header; items = items_in (near v.near) p.start xs })
 
   pub record IsJoined (rows : FinMap nat_cmp (Row H A)) (items : List S) : Type 0 where
     pub laid : IsLaid rows (length items)

@@ -1,5 +1,5 @@
 -- What the iterators of tables give.
-use Rattle.std.specs.Prelude.{ℕ, List, Option, map as list_map}
+use Rattle.std.specs.Prelude.{ℕ, List, Result, map as list_map}
 use Rattle.std.specs.Ordering.{nat_cmp}
 use Rattle.std.specs.FinMap.{FinMap, entries}
 use Rattle.intern_store.specs.Kept.{Kept}
@@ -26,6 +26,6 @@ module _ {H S : Type 0} where
   listed_slices m = list_map (λ e. (e.0, shown e.1)) (entries m)
 
   -- what is given of a row, where these items lie in the vector
-  abbrev pub slice_among : {A : Type 0} → (A → Option (List S)) → List S
+  abbrev pub slice_among : {A : Type 0} → (A → Result (List S) ℕ) → List S
       → ℕ × (SliceRow H A × SlicePayload) → ℕ × (Sliced H S × ℕ)
   slice_among near xs e = (e.0, shown_row near xs e.1.0 e.1.1)

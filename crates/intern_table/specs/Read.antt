@@ -1,5 +1,5 @@
 -- What a read shows.
-use Rattle.std.specs.Prelude.{ℕ, List, Option, length}
+use Rattle.std.specs.Prelude.{ℕ, List, Result, length}
 use Rattle.intern_store.specs.Kept.{Kept}
 use Rattle.intern_table.specs.Joined.{items_in}
 use Rattle.intern_table.specs.Sliced.{Sliced}
@@ -16,10 +16,10 @@ abbrev pub shown : {H S : Type 0} → Kept (Sliced H S) → Sliced H S × ℕ
 shown k = (k.value, length k.value.items)
 
 -- what a row keeps, where these items lie in the vector, and the length of its list
-abbrev pub shown_row : {H S A : Type 0} → (A → Option (List S)) → List S → SliceRow H A → SlicePayload
+abbrev pub shown_row : {H S A : Type 0} → (A → Result (List S) ℕ) → List S → SliceRow H A → SlicePayload
     → Sliced H S × ℕ
 shown_row near xs v p =
     shown (record {
-      value = record { header = v.header; items = items_in (near v.near) p.start p.length xs };
+      value = record { header = v.header; items = items_in (near v.near) p.start xs };
       count = p.count;
     })

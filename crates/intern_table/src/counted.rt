@@ -30,7 +30,7 @@ impl Counted for SlicePayload {
     ghost count_of = { slice_count };
 
     fn count(self) -> u64 {
-        self.count
+        self.count.get()
     }
 }
 

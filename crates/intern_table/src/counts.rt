@@ -3,7 +3,7 @@ ghost use Rattle.std.specs.Prelude.{◌-◌};
 ghost use Rattle.intern_store.specs.Kept.{raised};
 
 use crate::pool::SlicePayload;
-use intern_index::Change;
+use intern_index::{Change, Packed};
 
 /// One more, below a limit.
 #[derive(Clone, Copy)]
@@ -40,7 +40,7 @@ impl<C: Change<u64>> Change<SlicePayload> for OfCount<C> {
 
     fn changed(&self, payload: SlicePayload) -> SlicePayload {
         SlicePayload {
-            count: self.0.changed(payload.count),
+            count: Packed::of(self.0.changed(payload.count.get())),
             ..payload
         }
     }

@@ -1,11 +1,13 @@
 //! Where the items of slices lie: in the entries, or in one vector with those of others.
-ghost use Rattle.std.specs.Prelude.{◌≡◌, ◌<◌, ◌≤◌, ◌↔◌, ℕ, List, Option, None, IfSome, IsSome, length, take, nat_le, if◌then◌else◌};
-ghost use Rattle.std.specs.Option.{option_map};
-ghost use Rattle.intern_table.specs.Joined.{far_length, items_in};
+ghost use Rattle.std.specs.Prelude.{◌≡◌, ◌<◌, ◌≤◌, ◌↔◌, ◌^◌, ◌&&◌, ℕ, List, Result, Err, IfSome, IsSome, length, take, nat_le, nat_lt, if◌then◌else◌};
+ghost use Rattle.std.specs.Result.{result_map_both};
+ghost use Rattle.intern_table.specs.Joined.{far_in, items_in, HasItems};
+ghost use Rattle.intern_table.specs.Layouts.{own_items};
 ghost use Rattle.intern_table.specs.Read.{read, shown_row};
 
 use crate::pool::{SlicePayload, part};
 use crate::slice::{HeaderSlice, HeaderWithLength};
+use intern_index::Packed;
 
 /// Where a kind of slices keeps its items: [`Far`] or [`Near`].
 pub trait Layout<S> {
@@ -21,55 +23,60 @@ pub struct Far;
 pub struct Near<const N: usize>;
 
 impl<S> Layout<S> for Far {
-    type Near = NoItems;
+    type Near = FarItems;
 }
 
 impl<S: Copy, const N: usize> Layout<S> for Near<N> {
     type Near = OwnItems<S, N>;
 }
 
-/// What an entry has of the items of its slice: all, or none.
+/// What an entry has of the items of its slice: all, or how many lie in the vector.
 pub trait NearItems<S>: Drop {
-    // The items, with others behind them; none where they lie in the vector.
-    ghost near_of: { Self → Option (List S) };
+    // The items, or how many lie in the vector.
+    ghost near_of: { Self → Result (List S) ℕ };
 
     // How many of so many items lie outside of the entry, in the vector.
     ghost outside: { ℕ → ℕ };
 
     /// What an entry is to have of these items.
     fn of(items: &[S]) -> Self
-        ensures outside { far_length (near_of result) (length items.now)
-            ≡ outside (length items.now) }
-        ensures items { IfSome (near_of result) (λ own. take (length items.now) own ≡ items.now) };
+        ensures outside { far_in (near_of result) ≡ outside (length items.now) }
+        ensures items { HasItems (near_of result) items.now };
 
-    /// The items, with others behind them; none where they lie in the vector.
-    fn items(&self) -> Option<&[S]>
-        ensures { option_map (λ own. own.now) result ≡ near_of self.now };
+    /// The items. Where they lie in the vector, `Err` with how many there are.
+    fn items(&self) -> Result<&[S], usize>
+        ensures { result_map_both (λ own. own.now) (λ n. n) result ≡ near_of self.now };
 }
 
 /// No items: they lie in the vector.
 #[derive(Drop)]
-pub struct NoItems;
+pub struct FarItems {
+    length: Packed,
+}
 
-impl<S> NearItems<S> for NoItems {
-    ghost near_of = { λ _. None };
+impl<S> NearItems<S> for FarItems {
+    ghost near_of = { λ a. Err a.length };
 
     ghost outside = { λ n. n };
 
-    fn of(_items: &[S]) -> NoItems {
-        NoItems
+    fn of(items: &[S]) -> FarItems {
+        FarItems {
+            length: Packed::of(items.len() as u64),
+        }
     }
 
-    fn items(&self) -> Option<&[S]> {
-        None
+    fn items(&self) -> Result<&[S], usize> {
+        Err(self.length.get() as usize)
     }
 }
 
-/// Up to `N` items. An empty slice has none.
+/// Up to `N` items, and at most 2³² - 1; no items of longer slices. An empty slice has none.
 #[derive(Drop)]
-pub struct OwnItems<S, const N: usize> {
-    // The items, and the first of them in each place behind them.
-    items: Option<[S; N]>,
+pub enum OwnItems<S, const N: usize> {
+    /// How many items there are, and an array that begins with these.
+    Near(u32, [S; N]),
+    /// How many items lie in the vector.
+    Far(Packed),
 }
 
 // An array that begins with these items, if there is one and they fit.
@@ -87,20 +94,21 @@ fn filled<S: Copy, const N: usize>(items: &[S]) -> Option<[S; N]>
 }
 
 impl<S: Copy, const N: usize> NearItems<S> for OwnItems<S, N> {
-    ghost near_of = { λ a. a.items };
+    ghost near_of = { own_items };
 
-    ghost outside = { λ n. if nat_le n N then 0 else n };
+    ghost outside = { λ n. if nat_le n N && nat_lt n (2 ^ 32) then 0 else n };
 
     fn of(items: &[S]) -> OwnItems<S, N> {
-        OwnItems {
-            items: filled(items),
+        match (filled(items), u32::try_from(items.len())) {
+            (Some(own), Ok(length)) => OwnItems::Near(length, own),
+            _ => OwnItems::Far(Packed::of(items.len() as u64)),
         }
     }
 
-    fn items(&self) -> Option<&[S]> {
-        match &self.items {
-            Some(own) => Some(own.as_slice()),
-            None => None,
+    fn items(&self) -> Result<&[S], usize> {
+        match self {
+            OwnItems::Near(length, own) => Ok(part(own.as_slice(), 0, *length as usize)),
+            OwnItems::Far(length) => Err(length.get() as usize),
         }
     }
 }
@@ -117,12 +125,11 @@ impl<H, A> SliceRow<H, A> {
     pub(crate) fn items<'a, S>(&'a self, payload: SlicePayload, all: &'a [S]) -> &'a [S]
     where
         A: NearItems<S>,
-        ensures { result.now
-            ≡ items_in (A.near_of self.now.near) payload.start payload.length all.now }
+        ensures { result.now ≡ items_in (A.near_of self.now.near) payload.start all.now }
     {
         match self.near.items() {
-            Some(own) => part(own, 0, payload.length),
-            None => part(all, payload.start, payload.length),
+            Ok(own) => own,
+            Err(length) => part(all, payload.start.get() as usize, length),
         }
     }
 
@@ -145,10 +152,12 @@ impl<H, A> SliceRow<H, A> {
     }
 }
 
-/// How many of so many items lie in the vector.
-pub(crate) fn far_length<S, A: NearItems<S>>(near: &A, length: usize) -> usize
-    ensures value { result ≡ far_length (A.near_of near.now) length }
-    ensures within { result ≤ length }
+/// How many items lie in the vector.
+pub(crate) fn far_length<S, A: NearItems<S>>(near: &A) -> usize
+    ensures { result ≡ far_in (A.near_of near.now) }
 {
-    if near.items().is_some() { 0 } else { length }
+    match near.items() {
+        Ok(_) => 0,
+        Err(length) => length,
+    }
 }

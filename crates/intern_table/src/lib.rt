@@ -15,7 +15,7 @@ mod text;
 pub use counted::{Counted, Counts};
 pub use indexmap::Equivalent;
 pub use intern_index::Iter;
-pub use layout::{Far, Layout, Near, NearItems, NoItems, OwnItems, SliceRow};
+pub use layout::{Far, FarItems, Layout, Near, NearItems, OwnItems, SliceRow};
 pub use offered::{FixedState, Offered};
 pub use pool::SlicePayload;
 pub use slice::{HeaderSlice, HeaderWithLength, SliceValue};

@@ -5,16 +5,13 @@ ghost use Rattle.std.specs.FinMap.{get};
 ghost use Rattle.intern_table.specs.Joined.{read_entry, IsLaid, IsCovered};
 
 use crate::layout::{NearItems, SliceRow, far_length};
-use intern_index::{BirthOrder, Change, Index};
+use intern_index::{BirthOrder, Change, Index, Packed};
 
-/// How many items an entry has, where they begin among those in the vector, and its count.
-///
-/// The length stands first, beside the items that lie in the entry: a look-up of these reads it too.
+/// Where the items of an entry begin that lie in the vector, and its count.
 #[derive(Clone, Copy)]
 pub struct SlicePayload {
-    pub(crate) length: usize,
-    pub(crate) start: usize,
-    pub(crate) count: u64,
+    pub(crate) start: Packed,
+    pub(crate) count: Packed,
 }
 
 /// The items from a start on, at most this many.
@@ -36,7 +33,7 @@ impl Change<SlicePayload> for MoveTo {
 
     fn changed(&self, payload: SlicePayload) -> SlicePayload {
         SlicePayload {
-            start: self.start,
+            start: Packed::of(self.start as u64),
             ..payload
         }
     }
@@ -60,11 +57,14 @@ pub(crate) fn compact<H, S: Copy, A: NearItems<S>>(
     let mut end = 0;
     let mut last = None;
     for at in 0..index.len() {
-        let (spot, row, payload) = index.nth(at, last).unwrap();
-        let length = far_length(&row.near, payload.length);
+        let Some((spot, row, payload)) = index.nth(at, last) else {
+            unreachable!();
+        };
+        let far = far_length(&row.near);
+        let start = payload.start.get() as usize;
         index.change(spot, &MoveTo { start: end });
-        items.copy_within(payload.start..payload.start + length, end);
-        end += length;
+        items.copy_within(start..start + far, end);
+        end += far;
         last = Some(spot);
     }
     items.truncate(end);

@@ -1,4 +1,6 @@
 //! A header with its items: what a table of slices keeps, and what a read of it lends.
+ghost use Rattle.std.specs.Prelude.{◌≡◌};
+ghost use Rattle.std.specs.Cmp.Lexicographic.{pointwise};
 ghost use Rattle.intern_table.specs.Sliced.{sliced_eq};
 ghost use Rattle.std.specs.Cmp.Rules.{comparing};
 ghost use Rattle.std.proofs.Common.{rules};
@@ -53,4 +55,26 @@ impl<H: PartialEq, S: PartialEq> PartialEq for SliceValue<H, S> {
 
 impl<H: Eq, S: Eq> Eq for SliceValue<H, S> {
     ghost laws = { Prim.search (comparing, rules) };
+}
+
+// Up to so many items are compared one by one. A comparison of more is a call of its own, made for
+// long slices.
+const FEW: usize = 8;
+
+/// Whether slices have equal items, one by one.
+pub(crate) fn equal_items<S: PartialEq>(first: &[S], second: &[S]) -> bool
+    ensures { result ≡ pointwise S.eq first.now second.now }
+{
+    if first.len() != second.len() {
+        return false;
+    }
+    if first.len() > FEW {
+        return first == second;
+    }
+    for at in 0..first.len() {
+        if first[at] != second[at] {
+            return false;
+        }
+    }
+    true
 }

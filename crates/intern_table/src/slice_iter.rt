@@ -35,7 +35,9 @@ impl<'a, H, S, A: NearItems<S>> Iterator for SliceIter<'a, H, S, A> {
     ghost remaining = { item_count (λ rest. rest) };
 
     fn next(&mut self) -> Option<(Spot, HeaderSlice<'a, H, S>)> {
-        let (spot, row, payload) = self.rows.next()?;
-        Some((spot, row.read(payload, self.items)))
+        match self.rows.next() {
+            Some((spot, row, payload)) => Some((spot, row.read(payload, self.items))),
+            None => None,
+        }
     }
 }

@@ -13,10 +13,10 @@ use crate::counts::{Lower, OfCount, Raise};
 use crate::layout::{NearItems, SliceRow, far_length};
 use crate::offered::hash_value;
 use crate::pool::{SlicePayload, compact};
-use crate::slice::{HeaderSlice, SliceValue};
+use crate::slice::{HeaderSlice, SliceValue, equal_items};
 use crate::slice_iter::SliceIter;
 use indexmap::Equivalent;
-use intern_index::{BirthOrder, Hashes, Index, Query, size_of_one};
+use intern_index::{BirthOrder, Hashes, Index, Packed, Query, size_of_one};
 use intern_store::{Entries, Finds, Keeps, Pools, Seeks, Spot, Sweeps, Takes};
 use std::alloc::{AllocError, Global};
 use std::cmp::Eq;
@@ -80,11 +80,11 @@ impl<H: Hash + Eq, S: Eq + Copy, A: NearItems<S>, Q: Equivalent<H>> Query<
     ghost fits = { λ q v p. sliced_fits (Q.equivalent q.header) S.eq q.items.now
         (record {
           header = v.header;
-          items = items_in (A.near_of v.near) p.start p.length q.all.now;
+          items = items_in (A.near_of v.near) p.start q.all.now;
         }) };
 
     fn fits(&self, row: &SliceRow<H, A>, payload: SlicePayload) -> bool {
-        self.header.equivalent(&row.header) && self.items == row.items(payload, self.all)
+        self.header.equivalent(&row.header) && equal_items(self.items, row.items(payload, self.all))
     }
 }
 
@@ -112,8 +112,10 @@ impl<H: Hash + Eq, S: Hash + Eq + Copy, A: NearItems<S>, B: BuildHasher> SliceTa
     pub fn get(&self, spot: Spot) -> Option<HeaderSlice<'_, H, S>>
         ensures { option_map read result ≡ option_map shown (map.get self.now.entries spot.birth) }
     {
-        let (row, payload) = self.index.read(spot)?;
-        Some(row.read(payload, self.items.as_slice()))
+        match self.index.read(spot) {
+            Some((row, payload)) => Some(row.read(payload, self.items.as_slice())),
+            None => None,
+        }
     }
 
     /// The entries, in no promised order.
@@ -266,14 +268,13 @@ impl<'a, H: Hash + Eq, S: Hash + Eq + Copy, A: NearItems<S>, B: BuildHasher> Tak
         let (header, items) = offer;
         let near = A::of(items);
         let start = self.items.len();
-        let far = &items[..far_length(&near, items.len())];
+        let far = &items[..far_length(&near)];
         let Ok(()) = self.items.extend_from_slice(far) else {
             return Err((header, items));
         };
         let payload = SlicePayload {
-            length: items.len(),
-            start,
-            count,
+            start: Packed::of(start as u64),
+            count: Packed::of(count),
         };
         let by = SliceHash {
             all: self.items.as_slice(),

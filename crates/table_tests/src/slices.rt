@@ -3,7 +3,7 @@ use crate::counts::is_told;
 use crate::marks::{marks_by, marks_of};
 use crate::steps::is_equal;
 use intern_store::{Refusal, Store};
-use intern_table::{FixedState, NearItems, NoItems, OwnItems, SliceTable};
+use intern_table::{FarItems, FixedState, NearItems, OwnItems, SliceTable};
 use std::alloc::Global;
 use std::cmp::Eq;
 use std::hash::Hash;
@@ -116,7 +116,7 @@ fn sweep_slices<A: NearItems<u64>>(rt: &impl Abort, alloc: Global) {
 
 #[test]
 fn a_sweep_keeps_slices(rt: HostRuntime) {
-    sweep_slices::<NoItems>(&rt, rt.alloc());
+    sweep_slices::<FarItems>(&rt, rt.alloc());
 }
 
 #[test]
@@ -158,7 +158,7 @@ fn sweep_items_of_no_size<A: NearItems<()>>(rt: &impl Abort, alloc: Global) {
 
 #[test]
 fn a_sweep_keeps_items_of_no_size(rt: HostRuntime) {
-    sweep_items_of_no_size::<NoItems>(&rt, rt.alloc());
+    sweep_items_of_no_size::<FarItems>(&rt, rt.alloc());
 }
 
 #[test]
@@ -217,7 +217,7 @@ fn churn<A: NearItems<u64>>(rt: &impl Abort, alloc: Global) {
 
 #[test]
 fn sweeps_after_churn_keep_slices(rt: HostRuntime) {
-    churn::<NoItems>(&rt, rt.alloc());
+    churn::<FarItems>(&rt, rt.alloc());
 }
 
 #[test]
@@ -290,7 +290,7 @@ fn fill<A: NearItems<u64>>(rt: &impl Abort, alloc: Global) {
 
 #[test]
 fn a_refused_insertion_changes_nothing(rt: HostRuntime) {
-    fill::<NoItems>(&rt, rt.alloc());
+    fill::<FarItems>(&rt, rt.alloc());
 }
 
 #[test]

@@ -27,10 +27,11 @@ returns-clause-spot g c =
     let is = c.place.ensures in
     let view = entries_seen _ _ _ _ c.self.view_is in
     let told = told_ranked s c.self.invariant.apart _ view is.places is.order c.args.at c.args.before c.place.result c.requires.within c.requires.before is.ranked in
-    ranked_spot s c.self.invariant.apart _ view is.places is.order c.args.at c.in_ok-place.place c.index-entry.result.now (sym told ∙ c.in_ok-place.was) c.index-entry.ensures
+    rw c.get-birth.ensures
+    (ranked_spot s c.self.invariant.apart _ view is.places is.order c.args.at c.in_ok-place.place c.index-entry.result.now (sym told ∙ c.in_ok-place.was) c.index-entry.ensures)
 
 pub returns-clause-entry : goal.returns-clause-entry
 returns-clause-entry g c =
     let s = c.self.inside.slots in
     let e = c.index-entry.result.now in
-    ap (λ m. get m e.birth) (sym (entries_seen _ _ _ _ c.self.view_is)) ∙ read_there s c.self.invariant.apart c.in_ok-place.place e c.index-entry.ensures
+    rw c.get-birth.ensures (ap (λ m. get m e.birth) (sym (entries_seen _ _ _ _ c.self.view_is)) ∙ read_there s c.self.invariant.apart c.in_ok-place.place e c.index-entry.ensures)

@@ -8,7 +8,7 @@ use Rattle.intern_index.proofs.index.Index.entry.Goals as goal
 pub returns-in-Some : goal.returns-in-Some
 returns-in-Some g c =
     let place = c.args.spot.place in
-    let birth = sym (ap (option_map (λ (e : Entry g.row.T.Denot g.row.N.Denot). e.birth)) c.in-Some.ensures) ∙ ap Some c.if-entry-spot.true in
+    let birth = sym (ap (option_map (λ (e : Entry g.row.T.Denot g.row.N.Denot). e.birth)) c.in-Some.ensures) ∙ ap Some (sym c.get-in-Some-1.ensures ∙ c.if-get-spot.true) in
     ap (option_map (seen place)) c.in-Some.ensures ∙ seen_at c.self.inside.slots _ (entries_seen _ _ _ _ c.self.view_is) c.self.invariant.apart place c.args.spot.birth birth
 
 pub returns-in_ok-place-in_default : goal.returns-in_ok-place-in_default

@@ -9,8 +9,10 @@ returns-in_err-place-clause-none g c =
 
 pub returns-clause-found : goal.returns-clause-found
 returns-clause-found g c =
-    one_fits (g.Q.Query.fits c.args.query.now) c.self.inside.slots _ c.self.invariant _ (entries_seen _ _ _ _ c.self.view_is) c.in_ok-place.place c.index.result.now c.index.ensures c.in_ok-place.ensures.found
+    rw c.get-birth.ensures
+    (one_fits (g.Q.Query.fits c.args.query.now) c.self.inside.slots _ c.self.invariant _ (entries_seen _ _ _ _ c.self.view_is) c.in_ok-place.place c.index.result.now c.index.ensures c.in_ok-place.ensures.found)
 
 pub returns-clause-place : goal.returns-clause-place
 returns-clause-place g c =
-    one_placed (g.Q.Query.fits c.args.query.now) c.self.inside.slots _ c.self.invariant _ (entries_seen _ _ _ _ c.self.view_is) c.in_ok-place.place c.index.result.now c.index.ensures
+    rw c.get-birth.ensures
+    (one_placed (g.Q.Query.fits c.args.query.now) c.self.inside.slots _ c.self.invariant _ (entries_seen _ _ _ _ c.self.view_is) c.in_ok-place.place c.index.result.now c.index.ensures)

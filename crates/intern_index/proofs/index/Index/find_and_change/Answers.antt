@@ -25,26 +25,28 @@ invariant_of-self g c =
 
 pub returns-clause-found : goal.returns-clause-found
 returns-clause-found g c =
-    one_fits (g.Q.Query.fits c.args.query.now) c.self.inside.slots _ c.self.invariant _ (entries_seen _ _ _ _ c.self.view_is) c.in_ok-place.place c.index_mut-entry.result.now c.index_mut-entry.ensures.value c.in_ok-place.ensures.found
+    rw c.get-birth.ensures
+    (one_fits (g.Q.Query.fits c.args.query.now) c.self.inside.slots _ c.self.invariant _ (entries_seen _ _ _ _ c.self.view_is) c.in_ok-place.place c.index_mut-entry.result.now c.index_mut-entry.ensures.value c.in_ok-place.ensures.found)
 
 pub returns-clause-place : goal.returns-clause-place
 returns-clause-place g c =
-    one_placed (g.Q.Query.fits c.args.query.now) c.self.inside.slots _ c.self.invariant _ (entries_seen _ _ _ _ c.self.view_is) c.in_ok-place.place c.index_mut-entry.result.now c.index_mut-entry.ensures.value
+    rw c.get-birth.ensures
+    (one_placed (g.Q.Query.fits c.args.query.now) c.self.inside.slots _ c.self.invariant _ (entries_seen _ _ _ _ c.self.view_is) c.in_ok-place.place c.index_mut-entry.result.now c.index_mut-entry.ensures.value)
 
 pub returns-clause-payload : goal.returns-clause-payload
 returns-clause-payload g c =
     let there = c.index_mut-entry.ensures.value in
     let birth = c.index_mut-entry.result.now.birth in
     let at = birth_there c.self.inside.slots c.in_ok-place.place birth c.index_mut-entry.result.now there refl in
-    ap (option_map (λ (e : IndexEntry g.row.T.Denot g.row.N.Denot). e.payload))
-    (sym (seen_at c.self.inside.slots _ (entries_seen _ _ _ _ c.self.view_is) c.self.invariant.apart c.in_ok-place.place birth at) ∙ ap (option_map (seen c.in_ok-place.place)) there)
+    rw c.get-birth.ensures (ap (option_map (λ (e : IndexEntry g.row.T.Denot g.row.N.Denot). e.payload))
+    (sym (seen_at c.self.inside.slots _ (entries_seen _ _ _ _ c.self.view_is) c.self.invariant.apart c.in_ok-place.place birth at) ∙ ap (option_map (seen c.in_ok-place.place)) there))
 
 pub returns-clause-state : goal.returns-clause-state
 returns-clause-state g c =
     let there = c.index_mut-entry.ensures.value in
     let entry = c.index_mut-entry.result.now in
-    changed_alike _ _ _ _ c.self.view_is _ _ _ (
+    rw c.get-birth.ensures (changed_alike _ _ _ _ c.self.view_is _ _ _ (
     repaid_seen c.self.inside.slots _ _ c.self.invariant _ (entries_seen _ _ _ _ c.self.view_is) c.in_ok-place.place entry.birth (g.C.Change.changed c.args.change.now) entry _ there refl
     (ap (λ p. record entry { payload = p }) c.changed-entry.ensures)
     (Updates-with_value c.self.inside.slots c.in_ok-place.place _ (ap is_some there)))
-    (room_written c.self.inside.slots c.in_ok-place.place _ _ (g.B.Births.free c.self.inside.births) (ap is_some there))
+    (room_written c.self.inside.slots c.in_ok-place.place _ _ (g.B.Births.free c.self.inside.births) (ap is_some there)))

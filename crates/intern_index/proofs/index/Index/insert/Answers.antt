@@ -1,7 +1,7 @@
-use Rattle.std.proofs.Common.{refl, ap, sym, subst, ◌∙◌, arith}
+use Rattle.std.proofs.Common.{Some, refl, ap, sym, subst, ◌∙◌, arith}
 use Rattle.std.specs.FinMap as map
 use Rattle.std.proofs.lemmas.Option.{none-some}
-use Rattle.slab.specs.Slab.{Slab}
+use Rattle.slab.specs.Slab.{Slab, Updates}
 use Rattle.intern_buckets.specs.Leading.{leads}
 use Rattle.intern_index.specs.IndexEntry.{IsLed}
 use Rattle.intern_index.specs.Keyed.{IsKeyed}
@@ -20,7 +20,10 @@ pub invariant_of-self-in-Ok : goal.invariant_of-self-in-Ok
 invariant_of-self-in-Ok g c =
     let s = c.self.inside.slots in
     let key = c.vacant_key-place.ensures in
-    let put = put_roomy s c.reserve.new.self _ _ _ _ c.reserve.ensures.rest_kept c.insert_reserved.ensures.key key.value c.insert_reserved.ensures.updates in
+    let put =
+    subst (λ b. Updates s c.insert_reserved.new.self c.vacant_key-place.result (Some (record { birth = b; value = c.in-Ok.value; payload = c.args.payload }))) c.of.ensures
+    (put_roomy s c.reserve.new.self _ _ _ _ c.reserve.ensures.rest_kept c.insert_reserved.ensures.key key.value c.insert_reserved.ensures.updates)
+    in
     let tied = c.self.invariant in
     let here = c.insert_reserved.ensures.key ∙ ap (λ (r : Slab (Entry g.row.T.Denot g.row.N.Denot)). r.vacant_key) c.reserve.ensures.rest_kept ∙ sym key.value in
     inserted_tied s c.insert_reserved.new.self (g.B.Births.IsFor c.make_room-2.new.self)
@@ -33,7 +36,10 @@ pub returns-in-Ok-clause-ok : goal.returns-in-Ok-clause-ok
 returns-in-Ok-clause-ok g c =
     let s = c.self.inside.slots in
     let key = c.vacant_key-place.ensures in
-    let put = put_roomy s c.reserve.new.self _ _ _ _ c.reserve.ensures.rest_kept c.insert_reserved.ensures.key key.value c.insert_reserved.ensures.updates in
+    let put =
+    subst (λ b. Updates s c.insert_reserved.new.self c.vacant_key-place.result (Some (record { birth = b; value = c.in-Ok.value; payload = c.args.payload }))) c.of.ensures
+    (put_roomy s c.reserve.new.self _ _ _ _ c.reserve.ensures.rest_kept c.insert_reserved.ensures.key key.value c.insert_reserved.ensures.updates)
+    in
     let view = entries_seen _ _ _ _ c.self.view_is in
     written_seen s c.insert_reserved.new.self _ c.self.invariant _ view c.vacant_key-place.result c.args.birth _ refl
     (λ p at. let lower = c.requires.fresh c.args.birth (seen_some s s _ c.self.invariant _ view p c.args.birth at) in absurd (omega arith))

@@ -1,7 +1,7 @@
 use Rattle.std.proofs.Common.{◌≡◌, ◌++◌, ℕ, List, length, take, ap, sym, subst, ◌∙◌, arith}
 use Rattle.intern_index.specs.IndexEntry.{IsLed}
 use Rattle.intern_table.specs.Hashes.{hash_of}
-use Rattle.intern_table.specs.Joined.{Row, far_length, sliced_entry, sliced_hash}
+use Rattle.intern_table.specs.Joined.{Row, far_in, sliced_entry, sliced_hash}
 use Rattle.intern_table.specs.Sliced.{Sliced, sliced_input}
 use Rattle.intern_store.proofs.Maps.{all_below}
 use Rattle.intern_table.proofs.Joins.{added_items, added_length, adds_joined, adds_seen, cut_back, longer_led, shorter_led, still_joined, still_seen}
@@ -23,12 +23,12 @@ insert-requires-clause-hash g c =
     let xs = c.args.offer.1.now in
     let old = c.self.inside.items.items in
     let counted = c.self.inside.items.ok.0 in
-    let begins : c.len-start.result ≡ length old = omega (arith, c.len-start.ensures) in
-    let more = c.in-Ok.ensures.items ∙ ap (λ n. old ++ take n xs) c.far_length.ensures.value in
+    let begins : c.of.result ≡ length old = omega (arith, c.of.ensures, c.len-start.ensures) in
+    let more = c.in-Ok.ensures.items ∙ ap (λ n. old ++ take n xs) c.far_length.ensures in
     let hash_by : g.row.B.Denot → List g.row.S.Denot → ℕ = λ by ys. hash_of g.B.BuildHasher g.B.Hasher.Hasher by (sliced_input g.H.Hash.hash_input g.S.Hash.hash_input (record { header = c.args.offer.0; items = ys })) in
     c.requires.hash
     ∙ ap (λ by. hash_by by xs) (sym (seen_hasher c.self.view_is))
-    ∙ ap (hash_by c.self.inside.hasher) (sym (added_items own c.len-start.result xs old c.as_slice.result.now c.of-near.ensures.items begins (c.as_slice.ensures.value ∙ more)))
+    ∙ ap (hash_by c.self.inside.hasher) (sym (added_items own c.of.result xs old c.as_slice.result.now c.of-near.ensures.items begins (c.as_slice.ensures.value ∙ more)))
 
 pub invariant_of-self-in-Ok-insert : goal.invariant_of-self-in-Ok-insert
 invariant_of-self-in-Ok-insert g c =
@@ -37,13 +37,13 @@ invariant_of-self-in-Ok-insert g c =
     let xs = c.args.offer.1.now in
     let old = c.self.inside.items.items in
     let counted = c.self.inside.items.ok.0 in
-    let begins : c.len-start.result ≡ length old = omega (arith, c.len-start.ensures) in
-    let more = c.in-Ok.ensures.items ∙ ap (λ n. old ++ take n xs) c.far_length.ensures.value in
+    let begins : c.of.result ≡ length old = omega (arith, c.of.ensures, c.len-start.ensures) in
+    let more = c.in-Ok.ensures.items ∙ ap (λ n. old ++ take n xs) c.far_length.ensures in
     let hash : Sliced g.row.H.Denot g.row.S.Denot → ℕ = λ v. hash_of g.B.BuildHasher g.B.Hasher.Hasher c.self.inside.hasher (sliced_input g.H.Hash.hash_input g.S.Hash.hash_input v) in
     record {
       joined =
-          adds_joined near _ _ c.self.invariant.joined c.args.birth (all_below (sliced_entry near old) _ _ (seen_entries c.self.view_is) c.args.birth c.requires.above) _ c.extend_from_slice.new.self.items _ (take (far_length own (length xs)) xs)
-          more c.in-Ok-insert.ensures.ok begins (added_length own xs);
+          adds_joined near _ _ c.self.invariant.joined c.args.birth (all_below (sliced_entry near old) _ _ (seen_entries c.self.view_is) c.args.birth c.requires.above) _ c.extend_from_slice.new.self.items _ (take (far_in own) xs)
+          more c.in-Ok-insert.ensures.ok begins (added_length own xs c.of-near.ensures.items);
       led = subst (λ ys. IsLed (sliced_hash near hash ys) c.insert.new.self) c.as_slice.ensures.value c.insert.ensures.led;
     }
 
@@ -54,11 +54,11 @@ returns-in-Ok-insert-clause-ok g c =
     let xs = c.args.offer.1.now in
     let old = c.self.inside.items.items in
     let counted = c.self.inside.items.ok.0 in
-    let begins : c.len-start.result ≡ length old = omega (arith, c.len-start.ensures) in
-    let more = c.in-Ok.ensures.items ∙ ap (λ n. old ++ take n xs) c.far_length.ensures.value in
-    let r : Row g.row.H.Denot g.row.A.Denot = record { place = c.in-Ok-insert.place; value = record { header = c.args.offer.0; near = c.of-near.result }; payload = record { start = c.len-start.result; length = length xs; count = c.args.count } } in
-    adds_seen near _ _ c.self.invariant.joined c.args.birth (all_below (sliced_entry near old) _ _ (seen_entries c.self.view_is) c.args.birth c.requires.above) _ c.extend_from_slice.new.self.items r (take (far_length own (length xs)) xs)
-    more c.in-Ok-insert.ensures.ok begins (added_length own xs) xs (added_items own c.len-start.result xs old _ c.of-near.ensures.items begins more) _ (seen_entries c.self.view_is)
+    let begins : c.of.result ≡ length old = omega (arith, c.of.ensures, c.len-start.ensures) in
+    let more = c.in-Ok.ensures.items ∙ ap (λ n. old ++ take n xs) c.far_length.ensures in
+    let r : Row g.row.H.Denot g.row.A.Denot = record { place = c.in-Ok-insert.place; value = record { header = c.args.offer.0; near = c.of-near.result }; payload = record { start = c.of.result; count = c.of-2.result } } in
+    rw (sym c.of-2.ensures) (adds_seen near _ _ c.self.invariant.joined c.args.birth (all_below (sliced_entry near old) _ _ (seen_entries c.self.view_is) c.args.birth c.requires.above) _ c.extend_from_slice.new.self.items r (take (far_in own) xs)
+    more c.in-Ok-insert.ensures.ok begins (added_length own xs c.of-near.ensures.items) xs (added_items own c.of.result xs old _ c.of-near.ensures.items begins more) _ (seen_entries c.self.view_is))
 
 pub invariant_of-self-in-Err : goal.invariant_of-self-in-Err
 invariant_of-self-in-Err g c =
