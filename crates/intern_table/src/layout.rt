@@ -18,8 +18,8 @@ pub trait Layout<S> {
 /// The items of all slices lie in one vector.
 pub struct Far;
 
-/// Up to `N` items lie in the entry, which has room for so many whether they are used or not. The
-/// items of longer slices lie in one vector.
+/// Up to `N` items, and at most 2³² - 1, lie in the entry, which has room for `N` whether they are
+/// used or not. The items of longer slices lie in one vector.
 pub struct Near<const N: usize>;
 
 impl<S> Layout<S> for Far {
@@ -70,7 +70,8 @@ impl<S> NearItems<S> for FarItems {
     }
 }
 
-/// Up to `N` items, and at most 2³² - 1; no items of longer slices. An empty slice has none.
+/// Up to `N` items, and at most 2³² - 1, or how many items lie in the vector. So it is with an empty
+/// slice, which has no item to fill an array with.
 #[derive(Drop)]
 pub enum OwnItems<S, const N: usize> {
     /// How many items there are, and an array that begins with these.
