@@ -1,9 +1,9 @@
 -- What an index of slices has with the items of all, and the entries that it is seen as.
-use Rattle.std.proofs.Common.{◌≡◌, ◌⊎◌, inl, inr, ℕ, ◌+◌, ◌-◌, ◌<◌, ◌≤◌, Bool, true, false, cond, List, [], ◌++◌, length, take, drop, Option, Some, None, IsSome, is_some, Result, Ok, Err, refl, sym, ap, subst, ◌∙◌, arith, append_assoc, length-append, length-drop}
+use Rattle.std.proofs.Common.{◌≡◌, ◌⊎◌, inl, inr, ℕ, ◌+◌, ◌-◌, ◌<◌, ◌≤◌, Bool, true, false, cond, List, [], ◌∷◌, ◌++◌, length, take, drop, Option, Some, None, IsSome, is_some, Result, Ok, Err, refl, sym, ap, subst, ◌∙◌, arith, append_assoc, length-append, length-drop}
 use Rattle.std.proofs.Math.Seq.{take_at, drop_at}
 use Rattle.std.proofs.lemmas.List.{append-nil, length-take, take_all, take-append-le, take-append-drop}
 use Rattle.std.specs.Option.{option_map}
-use Rattle.std.specs.Hash as fed
+use Rattle.std.specs.List.{flat_map}
 use Rattle.std.specs.Cmp.Lexicographic.{pointwise}
 use Rattle.std.specs.Ordering.{nat_cmp}
 use Rattle.std.specs.Cmp.{nat_cmp_total}
@@ -23,13 +23,21 @@ use Rattle.intern_store.proofs.Chosen.{here, away}
 use Rattle.intern_index.proofs.Seen.{alike_led, changed_seen}
 use Rattle.intern_store.proofs.Maps.{get-map_values, map_values-insert, map_values-retain, map_values-same, read_seen}
 
+-- equal lists feed a hasher the same
+items_fed : {S : Type 0} (s : S → List (List ℕ)) (item_eq : S → S → Bool) → ((x y : S) → item_eq x y ≡ true → s x ≡ s y) → (xs ys : List S) → pointwise item_eq xs ys ≡ true → flat_map s xs ≡ flat_map s ys
+items_fed s item_eq items [] [] e = refl
+items_fed s item_eq items [] (y ∷ ys) e = absurd (cc)
+items_fed s item_eq items (x ∷ xs) [] e = absurd (cc)
+items_fed s item_eq items (x ∷ xs) (y ∷ ys) e =
+    let parts = and_parts (item_eq x y) (pointwise item_eq xs ys) e in
+    ap (λ i. i ++ flat_map s xs) (items x y parts.0) ∙ ap (λ i. s y ++ i) (items_fed s item_eq items xs ys parts.1)
+
 -- what is fed of a header that passes a test, and of equal lists, is the same
 pub sliced_input-fits : {H S : Type 0} (fed_first : List (List ℕ)) (h : H → List (List ℕ)) (s : S → List (List ℕ)) (test : H → Bool) (item_eq : S → S → Bool) → ((x : H) → test x ≡ true → fed_first ≡ h x) → ((x y : S) → item_eq x y ≡ true → s x ≡ s y)
-    → (xs : List S) (w : Sliced H S) → sliced_fits test item_eq xs w ≡ true → fed_first ++ fed.slice s xs ≡ sliced_input h s w
+    → (xs : List S) (w : Sliced H S) → sliced_fits test item_eq xs w ≡ true → fed_first ++ flat_map s xs ≡ sliced_input h s w
 sliced_input-fits first h s test item_eq headers items xs w e =
     let parts = and_parts (test w.header) (pointwise item_eq xs w.items) e in
-    let alike : fed.Alike item_eq s = record { fed = items } in
-    ap (λ i. i ++ fed.slice s xs) (headers w.header parts.0) ∙ ap (λ i. h w.header ++ i) ((fed.items_Alike alike).fed xs w.items parts.1)
+    ap (λ i. i ++ flat_map s xs) (headers w.header parts.0) ∙ ap (λ i. h w.header ++ i) (items_fed s item_eq items xs w.items parts.1)
 
 -- equal headers and lists feed a hasher the same
 pub sliced_input-same : {H S : Type 0} (h : H → List (List ℕ)) (s : S → List (List ℕ)) (eq : H → H → Bool) (item_eq : S → S → Bool) → ((x y : H) → eq x y ≡ true → h x ≡ h y) → ((x y : S) → item_eq x y ≡ true → s x ≡ s y)

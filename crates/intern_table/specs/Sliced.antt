@@ -3,7 +3,7 @@ use Rattle.std.specs.Prelude.{◌≡◌, ℕ, Bool, true, ◌&&◌, List, ◌++�
 use Rattle.std.specs.Cmp.{IsEquivalence}
 use Rattle.std.specs.Cmp.Lexicographic.{pointwise, lists_equiv}
 use Rattle.std.specs.Coded.{Coded, code_by, coded×, coded_list}
-use Rattle.std.specs.Hash as fed
+use Rattle.std.specs.List.{flat_map}
 use Rattle.std.proofs.Common.{ap, sym, ◌∙◌}
 use Rattle.std.proofs.lemmas.Bool.{and_parts}
 
@@ -27,10 +27,10 @@ abbrev pub sliced_eq : {H S : Type 0} → (H → H → Bool) → (S → S → Bo
     → Sliced H S → Sliced H S → Bool
 sliced_eq h s v w = sliced_fits (h v.header) s v.items w
 
--- what a hasher is fed: the header and then the items
+-- what a hasher is fed: the header and then the items, without their length
 abbrev pub sliced_input : {H S : Type 0} → (H → List (List ℕ)) → (S → List (List ℕ))
     → Sliced H S → List (List ℕ)
-sliced_input h s v = h v.header ++ fed.slice s v.items
+sliced_input h s v = h v.header ++ flat_map s v.items
 
 -- slices that fit one query are equal
 pub fits_alike : {H S : Type 0} (test : H → Bool) (eq : H → H → Bool) {item_eq : S → S → Bool}

@@ -1,10 +1,11 @@
 //! What a caller offers to a table, and how values are hashed.
 ghost use Rattle.std.specs.Prelude.{◌≡◌};
 ghost use Rattle.intern_table.specs.Hashes.{hash_of};
+ghost use Rattle.intern_table.specs.Sliced.{sliced_input};
 
 use intern_index::{Hashes, Offer};
 use std::cmp::Eq;
-use std::hash::{BuildHasher, BuildHasherDefault, FoldHasher, Hash};
+use std::hash::{BuildHasher, BuildHasherDefault, FoldHasher, Hash, Hasher};
 
 /// The hasher of tables that are given none. Its seed is fixed: where values come from whom one
 /// doesn't trust, take a `RandomState`.
@@ -16,6 +17,23 @@ pub(crate) fn hash_value<T: Hash, B: BuildHasher>(hasher: &B, value: &T) -> u64
     ensures { result ≡ hash_of B.BuildHasher B.Hasher.Hasher hasher.now (T.hash_input value.now) }
 {
     hasher.hash_one(value)
+}
+
+/// The hash of a header with its items. These come last, so no length has to tell where they end.
+#[tactic(auto, unfolding(crate::specs::Hashes::hash_of))]
+pub(crate) fn hash_slice<H: Hash, S: Hash, B: BuildHasher>(
+    hasher: &B,
+    header: &H,
+    items: &[S],
+) -> u64
+    ensures { result ≡ hash_of B.BuildHasher B.Hasher.Hasher hasher.now
+        (sliced_input H.hash_input S.hash_input
+        (record { header = header.now; items = items.now })) }
+{
+    let mut state = hasher.build_hasher();
+    header.hash(&mut state);
+    S::hash_slice(items, &mut state);
+    state.finish()
 }
 
 /// How stored values are hashed.

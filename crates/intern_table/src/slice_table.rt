@@ -11,7 +11,7 @@ ghost use Rattle.intern_table.specs.Read.{read, shown};
 use crate::counted::{Counted, Counts};
 use crate::counts::{Lower, OfCount, Raise};
 use crate::layout::{NearItems, SliceRow, far_length};
-use crate::offered::hash_value;
+use crate::offered::hash_slice;
 use crate::pool::{SlicePayload, compact};
 use crate::slice::{HeaderSlice, SliceValue, equal_items};
 use crate::slice_iter::SliceIter;
@@ -103,7 +103,7 @@ impl<H: Hash, S: Hash, A: NearItems<S>, B: BuildHasher> Hashes<SliceRow<H, A>, S
         h.all.now v p };
 
     fn hash_of(&self, row: &SliceRow<H, A>, payload: SlicePayload) -> u64 {
-        hash_value(self.hasher, &(&row.header, row.items(payload, self.all)))
+        hash_slice(self.hasher, &row.header, row.items(payload, self.all))
     }
 }
 
@@ -229,7 +229,7 @@ impl<
             items: query.1,
             all: self.items.as_slice(),
         };
-        let hash = hash_value(&self.hasher, query);
+        let hash = hash_slice(&self.hasher, &query.0, query.1);
         self.index.find(hash, &equal)
     }
 }
@@ -243,13 +243,12 @@ impl<'a, H: Hash + Eq, S: Hash + Eq + Copy, A: NearItems<S>, B: BuildHasher> Fin
         (sliced_input H.hash_input S.hash_input (record { header = o.0; items = o.1.now })) };
 
     fn find(&self, offer: &(H, &'a [S])) -> Result<Spot, u64> {
-        let query = (&offer.0, offer.1);
         let equal = EqualSlice {
-            header: query.0,
-            items: query.1,
+            header: &offer.0,
+            items: offer.1,
             all: self.items.as_slice(),
         };
-        let hash = hash_value(&self.hasher, &query);
+        let hash = hash_slice(&self.hasher, &offer.0, offer.1);
         self.index.find(hash, &equal).ok_or(hash)
     }
 }

@@ -13,7 +13,7 @@ returns-clause-found g c =
     let v : Sliced g.row.H.Denot g.row.S.Denot = record { header = c.args.offer.now.0; items = c.args.offer.now.1.now } in
     rw c.ok_or.ensures.value (finds (sliced_entry g.A.NearItems.near_of c.self.inside.items.items) _ (eq v)
     (λ r. ap (λ xs. eq v (record { header = r.value.header; items = items_in (g.A.NearItems.near_of r.value.near) r.payload.start xs })) c.as_slice.ensures.value)
-    c.self.inside.index _ (seen_entries c.self.view_is) (λ s. s.birth) c.find.result c.hash_value-hash.result c.find.ensures.found)
+    c.self.inside.index _ (seen_entries c.self.view_is) (λ s. s.birth) c.find.result c.hash_slice-hash.result c.find.ensures.found)
 
 pub returns-clause-none : goal.returns-clause-none
 returns-clause-none g c =
@@ -24,5 +24,5 @@ returns-clause-none g c =
     rw c.ok_or.ensures.value (finds_none (sliced_entry g.A.NearItems.near_of c.self.inside.items.items) _ (eq v)
     (λ r. ap (λ xs. eq v (record { header = r.value.header; items = items_in (g.A.NearItems.near_of r.value.near) r.payload.start xs })) c.as_slice.ensures.value)
     c.self.inside.index _ (seen_entries c.self.view_is) (λ v. hash_by (input v)) _
-    (λ w e. c.hash_value-hash.ensures ∙ ap hash_by (sliced_input-same g.H.Hash.hash_input g.S.Hash.hash_input g.H.PartialEq.eq g.S.PartialEq.eq g.met.H.Hash.respects_eq g.met.S.Hash.respects_eq v w e))
+    (λ w e. c.hash_slice-hash.ensures ∙ ap hash_by (sliced_input-same g.H.Hash.hash_input g.S.Hash.hash_input g.H.PartialEq.eq g.S.PartialEq.eq g.met.H.Hash.respects_eq g.met.S.Hash.respects_eq v w e))
     (sliced_hash g.A.NearItems.near_of (λ v. hash_by (input v)) c.self.inside.items.items) (λ r. refl) c.self.invariant.led c.find.result c.find.ensures.none)

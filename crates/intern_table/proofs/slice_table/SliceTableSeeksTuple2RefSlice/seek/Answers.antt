@@ -23,5 +23,5 @@ returns-clause-none g c =
     unfound (sliced_entry g.A.NearItems.near_of c.self.inside.items.items) _ test
     (λ r. ap (λ xs. test (record { header = r.value.header; items = items_in (g.A.NearItems.near_of r.value.near) r.payload.start xs })) c.as_slice.ensures.value)
     c.self.inside.index _ (seen_entries c.self.view_is) (λ v. hash_by (input v)) _
-    (λ w e. c.hash_value-hash.ensures ∙ ap hash_by (sliced_input-fits _ g.H.Hash.hash_input g.S.Hash.hash_input header g.S.PartialEq.eq (g.met.Q.Equivalent.respects_hash c.args.query.now.0) g.met.S.Hash.respects_eq c.args.query.now.1.now w e))
+    (λ w e. c.hash_slice-hash.ensures ∙ ap hash_by (sliced_input-fits _ g.H.Hash.hash_input g.S.Hash.hash_input header g.S.PartialEq.eq (g.met.Q.Equivalent.respects_hash c.args.query.now.0) g.met.S.Hash.respects_eq c.args.query.now.1.now w e))
     (sliced_hash g.A.NearItems.near_of (λ v. hash_by (input v)) c.self.inside.items.items) (λ r. refl) c.self.invariant.led c.find.result c.find.ensures.none
