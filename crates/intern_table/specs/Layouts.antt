@@ -5,5 +5,5 @@ use Rattle.intern_table.specs.declared.layout.OwnItems.TheVariants.{Near, Far}
 
 -- the items that lie in an entry, or how many lie in the vector
 abbrev pub own_items : {S : Type 0} {N : ℕ} → OwnItems S N → Result (List S) ℕ
-own_items (Near length items) = Ok (take length items)
+own_items (Near own) = Ok (take own.length own.array)
 own_items (Far length) = Err length

@@ -1,10 +1,11 @@
 //! Where the items of slices lie: in the entries, or in one vector with those of others.
-ghost use Rattle.std.specs.Prelude.{◌≡◌, ◌<◌, ◌≤◌, ◌↔◌, ◌^◌, ◌&&◌, ℕ, List, Result, Err, IfSome, IsSome, length, take, nat_le, nat_lt, if◌then◌else◌};
+ghost use Rattle.std.specs.Prelude.{◌≡◌, ◌^◌, ◌&&◌, ℕ, List, Result, Err, length, nat_le, nat_lt, if◌then◌else◌};
 ghost use Rattle.std.specs.Result.{result_map_both};
 ghost use Rattle.intern_table.specs.Joined.{far_in, items_in, HasItems};
 ghost use Rattle.intern_table.specs.Layouts.{own_items};
 ghost use Rattle.intern_table.specs.Read.{read, shown_row};
 
+use crate::own_array::OwnArray;
 use crate::pool::{SlicePayload, part};
 use crate::slice::{HeaderSlice, HeaderWithLength};
 use intern_index::Packed;
@@ -74,24 +75,10 @@ impl<S> NearItems<S> for FarItems {
 /// slice, which has no item to fill an array with.
 #[derive(Drop)]
 pub enum OwnItems<S, const N: usize> {
-    /// How many items there are, and an array that begins with these.
-    Near(u32, [S; N]),
+    /// The items.
+    Near(OwnArray<S, N>),
     /// How many items lie in the vector.
     Far(Packed),
-}
-
-// An array that begins with these items, if there is one and they fit.
-fn filled<S: Copy, const N: usize>(items: &[S]) -> Option<[S; N]>
-    ensures fits { IsSome result ↔ ((0 < length items.now) × (length items.now ≤ N)) }
-    ensures items { IfSome result (λ own. take (length items.now) own ≡ items.now) }
-{
-    let first = items.first()?;
-    if items.len() > N {
-        return None;
-    }
-    let mut own = [*first; N];
-    own[..items.len()].copy_from_slice(items);
-    Some(own)
 }
 
 impl<S: Copy, const N: usize> NearItems<S> for OwnItems<S, N> {
@@ -100,15 +87,15 @@ impl<S: Copy, const N: usize> NearItems<S> for OwnItems<S, N> {
     ghost outside = { λ n. if nat_le n N && nat_lt n (2 ^ 32) then 0 else n };
 
     fn of(items: &[S]) -> OwnItems<S, N> {
-        match (filled(items), u32::try_from(items.len())) {
-            (Some(own), Ok(length)) => OwnItems::Near(length, own),
-            _ => OwnItems::Far(Packed::of(items.len() as u64)),
+        match OwnArray::of(items) {
+            Some(own) => OwnItems::Near(own),
+            None => OwnItems::Far(Packed::of(items.len() as u64)),
         }
     }
 
     fn items(&self) -> Result<&[S], usize> {
         match self {
-            OwnItems::Near(length, own) => Ok(part(own.as_slice(), 0, *length as usize)),
+            OwnItems::Near(own) => Ok(own.items()),
             OwnItems::Far(length) => Err(length.get() as usize),
         }
     }
