@@ -1,15 +1,19 @@
 -- Buckets, and which of them a search meets.
-use Rattle.std.specs.Prelude.{ℕ, ◌+◌, ◌*◌, ◌/◌, ◌%◌, ◌^◌, nat_eq}
+use Rattle.std.specs.Prelude.{ℕ, ◌+◌, ◌-◌, ◌*◌, ◌/◌, ◌%◌, ◌^◌, nat_eq}
 use Rattle.std.specs.Prelude.{Bool, false, not, ◌&&◌, ◌||◌, List, [], ◌∷◌, count_by}
 use Rattle.intern_buckets.specs.declared.buckets.Bucket.{Bucket}
 
--- the bucket of an entry: 16 bits of its hash above 48 bits of its place, counted from one
+-- the bucket of an entry: its place above 16 bits of its hash
 abbrev pub bucket : ℕ → ℕ → Bucket
-bucket h p = record { 0 = (h % 2 ^ 16) * 2 ^ 48 + (p + 1) }
+bucket h p = record { 0 = p * 2 ^ 16 + h % 2 ^ 16 }
+
+-- what the bucket of no entry holds
+abbrev pub no_entry : ℕ
+no_entry = 2 ^ 64 - 1
 
 -- whether a bucket is that of no entry
 abbrev pub is_empty : Bucket → Bool
-is_empty b = nat_eq b.0 0
+is_empty b = nat_eq b.0 no_entry
 
 -- how many buckets are not empty
 abbrev pub full_count : List Bucket → ℕ

@@ -11,12 +11,12 @@ pub const PLACES: usize = 1 << 48;
 // How many buckets there is room for behind the homes at first.
 const SPARE: usize = 64;
 
-/// Where an entry may lie: 16 bits of its hash, its tag, above 48 bits of its place, counted from
-/// one. Zero is an empty bucket.
+/// Where an entry may lie: 48 bits of its place above 16 bits of its hash, its tag. In an empty
+/// bucket all bits are set, and no entry lies at the last place.
 #[derive(Clone, Copy)]
 pub(crate) struct Bucket(u64);
 
-const EMPTY: Bucket = Bucket(0);
+const EMPTY: Bucket = Bucket(u64::MAX);
 
 /// A table of places by hashes, with open addressing and linear probing.
 ///
@@ -36,14 +36,14 @@ impl Bucket {
         requires { place + 1 < 2 ^ 48 }
         ensures { result ≡ bucket hash place }
     {
-        Bucket((hash % (1 << 16)) * (1 << 48) + (place as u64 + 1))
+        Bucket(place as u64 * (1 << 16) + hash % (1 << 16))
     }
 
     /// Whether no entry was entered here.
     pub(crate) fn is_empty(self) -> bool
         ensures { result ≡ is_empty self }
     {
-        self.0 == 0
+        self.0 == EMPTY.0
     }
 
     /// The place, where the bucket may be that of an entry of this hash.
@@ -51,10 +51,10 @@ impl Bucket {
         ensures found { (p : ℕ) → p + 1 < 2 ^ 48 → self ≡ bucket hash p → result ≡ Some p }
         ensures is { IfSome result (λ p. self ≡ bucket hash p) }
     {
-        if self.0 / (1 << 48) != hash % (1 << 16) {
+        if self.0 % (1 << 16) != hash % (1 << 16) {
             return None;
         }
-        ((self.0 % (1 << 48)) as usize).checked_sub(1)
+        Some((self.0 / (1 << 16)) as usize)
     }
 }
 
