@@ -15,7 +15,7 @@ placed slots = if nat_lt slots (2 ^ 48) then slots else 0
 
 -- for how many entries a table is built where there are this many
 unfoldable pub grown : ℕ → ℕ
-grown entries = if nat_lt entries (2 ^ 15) then entries * 4 else entries * 2
+grown entries = if nat_lt entries (2 ^ 17) then entries * 4 else entries * 2
 
 module _ {X : Type 0} where
   -- for more than there are, at least 64, and at least as many as there is room for

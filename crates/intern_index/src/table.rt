@@ -17,8 +17,8 @@ use std::alloc::{AllocError, Global};
 const LEAST: usize = 64;
 
 // Below so many entries a table is built for four times as many: it is small all the same, and is
-// built half as often while a storage grows.
-const FEW: usize = 1 << 15;
+// built half as often while a storage grows, and a third as often where entries come and go.
+const FEW: usize = 1 << 17;
 
 /// What entries are entered under.
 pub(crate) trait Key<T, N: Copy> {
