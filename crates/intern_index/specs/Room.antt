@@ -1,5 +1,5 @@
 -- For how many entries there is room.
-use Rattle.std.specs.Prelude.{ℕ, ◌*◌, ◌-◌, ◌^◌, ◌==◌, nat_lt, min, max, if◌then◌else◌}
+use Rattle.std.specs.Prelude.{ℕ, ◌+◌, ◌*◌, ◌-◌, ◌^◌, ◌==◌, nat_lt, min, max, if◌then◌else◌}
 use Rattle.slab.specs.Slab.{Slab, slab_len}
 use Rattle.intern_buckets.specs.Filling.{spare_of}
 use Rattle.intern_buckets.specs.declared.buckets.Buckets.{Buckets}
@@ -13,14 +13,14 @@ free_in left t = min left (spare_of t)
 abbrev pub placed : ℕ → ℕ
 placed slots = if nat_lt slots (2 ^ 48) then slots else 0
 
--- for how many entries a table is built where there are this many
+-- for how many more entries a table is built where there are this many
 unfoldable pub grown : ℕ → ℕ
-grown entries = if nat_lt entries (2 ^ 17) then entries * 4 else entries * 2
+grown entries = if nat_lt entries (2 ^ 15) then entries * 3 else entries
 
 module _ {X : Type 0} where
-  -- for more than there are, at least 64, and at least as many as there is room for
+  -- for as many more as there are slots, and for at least 64
   abbrev pub room_for : Slab X → ℕ
-  room_for s = max (max (min (grown (slab_len s)) (2 ^ 64 - 1)) s.capacity) 64
+  room_for s = min (slab_len s + max (max (grown (slab_len s)) s.capacity) 64) (2 ^ 64 - 1)
 
   -- how many may be entered once tables are built anew
   abbrev pub left_for : Slab X → ℕ

@@ -13,12 +13,12 @@ use intern_buckets::Buckets;
 use slab::Slab;
 use std::alloc::{AllocError, Global};
 
-// The fewest entries that a table is built for.
+// For so many more entries a table is built at least.
 const LEAST: usize = 64;
 
-// Below so many entries a table is built for four times as many: it is small all the same, and is
-// built half as often while a storage grows, and a third as often where entries come and go.
-const FEW: usize = 1 << 17;
+// Below so many entries a table is built for four times as many, else for twice as many: it is small
+// all the same, and is built half as often while a storage grows.
+const FEW: usize = 1 << 15;
 
 /// What entries are entered under.
 pub(crate) trait Key<T, N: Copy> {
@@ -61,17 +61,12 @@ fn buckets_of<T, N: Copy, K: Key<T, N>>(
     Ok(buckets)
 }
 
-// For how many entries a table is built where there are so many.
+// For how many more entries a table is built where there are so many.
 #[tactic(auto, unfolding(crate::specs::Room::grown))]
 fn grown(entries: usize) -> usize
-    ensures value { result ≡ min (grown entries) (2 ^ 64 - 1) }
-    ensures more { 0 < entries → entries < 2 ^ 63 → entries < result }
+    ensures { result ≡ grown entries }
 {
-    if entries < FEW {
-        entries * 4
-    } else {
-        entries.saturating_mul(2)
-    }
+    if entries < FEW { entries * 3 } else { entries }
 }
 
 impl Table {
@@ -94,8 +89,8 @@ impl Table {
 
     /// Builds the table anew, with room for twice as many entries as there are, and for four times
     /// as many where these are few. That goes over all slots, vacant ones too, so there is room for
-    /// as many insertions as there are slots: they pay. Where there is no memory, the table is as it
-    /// was.
+    /// as many insertions as there are slots: they pay, also where entries come and go. Where there
+    /// is no memory, the table is as it was.
     pub(crate) fn rebuild<T, N: Copy, K: Key<T, N>>(
         &mut self,
         alloc: Global,
@@ -107,10 +102,12 @@ impl Table {
         ensures once { OnOk result (full_of self.new.buckets ≤ slab_len slots.now) }
         ensures left { OnOk result (self.new.left ≡ left_for slots.now) }
         ensures some { OnOk result (0 < self.new.left) }
+        ensures all { OnOk result (slots.now.capacity ≤ slab_len slots.now + self.new.left) }
         ensures same { OnErr result (self.new ≡ self.old) }
     {
         let entries = slots.len();
-        let room = grown(entries).max(slots.capacity()).max(LEAST);
+        let more = grown(entries).max(slots.capacity()).max(LEAST);
+        let room = entries.saturating_add(more);
         self.buckets = buckets_of(alloc, slots, room, by)?;
         self.left = room.saturating_sub(entries);
         Ok(())
