@@ -5,7 +5,7 @@ use Rattle.intern_buckets.specs.Probing.{bucket, is_empty, is_reachable}
 use Rattle.intern_buckets.specs.Leading.{leads, probe_sequence}
 use Rattle.intern_buckets.specs.declared.buckets.Bucket.{Bucket}
 use Rattle.intern_buckets.specs.declared.buckets.Buckets.{Buckets}
-use Rattle.intern_buckets.proofs.Probing.{nothing, some_number, met_cases, met_here, met_behind}
+use Rattle.intern_buckets.proofs.Probing.{nothing, some_number, met_cases, met_behind}
 
 module _ (passes : ℕ → Bool) (h : ℕ) (t : Buckets) where
   -- each place that the table leads to fails, or is met among these buckets
@@ -55,8 +55,3 @@ pub clear_step : (bs : List Bucket) (i : ℕ) → i < length bs → is_empty (ge
 clear_step bs i below full clear = λ b met. clear b
     (ap (is_reachable b) (drop-cons bs i nothing below)
     ∙ met_behind b (get_or bs i nothing) (drop (suc i) bs) (some_number (get_or bs i nothing) full) (ap (λ n. is_reachable b (drop n bs)) (sym (add-one i)) ∙ met))
-
-pub clear_here : (bs : List Bucket) (i : ℕ) (x : Bucket) → i < length bs → is_empty (get_or bs i nothing) ≡ false → get_or bs i nothing ≡ x → IsClear bs i → is_reachable x bs ≡ true
-clear_here bs i x below full is clear = clear x
-    (ap (is_reachable x) (drop-cons bs i nothing below)
-    ∙ met_here x (get_or bs i nothing) (drop (suc i) bs) (some_number (get_or bs i nothing) full) (sym is))

@@ -102,7 +102,7 @@ impl Table {
         ensures once { OnOk result (full_of self.new.buckets ≤ slab_len slots.now) }
         ensures left { OnOk result (self.new.left ≡ left_for slots.now) }
         ensures some { OnOk result (0 < self.new.left) }
-        ensures all { OnOk result (slots.now.capacity ≤ slab_len slots.now + self.new.left) }
+        ensures slots { OnOk result (slots.now.capacity ≤ slab_len slots.now + self.new.left) }
         ensures same { OnErr result (self.new ≡ self.old) }
     {
         let entries = slots.len();

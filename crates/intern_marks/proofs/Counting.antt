@@ -1,5 +1,5 @@
 -- How many names are reached.
-use Rattle.std.proofs.Common.{◌≡◌, ◌≤◌, Bool, true, ◌&&◌, ◌||◌, cond, List, [], ◌∷◌, ◌++◌, map, length, Option, Some, IsSome, is_some, refl, sym, ◌∙◌, ap, subst, inl, inr, arith, length-append}
+use Rattle.std.proofs.Common.{◌≡◌, ◌≤◌, true, cond, List, [], ◌∷◌, ◌++◌, map, length, Some, IsSome, refl, sym, ◌∙◌, ap, subst, inl, inr, arith, length-append}
 use Rattle.std.specs.List.{IsDistinct}
 use Rattle.std.specs.Map.{lookup}
 use Rattle.std.proofs.lemmas.Bool.{cases_Bool}
@@ -9,7 +9,7 @@ use Rattle.std.proofs.lemmas.Map.Steps.{length-le_from_keys}
 use Rattle.intern_store.specs.declared.names.Name.{Name}
 use Rattle.intern_store.specs.Named.{same_name}
 use Rattle.intern_marks.specs.Names.{has}
-use Rattle.intern_marks.specs.Reach.{Entry, entry_of, is_entry, counted_entry, starts_with, IsPath}
+use Rattle.intern_marks.specs.Reach.{Entry, entry_of, is_entry, starts_with, IsPath}
 use Rattle.intern_marks.proofs.Names.{same_name_is_equivalence, has_cases}
 
 -- an entry with its name

@@ -1,5 +1,5 @@
 -- What is in slots, and what a change of them does to it.
-use Rattle.std.proofs.Common.{◌≡◌, ◌≢◌, ◌⊎◌, ℕ, zero, suc, ◌+◌, ◌<◌, ◌≤◌, nat_eq, Bool, true, false, cond, List, [], ◌∷◌, ◌++◌, length, get_or, set, replicate, Option, Some, None, refl, ap, ◌∙◌, arith, add-zero, add-suc, add-one}
+use Rattle.std.proofs.Common.{◌≡◌, ◌≢◌, ℕ, zero, suc, ◌+◌, ◌<◌, ◌≤◌, nat_eq, Bool, false, cond, List, [], ◌∷◌, ◌++◌, length, get_or, set, replicate, Option, Some, None, refl, ap, ◌∙◌, arith, add-zero, add-suc, add-one}
 use Rattle.std.proofs.lemmas.Bool.Decides.{nat_tests}
 use Rattle.std.proofs.lemmas.Grind.{common_steps}
 use Rattle.std.proofs.lemmas.List.{get_or-set_same, get_or-set_other, get_or_past}
@@ -8,7 +8,7 @@ use Rattle.std.specs.FinMap.{FinMap, get, insert, get-empty}
 use Rattle.intern_store.specs.declared.names.Name.{Name}
 use Rattle.intern_marks.specs.Names.{name_cmp}
 use Rattle.intern_marks.specs.Parts.{part_at, row_name, row_at, Follow, extended}
-use Rattle.intern_marks.specs.Slotted.{slot_count, flags_at, registered, registered_at, name_at, birth_in, with_mark, AreApart, IsNext, with_slot, names_below}
+use Rattle.intern_marks.specs.Slotted.{slot_count, flags_at, registered, registered_at, birth_in, with_mark, AreApart, IsNext, with_slot, names_below}
 use Rattle.intern_marks.specs.declared.flags.Registered.{Registered}
 use Rattle.intern_marks.specs.declared.flags.Flags.{Flags}
 use Rattle.intern_marks.specs.declared.part.Part.{Part}
@@ -56,10 +56,6 @@ names_nowhere at (suc n) x none = let rest = names_nowhere at n x none in grind 
 pub part_of_name : (row : Bool) (i : ℕ) (p : Option Part) (b : ℕ) (o : Option Flags) (r : Registered) → registered row (option_map (row_name i) p) b o ≡ Some r → (q : Part) × (p ≡ Some q)
 part_of_name row i p b o r is = grind arith
 
--- once the births in row are listed, what is registered is the same
-pub listed_same : (n : Option Name) (b c : ℕ) (o : Option Flags) → ((x : Name) → n ≡ Some x → c ≡ x.birth) → registered false n c o ≡ registered true n b o
-listed_same n b c o is = grind arith
-
 -- a part and a birth tell the name that is registered with flags
 pub told_at : (s : Slots) (p : Part) (i : ℕ) (x : Name) (f : Flags) → part_at s.parts.items i ≡ Some p → p.number ≡ x.storage → birth_in s p i ≡ x.birth
     → flags_at s i ≡ Some f → registered_at s i ≡ Some (record { name = x; flags = f })
@@ -70,9 +66,6 @@ at_past s i past = grind (arith, get_or_past)
 
 pub at_below : (s : Slots) (i : ℕ) (r : Registered) → registered_at s i ≡ Some r → i < slot_count s
 at_below s i r is = grind (arith, at_past)
-
-pub name_below : (s : Slots) (i : ℕ) (x : Name) → name_at s i ≡ Some x → i < slot_count s
-name_below s i x is = grind (arith, at_past)
 
 -- one slot has something else
 abbrev pub IsWritten : (ℕ → Option Registered) → (ℕ → Option Registered) → ℕ → Registered → Type 0

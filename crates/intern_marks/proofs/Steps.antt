@@ -1,14 +1,13 @@
 -- What a mark call and the placing of a root do.
 use Rattle.std.proofs.Common.{ℕ, ◌≡◌, ◌+◌, ◌-◌, ◌^◌, ◌≤◌, min, take, length, Bool, true, false, not, cond, ◌&&◌, ◌||◌, List, [], ◌∷◌, ◌++◌, Some, refl, sym, ◌∙◌, ap, arith, length-append}
 use Rattle.std.specs.List.{IsDistinct, fold}
-use Rattle.std.specs.FinMap.{FinMap, get}
+use Rattle.std.specs.FinMap.{get}
 use Rattle.std.proofs.Math.Bool.{or-false}
-use Rattle.std.proofs.lemmas.Bool.{or_left}
 use Rattle.std.proofs.lemmas.List.{take-append-le}
 use Rattle.std.proofs.lemmas.Map.Keys.{IsDistinct-push}
 use Rattle.intern_store.specs.declared.names.Name.{Name}
 use Rattle.intern_store.specs.Named.{same_name}
-use Rattle.intern_marks.specs.Names.{has, name_cmp}
+use Rattle.intern_marks.specs.Names.{has}
 use Rattle.intern_marks.specs.Marks.{Marks, may_be, placed, mark, marks, untold, root, roots}
 use Rattle.intern_store.proofs.Named.{names_same}
 use Rattle.intern_marks.proofs.Names.{same_name_is_equivalence, has_append}

@@ -1,19 +1,18 @@
 -- A trace goes on with each visit, and at its end the marked names are the reached ones.
-use Rattle.std.proofs.Common.{ℕ, ◌≡◌, ◌+◌, ◌-◌, ◌^◌, ◌≤◌, min, take, Bool, true, false, ◌&&◌, ◌||◌, List, [], ◌∷◌, ◌++◌, length, Option, Some, None, is_some, sym, ◌∙◌, ap, subst, inl, inr, arith}
+use Rattle.std.proofs.Common.{ℕ, ◌≡◌, ◌+◌, ◌-◌, ◌^◌, ◌≤◌, min, take, Bool, true, false, ◌&&◌, ◌||◌, List, [], ◌∷◌, ◌++◌, length, Option, Some, None, sym, ◌∙◌, ap, subst, inl, inr, arith}
 use Rattle.std.specs.List.{sum_by, slice_get}
-use Rattle.std.specs.Option.{option_map, option_or}
+use Rattle.std.specs.Option.{option_or}
 use Rattle.std.specs.FinMap.{FinMap, get, empty, get-empty}
-use Rattle.std.proofs.Math.Bool.{and_comm}
 use Rattle.std.proofs.lemmas.List.{take_all, take_more}
 use Rattle.std.proofs.lemmas.List.Sums.{sum_by-append}
 use Rattle.std.proofs.lemmas.Map.Keys.{any_passes_from_place}
 use Rattle.std.proofs.lemmas.Option.{slice_get_within, get_or_from_slice_get}
-use Rattle.std.proofs.lemmas.Bool.{cases_Bool, and_parts, and_from, or_cases, or_left, or_right}
+use Rattle.std.proofs.lemmas.Bool.{cases_Bool, or_left}
 use Rattle.intern_store.specs.declared.names.Name.{Name}
 use Rattle.intern_store.specs.Named.{same_name}
 use Rattle.intern_marks.specs.Names.{has, name_cmp}
 use Rattle.intern_marks.specs.Marks.{Marks, fresh, visited, may_be, mark, marks, untold, root, roots, begun}
-use Rattle.intern_marks.specs.Reach.{Entry, entry_of, is_entry, is_counted, counted_entry, children_in, starts, starts_with, IsPath, Reached, IsReachedSet, calls_of}
+use Rattle.intern_marks.specs.Reach.{Entry, is_entry, children_in, starts, starts_with, IsPath, Reached, IsReachedSet, calls_of}
 use Rattle.intern_marks.specs.Learning.{Learns}
 use Rattle.intern_marks.specs.Trace.{counted_in, IsTrace}
 use Rattle.intern_marks.proofs.Names.{has_cases, same_as_itself}

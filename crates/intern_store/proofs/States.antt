@@ -7,8 +7,7 @@ use Rattle.std.specs.FinMap as map
 use Rattle.std.specs.FinMap.{FinMap, get-empty, same_map, nat_cmp-IsAntisymmetric}
 use Rattle.std.proofs.lemmas.Bool.Decides.{nat_tests}
 use Rattle.intern_store.specs.Kept.{Kept, is_at, raised, recount, recounted}
-use Rattle.intern_store.specs.State.{State, Stocked, IsState, entry_at, count_at, is_last, freed, released, with_count, added, added_with, taken, counted_up, counted_down, birth_of, or_added, interned_counted, due_interning, full}
-use Rattle.intern_store.specs.declared.refusal.Refusal.{Refusal}
+use Rattle.intern_store.specs.State.{State, Stocked, IsState, entry_at, count_at, is_last, freed, released, with_count, added, added_with, taken, counted_up, counted_down, birth_of, or_added, interned_counted, full}
 use Rattle.intern_store.specs.declared.refusal.Refusal.TheVariants.{CountFull}
 use Rattle.intern_store.proofs.Compared.{get-inserted, get-removed, get-retained, get-modified}
 

@@ -1,5 +1,5 @@
 -- What a collection leaves.
-use Rattle.std.proofs.Common.{◌≡◌, ℕ, ◌+◌, Bool, true, false, cond, ◌==◌, List, [], ◌∷◌, length, None, refl, sym, ◌∙◌, ap, subst, arith}
+use Rattle.std.proofs.Common.{◌≡◌, ℕ, ◌+◌, Bool, true, cond, ◌==◌, List, [], ◌∷◌, length, None, sym, ◌∙◌, ap, subst, arith}
 use Rattle.std.proofs.lemmas.Bool.{eqb-true}
 use Rattle.std.specs.List.{filter}
 use Rattle.std.specs.Option.{option_map}
@@ -13,10 +13,6 @@ use Rattle.intern_marks.specs.Names.{has}
 use Rattle.intern_marks.specs.Reach.{Entry, entry_of, is_entry, starts_with, Reached, IsReachedSet, kept_entries}
 use Rattle.intern_marks.proofs.Reaching.{reached_again, filter_twice}
 use Rattle.ra_ap_intern.specs.Families.{kept_named}
-
-either_same : {X : Type 0} (b : Bool) (x : X) → x ≡ cond b x x
-either_same true x = refl
-either_same false x = refl
 
 -- what is left has no other names
 pub kept_in : (set : Name → Bool) (family : List Entry) (x : Name) → is_entry (filter (λ e. set e.name) family) x ≡ true → set x ≡ true

@@ -1,16 +1,14 @@
 use Rattle.std.proofs.Common.{◌≡◌, ℕ, ◌+◌, ◌≤◌, nat_eq, Bool, true, false, cond, List, [], ◌∷◌, ◌++◌, None, Some, vec_capacity, refl, sym, ap, ◌∙◌, arith}
-use Rattle.std.specs.FinMap.{FinMap, get, insert}
+use Rattle.std.specs.FinMap.{get}
 use Rattle.intern_store.specs.Named.{key_name}
-use Rattle.intern_store.specs.declared.names.Name.{Name}
-use Rattle.intern_marks.specs.Names.{name_cmp}
 use Rattle.intern_marks.specs.Marks.{Marks, added}
 use Rattle.intern_marks.specs.Slotted.{slot_count, registered_at, names_in, names_at}
 use Rattle.intern_marks.specs.declared.flags.Registered.{Registered}
 use Rattle.intern_marks.specs.Tied.{IsKept, IsLed}
 use Rattle.intern_marks.specs.declared.found.Table.{Table}
-use Rattle.intern_marks.proofs.Tied.{seen, unfilled, same_names_in, names_added, added_tied}
+use Rattle.intern_marks.proofs.Tied.{seen, unfilled, names_added, added_tied}
 use Rattle.intern_marks.proofs.Slotted.{IsWritten, at_past}
-use Rattle.intern_marks.proofs.Kept.{fewer_slots, same_kept, same_marked, names_grown, kept_grown}
+use Rattle.intern_marks.proofs.Kept.{fewer_slots, same_kept, names_grown, kept_grown}
 use Rattle.intern_marks.proofs.marks.Marks.add.Goals as goal
 use Rattle.intern_marks.proofs.marks.Marks.add.Goals.{After-make_room, After-put}
 
