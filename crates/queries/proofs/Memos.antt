@@ -1,5 +1,6 @@
 -- What stays true of memos.
-use Rattle.std.proofs.Common.{◌≡◌, ◌↔◌, ℕ, ◌+◌, ◌≤◌, Bool, true, false, cond, List, [], Option, Some, None, is_some, refl, sym, ap, subst, ◌∙◌, arith}
+use Rattle.std.proofs.Common.{◌≡◌, ◌↔◌, ℕ, ◌+◌, ◌≤◌, Bool, true, false, cond, List, [], Option, Some, None, IfSome, is_some, refl, sym, ap, subst, ◌∙◌, arith}
+use Rattle.std.specs.Bool.{then_some}
 use Rattle.std.specs.HashMap.{HashMap}
 use Rattle.std.specs.Map.{lookup}
 use Rattle.ra_ap_intern.specs.Families.{kept_named}
@@ -39,6 +40,16 @@ module _ (eq : Key → Key → Bool) (alike : (a b : Key) → (eq a b ≡ true) 
       → None ≡ name_of_value eq s key → reads s name ≡ Some key → ⊥
   found_none s ok key name at read =
       let found = at ∙ found_itself eq alike s ok key name read in absurd (cc)
+
+-- a value where a test holds
+pub is_there : {X : Type 0} (o : Option X) (t : Bool) (x : X) → o ≡ then_some t x → is_some o ≡ t
+is_there o true x is = ap is_some is
+is_there o false x is = ap is_some is
+
+pub fact_there : {X : Type 0} (P : X → Type 0) (o : Option X) (t : Bool) (x : X) → o ≡ then_some t x
+    → (t ≡ true → P x) → IfSome o P
+fact_there P o true x is holds = subst (λ q. IfSome q P) (sym is) (holds refl)
+fact_there P o false x is holds = subst (λ q. IfSome q P) (sym is) tt
 
 -- a memo that was taken away
 pub none_here : (t : Bool) (before : Option Memo) → t ≡ true → cond t None before ≡ None

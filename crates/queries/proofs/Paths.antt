@@ -1,6 +1,7 @@
 -- Paths of evaluations, and where reads lead.
 use Rattle.std.proofs.Common.{◌≡◌, ℕ, zero, suc, ◌+◌, ◌<◌, ◌≤◌, List, [], ◌∷◌, ◌++◌, length, Some, None, slice_get, refl, sym, ap, subst, ◌∙◌, arith}
-use Rattle.std.specs.Prelude.{All, Any, Contains, slice_index_or}
+use Rattle.std.specs.Prelude.{All, Any, Contains, Vec, slice_index_or}
+use Rattle.std.specs.declared.alloc.Global.{Global}
 use Rattle.std.specs.List.{AllZip, AllByRecursion}
 use Rattle.std.proofs.lemmas.List.Elements.{All-from_recursion, recursion_from_All, All-nil}
 use Rattle.std.proofs.lemmas.Option.{same_Some, slice_get_within, get_or_from_slice_get, slice_get-get_or}
@@ -8,7 +9,7 @@ use Rattle.ra_ap_intern.specs.Handle.{ref_name}
 use Rattle.ra_ap_intern.specs.Interning.{ReadsOn}
 use Rattle.ra_ap_intern.specs.Name.{Name}
 use Rattle.ra_ap_intern.specs.State.{State, reads}
-use Rattle.queries.specs.Cache.{IsMemo}
+use Rattle.queries.specs.Cache.{IsMemo, memo_now}
 use Rattle.queries.specs.declared.cache.Memo.{Memo}
 use Rattle.queries.specs.declared.key.Key.{Key}
 use Rattle.queries.specs.declared.value.Answer.{Answer}
@@ -318,6 +319,18 @@ module _ (sheet : Formulas) where
     where
       same_value : {v w : Value} → answer.Value v ≡ answer.Value w → v ≡ w
       same_value is = cc
+
+  -- the memo of a query that leads to a cycle
+  pub stuck_memo : (keys : State Key) (revision : ℕ) (through : Key) (frame : Frame)
+      (values : Vec Value Global) → IsStuck sheet keys through frame
+      → IsMemo sheet keys revision (ref_name frame.handle) (memo_now (answer.Cycle through) values revision)
+  stuck_memo keys revision through frame values is = record {
+    key = frame.key;
+    stored = is.stored;
+    early = omega arith;
+    given = λ value has. absurd (cc);
+    right = λ now. is.cyclic;
+  }
 
   -- a query that has read one more value
   pub frame_take : (keys : State Key) (frame later : Frame) (key : Key) (value : Value)

@@ -1,5 +1,6 @@
 -- What a cache keeps true of its memos.
-use Rattle.std.specs.Prelude.{◌≡◌, ℕ, ◌+◌, ◌-◌, ◌^◌, ◌≤◌, ◌==◌, min, List, [], Option, None, Some, is_some, if◌then◌else◌}
+use Rattle.std.specs.Prelude.{◌≡◌, ℕ, ◌+◌, ◌-◌, ◌^◌, ◌≤◌, ◌==◌, min, List, [], Option, None, Some, Vec, is_some, if◌then◌else◌}
+use Rattle.std.specs.declared.alloc.Global.{Global}
 use Rattle.std.specs.HashMap.{HashMap}
 use Rattle.ra_ap_intern.specs.Families.{IsCollection, entries_of, kept_named}
 use Rattle.ra_ap_intern.specs.Handle.{ref_name}
@@ -37,6 +38,10 @@ pub record IsMemo (sheet : Formulas) (keys : State Key) (revision : ℕ) (name :
   pub early : memo.verified ≤ revision
   pub given : (value : Value) → memo.answer ≡ answer.Value value → value ≡ gives sheet key memo.values.items
   pub right : memo.verified ≡ revision → IsRight sheet key memo.answer
+
+-- a memo of this revision, which has read these values
+abbrev pub memo_now : Answer → Vec Value Global → ℕ → Memo
+memo_now answer values revision = record { answer = answer; values = values; verified = revision }
 
 -- each memo is one
 abbrev pub AreMemos : {S : Type 0} → Formulas → State Key → ℕ → HashMap Handle Memo S → Type 0

@@ -5,7 +5,7 @@ ghost use Rattle.ra_ap_intern.specs.Interning.{ReadsOn};
 ghost use Rattle.ra_ap_intern.specs.Name.{Name as KeyName};
 ghost use Rattle.ra_ap_intern.specs.Named.{same_name};
 ghost use Rattle.ra_ap_intern.specs.State.{IsState, new_state, reads, name_of_value};
-ghost use Rattle.queries.specs.Cache.{Handle, memo_at, IsMemo, IsCache, IsCollected, CountsOn, HasGiven, current_answer, no_counts, one_computed, one_verified};
+ghost use Rattle.queries.specs.Cache.{Handle, memo_at, IsMemo, IsCache, IsCollected, CountsOn, HasGiven, current_answer, memo_now, no_counts, one_computed, one_verified};
 ghost use Rattle.queries.specs.Evaluation.{Evaluates, IsRight, LeadsToCycle};
 ghost use Rattle.queries.specs.Path.{WaitsFor, IsWaiting, IsFrame, IsPath, IsStuck, GoesOn};
 ghost use Rattle.queries.specs.Sheet.{Formulas, formula_at, same_place, gives};
@@ -16,13 +16,13 @@ ghost use Rattle.queries.specs.declared.path.Frame.{Frame as FrameType};
 ghost use Rattle.queries.specs.declared.place.Place.{Place as PlaceType};
 
 use crate::fault::Fault;
-use crate::key::{Key, KeyRef};
+use crate::key::{Key, KeyRef, Keys};
 use crate::laws;
 use crate::path::{Frame, Path};
 use crate::place::Place;
 use crate::sheet::Sheet;
 use crate::value::{Answer, Value};
-use ra_ap_intern::{GarbageCollector, InternStorage, Interned, Refusal, laws as names};
+use ra_ap_intern::{GarbageCollector, Interned, Refusal, laws as names};
 use std::alloc::{AllocError, Global};
 use std::collections::HashMap;
 
@@ -53,23 +53,13 @@ pub struct Counts {
 pub struct Cache {
     alloc: Global,
     /// The queries.
-    pub keys: InternStorage<Key>,
+    pub keys: Keys,
     /// What they came to.
     pub memos: HashMap<KeyRef, Memo>,
     /// How many edits there were.
     pub revision: u64,
     /// How queries were answered.
     pub counts: Counts,
-}
-
-impl Memo {
-    // Whether these are the values that it read.
-    fn has_read(&self, values: &[Value]) -> bool
-        ensures { (result ≡ true) ↔ (self.now.values.items ≡ values.now) }
-    {
-        laws::values_are_equal_exactly_if_they_are_the_same();
-        self.values.as_slice() == values
-    }
 }
 
 // How an evaluation goes on.
@@ -89,7 +79,7 @@ impl Cache {
     {
         Cache {
             alloc,
-            keys: InternStorage::new(alloc, 1),
+            keys: Keys::new(alloc, 1),
             memos: HashMap::new(alloc),
             revision: 0,
             counts: Counts::default(),
@@ -108,31 +98,14 @@ impl Cache {
         ensures used_up { IsErrOf result Fault.RevisionsUsedUp ↔ (self.old.revision ≡ u64.MAX) }
         ensures otherwise { IsOkUnless result Fault.RevisionsUsedUp }
     {
-        if self.revision == u64::MAX {
-            return Err(Fault::RevisionsUsedUp);
-        }
-        self.revision += 1;
-        self.forget(Key::Cell(place));
-        Ok(())
-    }
-
-    // A query has no memo any more.
-    fn forget(&mut self, key: Key)
-        ensures keys { self.new.keys ≡ self.old.keys }
-        ensures revision { self.new.revision ≡ self.old.revision }
-        ensures counts { self.new.counts ≡ self.old.counts }
-        ensures gone { (h : Handle) → reads self.old.keys (ref_name h) ≡ Some key →
-            memo_at self.new (ref_name h) ≡ None }
-        ensures kept { (h : Handle) (memo : MemoType) → memo_at self.new (ref_name h) ≡ Some memo →
-            memo_at self.old (ref_name h) ≡ Some memo }
-    {
         laws::keys_are_equal_exactly_if_they_are_the_same();
         laws::handles_are_their_names();
         let _number = self.keys.number();
-        let Some(handle) = self.keys.get(&key) else {
-            return;
-        };
-        let _ = self.memos.remove(&handle);
+        self.revision = self.revision.checked_add(1).ok_or(Fault::RevisionsUsedUp)?;
+        if let Some(handle) = self.keys.get(&Key::Cell(place)) {
+            let _ = self.memos.remove(&handle);
+        }
+        Ok(())
     }
 
     /// The answer to a query.
@@ -185,18 +158,26 @@ impl Cache {
         self.memos.get(&handle)
     }
 
-    // A memo of a query, in place of the one that it had.
-    fn put(&mut self, handle: KeyRef, memo: Memo) -> Result<(), AllocError>
+    // A memo of this revision, in place of the one that the query had.
+    fn put(&mut self, handle: KeyRef, answer: Answer, values: Vec<Value>) -> Result<(), AllocError>
         ensures keys { self.new.keys ≡ self.old.keys }
         ensures counts { self.new.counts ≡ self.old.counts }
         ensures revision { self.new.revision ≡ self.old.revision }
-        ensures memos { OnOk result ((name : KeyName) → memo_at self.new name
+        ensures memos { let memo = memo_now answer values self.old.revision in
+            OnOk result ((name : KeyName) → memo_at self.new name
             ≡ (if same_name (ref_name handle) name then Some memo else memo_at self.old name)) }
-        ensures cache { (sheet : Formulas) → IsCache sheet self.old →
+        ensures cache { let memo = memo_now answer values self.old.revision in
+            (sheet : Formulas) → IsCache sheet self.old →
             IsMemo sheet self.old.keys self.old.revision (ref_name handle) memo →
             IsCache sheet self.new }
     {
         names::references_are_names::<Key>();
+        let verified = self.revision;
+        let memo = Memo {
+            answer,
+            values,
+            verified,
+        };
         self.memos.insert(handle, memo)?;
         Ok(())
     }
@@ -209,10 +190,7 @@ impl Cache {
             reads self.now.keys (ref_name handle) ≡ Some key → IfSome result (IsRight sheet key) }
     {
         let memo = self.memo(handle)?;
-        if memo.verified != self.revision {
-            return None;
-        }
-        Some(memo.answer)
+        (memo.verified == self.revision).then_some(memo.answer)
     }
 
     // Begins to compute a query.
@@ -232,7 +210,7 @@ impl Cache {
     }
 
     // One step of an evaluation: the query at the end of the path reads a value, or is settled.
-    fn advance(&mut self, sheet: &Sheet, path: &mut Path, top: Frame) -> Result<Progress, Fault>
+    fn advance(&mut self, sheet: &Sheet, path: &mut Path, mut top: Frame) -> Result<Progress, Fault>
         requires cache { IsCache sheet.now self.old }
         requires frame { IsFrame sheet.now self.old.keys top }
         requires path { (first : KeyType)
@@ -248,72 +226,23 @@ impl Cache {
             IfOk result (IsNearer sheet.now root self.new path.new.frames.items
             (steps_left sheet.now root self.old (top ∷ path.old.frames.items))) }
     {
-        match top.next() {
-            Some(key) => self.read(sheet, path, top, key),
-            None => self.finish(sheet, path, top),
-        }
-    }
-
-    // The query reads a value, or waits for it.
-    fn read(
-        &mut self,
-        sheet: &Sheet,
-        path: &mut Path,
-        mut top: Frame,
-        key: Key,
-    ) -> Result<Progress, Fault>
-        requires cache { IsCache sheet.now self.old }
-        requires frame { IsFrame sheet.now self.old.keys top }
-        requires waits { WaitsFor top key }
-        requires path { (first : KeyType)
-            × IsPath sheet.now self.old.keys first path.old.frames.items top.key }
-        ensures on { ReadsOn self.old.keys self.new.keys }
-        ensures counts { CountsOn self.old.counts self.new.counts }
-        ensures cache { IsCache sheet.now self.new }
-        ensures goes_on { (root : KeyType) →
-            IsPath sheet.now self.old.keys root path.old.frames.items top.key →
-            IfOk result (GoesOn sheet.now self.new.keys root path.new.frames.items) }
-        ensures nearer { (root : KeyType) →
-            IsPath sheet.now self.old.keys root path.old.frames.items top.key →
-            IfOk result (IsNearer sheet.now root self.new path.new.frames.items
-            (steps_left sheet.now root self.old (top ∷ path.old.frames.items))) }
-    {
+        let Some(key) = top.next() else {
+            return self.finish(sheet, path, top);
+        };
         let handle = self.handle(key)?;
         match self.known(path, &top, key, handle) {
-            Some(answer) => self.resume(path, top, answer),
+            Some(Answer::Value(value)) => {
+                self.counts.reused = self.counts.reused.saturating_add(1);
+                top.values.push(value)?;
+                Ok(Progress::At(top))
+            }
+            Some(Answer::Cycle(through)) => {
+                self.give_up(path, top, through)?;
+                Ok(Progress::Done(Answer::Cycle(through)))
+            }
             None => {
                 path.push(top)?;
                 Ok(Progress::At(self.open(sheet, key, handle)?))
-            }
-        }
-    }
-
-    // The query that waited for this answer goes on with it.
-    fn resume(&mut self, path: &Path, mut top: Frame, answer: Answer) -> Result<Progress, Fault>
-        ensures keys { self.new.keys ≡ self.old.keys }
-        ensures counts { CountsOn self.old.counts self.new.counts }
-        ensures cache { (sheet : Formulas) (first key : KeyType) → IsCache sheet self.old →
-            IsFrame sheet self.old.keys top →
-            IsPath sheet self.old.keys first path.now.frames.items top.key → WaitsFor top key →
-            IsRight sheet key answer → IsCache sheet self.new }
-        ensures goes_on { (sheet : Formulas) (first key : KeyType) →
-            IsFrame sheet self.old.keys top →
-            IsPath sheet self.old.keys first path.now.frames.items top.key → WaitsFor top key →
-            IsRight sheet key answer →
-            IfOk result (GoesOn sheet self.new.keys first path.now.frames.items) }
-        ensures nearer { (sheet : Formulas) (root key : KeyType) → WaitsFor top key →
-            IfOk result (IsNearer sheet root self.new path.now.frames.items
-            (steps_left sheet root self.old (top ∷ path.now.frames.items))) }
-    {
-        match answer {
-            Answer::Value(value) => {
-                self.counts.reused = self.counts.reused.saturating_add(1);
-                top.take(value)?;
-                Ok(Progress::At(top))
-            }
-            Answer::Cycle(through) => {
-                self.give_up(path, top, through)?;
-                Ok(Progress::Done(answer))
             }
         }
     }
@@ -334,13 +263,8 @@ impl Cache {
         if let Some(answer) = self.current(handle) {
             return Some(answer);
         }
-        if top.handle == handle {
-            return Some(Answer::Cycle(key));
-        }
-        if path.has(handle) {
-            return Some(Answer::Cycle(key));
-        }
-        None
+        let waits = top.handle == handle || path.has(handle);
+        waits.then_some(Answer::Cycle(key))
     }
 
     // The query has read all its values, and the one that waits for it goes on.
@@ -364,7 +288,7 @@ impl Cache {
         let value = self.settle(sheet, top)?;
         match path.pop() {
             Some(mut waiting) => {
-                waiting.take(value)?;
+                waiting.values.push(value)?;
                 Ok(Progress::At(waiting))
             }
             None => Ok(Progress::Done(Answer::Value(value))),
@@ -388,12 +312,7 @@ impl Cache {
         ensures cache { IsCache sheet.now self.new }
     {
         let value = self.given(sheet, &frame)?;
-        let memo = Memo {
-            answer: Answer::Value(value),
-            values: frame.values,
-            verified: self.revision,
-        };
-        self.put(frame.handle, memo)?;
+        self.put(frame.handle, Answer::Value(value), frame.values)?;
         Ok(value)
     }
 
@@ -431,12 +350,10 @@ impl Cache {
             reads self.now.keys (ref_name frame.now.handle) ≡ Some frame.now.key →
             IfSome result (λ value. value ≡ gives sheet frame.now.key frame.now.values.items) }
     {
+        laws::values_are_equal_exactly_if_they_are_the_same();
         let memo = self.memo(frame.handle)?;
-        if !memo.has_read(&frame.values) {
-            return None;
-        }
         match memo.answer {
-            Answer::Value(value) => Some(value),
+            Answer::Value(value) => (memo.values == frame.values).then_some(value),
             Answer::Cycle(_) => None,
         }
     }
@@ -450,27 +367,12 @@ impl Cache {
             All (IsStuck sheet self.old.keys through) path.now.frames.items →
             IsCache sheet self.new }
     {
-        self.put_cycle(top.handle, through)?;
+        let answer = Answer::Cycle(through);
+        self.put(top.handle, answer, Vec::new(self.alloc))?;
         for frame in &path.frames {
-            self.put_cycle(frame.handle, through)?;
+            self.put(frame.handle, answer, Vec::new(self.alloc))?;
         }
         Ok(())
-    }
-
-    // A query has no value at this revision.
-    fn put_cycle(&mut self, handle: KeyRef, through: Key) -> Result<(), AllocError>
-        ensures keys { self.new.keys ≡ self.old.keys }
-        ensures counts { self.new.counts ≡ self.old.counts }
-        ensures cache { (sheet : Formulas) (key : KeyType) → IsCache sheet self.old →
-            reads self.old.keys (ref_name handle) ≡ Some key → LeadsToCycle sheet key through →
-            IsCache sheet self.new }
-    {
-        let memo = Memo {
-            answer: Answer::Cycle(through),
-            values: Vec::new(self.alloc),
-            verified: self.revision,
-        };
-        self.put(handle, memo)
     }
 
     /// Removes all queries but these, with their memos, and tells how many. Where there is no

@@ -85,25 +85,9 @@ impl Operator {
             Operator::Add => exact(left.checked_add(right)),
             Operator::Subtract => exact(left.checked_sub(right)),
             Operator::Multiply => exact(left.checked_mul(right)),
-            Operator::Divide => {
-                if right == 0 {
-                    return Err(CellError::DivisionByZero);
-                }
-                exact(left.checked_div(right))
-            }
+            Operator::Divide if right == 0 => Err(CellError::DivisionByZero),
+            Operator::Divide => exact(left.checked_div(right)),
         }
-    }
-}
-
-// An operation on the last number and this one.
-fn apply_to_last(operator: Operator, right: i64, stack: &mut Vec<i64>) -> Result<i64, CellError>
-    ensures { (values : List ValueType) (steps : List StepType) →
-        run values (apply_step operator ∷ steps) (right ∷ reverse stack.old.items)
-        ≡ and_then result (λ n. run values steps (n ∷ reverse stack.new.items)) }
-{
-    match stack.pop() {
-        Some(left) => operator.apply(left, right),
-        None => Err(CellError::Incomplete),
     }
 }
 
@@ -114,18 +98,13 @@ fn step_number(step: Step, values: &[Value], stack: &mut Vec<i64>) -> Result<i64
 {
     match step {
         Step::Literal(number) => Ok(number),
-        Step::Read(index) => match values.get(index) {
-            Some(value) => value.number(),
-            None => Err(CellError::Incomplete),
-        },
-        Step::Negate => match stack.pop() {
-            Some(operand) => exact(operand.checked_neg()),
-            None => Err(CellError::Incomplete),
-        },
-        Step::Apply(operator) => match stack.pop() {
-            Some(right) => apply_to_last(operator, right, stack),
-            None => Err(CellError::Incomplete),
-        },
+        Step::Read(index) => values.get(index).ok_or(CellError::Incomplete)?.number(),
+        Step::Negate => exact(stack.pop().ok_or(CellError::Incomplete)?.checked_neg()),
+        Step::Apply(operator) => {
+            let right = stack.pop().ok_or(CellError::Incomplete)?;
+            let left = stack.pop().ok_or(CellError::Incomplete)?;
+            operator.apply(left, right)
+        }
     }
 }
 
@@ -140,8 +119,5 @@ pub fn formula_value(alloc: Global, steps: &[Step], values: &[Value]) -> Result<
             Err(error) => return Ok(Value::Error(error)),
         }
     }
-    match stack.pop() {
-        Some(number) => Ok(Value::Number(number)),
-        None => Ok(Value::Error(CellError::Incomplete)),
-    }
+    Ok(Value::of(stack.pop().ok_or(CellError::Incomplete)))
 }

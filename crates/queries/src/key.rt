@@ -2,7 +2,7 @@
 ghost use Rattle.std.specs.Prelude.{true, []};
 
 use crate::place::{Block, Place};
-use ra_ap_intern::{GarbageCollector, GcInternedVisit, Internable, InternedRef};
+use ra_ap_intern::{GarbageCollector, GcInternedVisit, InternStorage, Internable, InternedRef};
 use std::fmt;
 
 /// What is made of the values of a block.
@@ -29,6 +29,9 @@ pub enum Key {
 
 /// The handle of a query, which names it in the cache.
 pub type KeyRef = InternedRef<Key>;
+
+/// The queries that have handles.
+pub type Keys = InternStorage<Key>;
 
 impl Internable for Key {
     const USE_GC: bool = true;
@@ -58,10 +61,7 @@ impl fmt::Display for Key {
     fn fmt<W: fmt::Write>(&self, f: &mut fmt::Formatter<W>) -> fmt::Result {
         match self {
             Key::Cell(place) => write!(f, "{place}"),
-            Key::Total(function, block) => {
-                let name = function.name();
-                write!(f, "{name}({block})")
-            }
+            Key::Total(function, block) => write!(f, "{}({block})", function.name()),
         }
     }
 }

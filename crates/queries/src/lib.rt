@@ -13,5 +13,5 @@ pub mod place;
 pub mod run;
 pub mod sheet;
 pub mod spreadsheet;
-mod token;
+pub mod token;
 pub mod value;

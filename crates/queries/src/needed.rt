@@ -5,19 +5,14 @@ ghost use Rattle.queries.specs.Needed.{AreNeeded, IsFormulaCell, IsNeeded, Takes
 ghost use Rattle.queries.specs.Sheet.{reads_of};
 ghost use Rattle.queries.specs.declared.key.Key.{Key as KeyType};
 
-use crate::key::{Key, KeyRef};
+use crate::key::{Key, KeyRef, Keys};
 use crate::laws;
 use crate::sheet::Sheet;
 use indexmap::IndexSet;
-use ra_ap_intern::InternStorage;
 use std::alloc::{AllocError, Global};
 
 /// The handles of the queries that cells with formulas need.
-pub fn needed_handles(
-    alloc: Global,
-    sheet: &Sheet,
-    keys: &InternStorage<Key>,
-) -> Result<Vec<KeyRef>, AllocError>
+pub fn needed_handles(alloc: Global, sheet: &Sheet, keys: &Keys) -> Result<Vec<KeyRef>, AllocError>
     ensures { IfOk result (λ handles.
         AreNeeded sheet.now keys.now (list_map ref_name handles.items)) }
 {
@@ -34,11 +29,7 @@ pub fn needed_handles(
 }
 
 // The cells with formulas, and what they need. Memos don't tell, since an edited cell has none.
-fn needed_keys(
-    alloc: Global,
-    sheet: &Sheet,
-    keys: &InternStorage<Key>,
-) -> Result<IndexSet<Key>, AllocError>
+fn needed_keys(alloc: Global, sheet: &Sheet, keys: &Keys) -> Result<IndexSet<Key>, AllocError>
     ensures { IfOk result (λ needed. (key : KeyType) →
         Contains needed.keys key ↔ IsNeeded sheet.now keys.now key) }
 {
@@ -68,7 +59,7 @@ fn formula_cells(alloc: Global, sheet: &Sheet) -> Result<IndexSet<Key>, AllocErr
 // What a query reads is needed too, if it has a handle.
 fn need_reads(
     sheet: &Sheet,
-    keys: &InternStorage<Key>,
+    keys: &Keys,
     key: Key,
     needed: &mut IndexSet<Key>,
 ) -> Result<(), AllocError>

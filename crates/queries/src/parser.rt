@@ -2,9 +2,8 @@
 use crate::formula::{Formula, Operator, Step};
 use crate::key::Key;
 use crate::place::{Block, Place};
-use crate::token::{Problem, SyntaxError, Token, TokenKind, Tokens};
+use crate::token::{ParseError, Token, TokenKind, Tokens};
 use std::alloc::{AllocError, Global};
-use thiserror::Error;
 
 /// The most cells that a block may have.
 pub const MOST_CELLS: u64 = 1048576;
@@ -28,17 +27,6 @@ pub enum Line {
     Collect,
 }
 
-/// Why a line isn't read.
-#[derive(Clone, Copy, Debug, Error)]
-pub enum ParseError {
-    /// When the text is wrong.
-    #[error(transparent)]
-    Syntax(#[from] SyntaxError),
-    /// When a request for memory was refused.
-    #[error(transparent)]
-    Memory(#[from(alloc)] AllocError),
-}
-
 /// What a line asks for.
 pub fn parse_line(alloc: Global, text: &str) -> Result<Line, ParseError> {
     let mut tokens = Tokens::new(text);
@@ -46,57 +34,38 @@ pub fn parse_line(alloc: Global, text: &str) -> Result<Line, ParseError> {
     let line = match first.kind {
         TokenKind::End => Line::Nothing,
         TokenKind::Cell(place) => {
-            tokens.expect(TokenKind::Equals, Problem::Wants("an equals sign"))?;
-            return Ok(Line::Set(place, parse_formula(alloc, &mut tokens)?));
+            tokens.expect(TokenKind::Equals, "an equals sign should stand here")?;
+            Line::Set(place, parse_formula(alloc, &mut tokens)?)
         }
-        TokenKind::Clear => Line::Clear(parse_cell(&mut tokens)?),
-        TokenKind::Show => parse_show(&mut tokens)?,
+        TokenKind::Clear => Line::Clear(tokens.next()?.cell()?),
+        TokenKind::Show => match tokens.next()? {
+            token if token.kind == TokenKind::All => Line::ShowAll,
+            token => Line::Show(token.cell()?),
+        },
         TokenKind::Stats => Line::Stats,
         TokenKind::Collect => Line::Collect,
-        _ => return Err(first.problem(Problem::Wants("a command or a cell")).into()),
+        _ => return Err(first.wrong("a command or a cell should stand here")),
     };
-    tokens.expect(TokenKind::End, Problem::WantsEnd)?;
+    tokens.expect(TokenKind::End, "the line should end here")?;
     Ok(line)
 }
 
-// What is to be shown.
-fn parse_show(tokens: &mut Tokens) -> Result<Line, SyntaxError> {
-    let token = tokens.next()?;
-    match token.kind {
-        TokenKind::All => Ok(Line::ShowAll),
-        _ => Ok(Line::Show(cell_of(token)?)),
-    }
-}
-
-// The cell that is next in a line.
-fn parse_cell(tokens: &mut Tokens) -> Result<Place, SyntaxError> {
-    cell_of(tokens.next()?)
-}
-
-// The cell that a token is.
-fn cell_of(token: Token) -> Result<Place, SyntaxError> {
-    match token.kind {
-        TokenKind::Cell(place) => Ok(place),
-        _ => Err(token.problem(Problem::Wants("a cell"))),
-    }
-}
-
 // A block in parentheses: a cell, or two with a colon between them.
-fn parse_block(tokens: &mut Tokens) -> Result<Block, SyntaxError> {
-    tokens.expect(TokenKind::Opening, Problem::Wants("'('"))?;
-    let first = parse_cell(tokens)?;
+fn parse_block(tokens: &mut Tokens) -> Result<Block, ParseError> {
+    tokens.expect(TokenKind::Opening, "'(' should stand here")?;
+    let first = tokens.next()?.cell()?;
     let token = tokens.next()?;
     match token.kind {
         TokenKind::Closing => Ok(Block::between(first, first)),
         TokenKind::Colon => {
-            let block = Block::between(first, parse_cell(tokens)?);
+            let block = Block::between(first, tokens.next()?.cell()?);
             if block.cells() > MOST_CELLS {
-                return Err(token.problem(Problem::BlockTooLarge));
+                return Err(token.wrong("these are more than 1048576 cells"));
             }
-            tokens.expect(TokenKind::Closing, Problem::Wants("')'"))?;
+            tokens.expect(TokenKind::Closing, "')' should stand here")?;
             Ok(block)
         }
-        _ => Err(token.problem(Problem::Wants("':' or ')'"))),
+        _ => Err(token.wrong("':' or ')' should stand here")),
     }
 }
 
@@ -110,12 +79,10 @@ fn parse_formula(alloc: Global, tokens: &mut Tokens) -> Result<Formula, ParseErr
     };
     for _ in 0..u64::MAX {
         let token = tokens.next()?;
-        if parser.wants_operand {
-            parser.operand(token, tokens)?;
-        } else if token.kind == TokenKind::End {
-            break;
-        } else {
-            parser.operator(token)?;
+        match token.kind {
+            _ if parser.wants_operand => parser.operand(token, tokens)?,
+            TokenKind::End => break,
+            _ => parser.operator(token)?,
         }
     }
     parser.finish()
@@ -140,29 +107,28 @@ struct Parser {
 impl Parser {
     // A token where an operand should stand.
     fn operand(&mut self, token: Token, tokens: &mut Tokens) -> Result<(), ParseError> {
-        match token.kind {
+        let step = match token.kind {
             TokenKind::Opening => return Ok(self.waiting.push(Waiting::Opening(token))?),
             TokenKind::Operator(Operator::Subtract) => {
                 return Ok(self.waiting.push(Waiting::Step(Step::Negate))?);
             }
-            TokenKind::Number(number) => self.steps.push(Step::Literal(number))?,
+            TokenKind::Number(number) => Step::Literal(number),
             TokenKind::Cell(place) => self.read(Key::Cell(place))?,
             TokenKind::Function(function) => {
-                self.read(Key::Total(function, parse_block(tokens)?))?;
+                self.read(Key::Total(function, parse_block(tokens)?))?
             }
-            _ => {
-                let problem = Problem::Wants("a number, a cell, a function or '('");
-                return Err(token.problem(problem).into());
-            }
-        }
+            _ => return Err(token.wrong("a number, a cell, a function or '(' should stand here")),
+        };
+        self.steps.push(step)?;
         self.wants_operand = false;
         Ok(())
     }
 
-    // A query that the formula reads.
-    fn read(&mut self, key: Key) -> Result<(), AllocError> {
-        self.steps.push(Step::Read(self.reads.len()))?;
-        Ok(self.reads.push(key)?)
+    // The step that reads a query.
+    fn read(&mut self, key: Key) -> Result<Step, AllocError> {
+        let index = self.reads.len();
+        self.reads.push(key)?;
+        Ok(Step::Read(index))
     }
 
     // A token where an operator should stand.
@@ -173,17 +139,15 @@ impl Parser {
                 self.unwind(precedence(step))?;
                 self.waiting.push(Waiting::Step(step))?;
                 self.wants_operand = true;
-                Ok(())
             }
             TokenKind::Closing => {
                 self.unwind(0)?;
-                match self.waiting.pop() {
-                    Some(_) => Ok(()),
-                    None => Err(token.problem(Problem::NothingToClose).into()),
-                }
+                let opening = self.waiting.pop();
+                opening.ok_or(token.wrong("there is no '(' to close"))?;
             }
-            _ => Err(token.problem(Problem::Wants("an operator")).into()),
+            _ => return Err(token.wrong("an operator should stand here")),
         }
+        Ok(())
     }
 
     // The steps of all that waits and binds at least so tightly.
@@ -202,7 +166,7 @@ impl Parser {
     fn finish(mut self) -> Result<Formula, ParseError> {
         self.unwind(0)?;
         match self.waiting.pop() {
-            Some(Waiting::Opening(token)) => Err(token.problem(Problem::NotClosed).into()),
+            Some(Waiting::Opening(token)) => Err(token.wrong("this '(' isn't closed")),
             _ => Ok(Formula::new(self.reads, self.steps)),
         }
     }

@@ -41,16 +41,6 @@ impl Frame {
     {
         self.wants.get(self.values.len()).copied()
     }
-
-    /// Takes the value of that query.
-    pub fn take(&mut self, value: Value) -> Result<(), AllocError>
-        ensures key { OnOk result (self.new.key ≡ self.old.key) }
-        ensures handle { OnOk result (self.new.handle ≡ self.old.handle) }
-        ensures wants { OnOk result (self.new.wants.items ≡ self.old.wants.items) }
-        ensures values { OnOk result (self.new.values.items ≡ self.old.values.items ++ value ∷ []) }
-    {
-        Ok(self.values.push(value)?)
-    }
 }
 
 impl Path {

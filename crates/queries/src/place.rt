@@ -1,4 +1,6 @@
 //! Places of cells, and blocks of them.
+ghost use Rattle.std.specs.Prelude.{◌≡◌};
+
 use std::fmt;
 
 /// How many columns there are: the last is `XFD`.
@@ -28,6 +30,16 @@ pub struct Block {
     pub top: u32,
     /// The row behind the last.
     pub bottom: u32,
+}
+
+impl Place {
+    /// The place at a column and a row, counted from zero.
+    pub fn new(column: u32, row: u32) -> Place
+        ensures column { result.column ≡ column }
+        ensures row { result.row ≡ row }
+    {
+        Place { column, row }
+    }
 }
 
 impl Block {
@@ -69,14 +81,8 @@ impl fmt::Display for Place {
 
 impl fmt::Display for Block {
     fn fmt<W: fmt::Write>(&self, f: &mut fmt::Formatter<W>) -> fmt::Result {
-        let first = Place {
-            column: self.left,
-            row: self.top,
-        };
-        let last = Place {
-            column: self.right.saturating_sub(1),
-            row: self.bottom.saturating_sub(1),
-        };
+        let first = Place::new(self.left, self.top);
+        let last = Place::new(self.right.saturating_sub(1), self.bottom.saturating_sub(1));
         write!(f, "{first}:{last}")
     }
 }

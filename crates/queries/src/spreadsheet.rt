@@ -79,8 +79,7 @@ impl Spreadsheet {
         ensures err { OnErr result (self.new ≡ self.old) }
     {
         self.cache.raise(place)?;
-        self.sheet.set(place, formula)?;
-        Ok(())
+        Ok(self.sheet.set(place, formula)?)
     }
 
     /// Takes the formula of a cell away.

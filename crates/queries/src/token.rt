@@ -2,50 +2,25 @@
 use crate::formula::Operator;
 use crate::key::Function;
 use crate::place::{COLUMNS, Place, ROWS};
+use std::alloc::AllocError;
 use std::num::IntErrorKind;
 use text_run::{Language, Words};
 use thiserror::Error;
 
-/// What is wrong with a line.
+/// Why a line isn't read.
 #[derive(Clone, Copy, Debug, Error)]
-pub enum Problem {
-    /// When a character begins no token.
-    #[error("this character stands nowhere")]
-    Character,
-    /// When a word is no number, no cell, no function and no command.
-    #[error("this is no cell, no function and no command")]
-    Word,
-    /// When a number doesn't fit 64 bits.
-    #[error("this number doesn't fit 64 bits")]
-    NumberTooLarge,
-    /// When a cell is beyond the last column or the last row, or the number of its row is zero.
-    #[error("the cells end at XFD1048576")]
-    NoSuchCell,
-    /// When a block has more cells than a block may have.
-    #[error("these are more than 1048576 cells")]
-    BlockTooLarge,
-    /// When something else stands where this should.
-    #[error("{0} should stand here")]
-    Wants(&'static str),
-    /// When a closing parenthesis closes nothing.
-    #[error("there is no '(' to close")]
-    NothingToClose,
-    /// When an opening parenthesis isn't closed.
-    #[error("this '(' isn't closed")]
-    NotClosed,
-    /// When a command goes on behind its end.
-    #[error("the line should end here")]
-    WantsEnd,
-}
-
-/// What is wrong with a line, and where: the column counts from one.
-#[derive(Clone, Copy, Debug, Error)]
-#[error("column {column}: {problem}")]
-pub struct SyntaxError {
-    /// What is wrong.
-    pub problem: Problem,
-    /// Where.
-    pub column: u64,
+pub enum ParseError {
+    /// When the text is wrong at a column, which counts from one.
+    #[error("column {column}: {problem}")]
+    Syntax {
+        /// Where.
+        column: u64,
+        /// What is wrong.
+        problem: &'static str,
+    },
+    /// When a request for memory was refused.
+    #[error(transparent)]
+    Memory(#[from(alloc)] AllocError),
 }
 
 /// What a token is.
@@ -92,9 +67,17 @@ pub struct Token {
 
 impl Token {
     /// The problem, where this token begins.
-    pub fn problem(self, problem: Problem) -> SyntaxError {
+    pub fn wrong(self, problem: &'static str) -> ParseError {
         let column = self.column;
-        SyntaxError { problem, column }
+        ParseError::Syntax { column, problem }
+    }
+
+    /// The cell that it is.
+    pub fn cell(self) -> Result<Place, ParseError> {
+        match self.kind {
+            TokenKind::Cell(place) => Ok(place),
+            _ => Err(self.wrong("a cell should stand here")),
+        }
     }
 }
 
@@ -115,47 +98,42 @@ impl Language for Formulas {
 
 /// The tokens of a line, one at a time.
 #[derive(Clone, Copy)]
-pub struct Tokens<'a> {
-    words: Words<'a>,
-}
+pub struct Tokens<'a>(Words<'a>);
 
 impl<'a> Tokens<'a> {
     /// All of a line.
     pub fn new(line: &'a str) -> Tokens<'a> {
-        Tokens {
-            words: Words::new(line, text_run::Place::START),
-        }
+        Tokens(Words::new(line, text_run::Place::START))
     }
 
     /// The next token. Behind the last it is `End` for ever.
-    pub fn next(&mut self) -> Result<Token, SyntaxError> {
-        let (word, place) = self.words.next::<Formulas>();
+    pub fn next(&mut self) -> Result<Token, ParseError> {
+        let (word, place) = self.0.next::<Formulas>();
         let column = place.column;
-        let kind = token_kind(word).map_err(|problem| SyntaxError { problem, column })?;
+        let kind = token_kind(word).map_err(|problem| ParseError::Syntax { column, problem })?;
         Ok(Token { kind, column })
     }
 
     /// Passes a token of this kind, or tells the problem.
-    pub fn expect(&mut self, kind: TokenKind, problem: Problem) -> Result<(), SyntaxError> {
+    pub fn expect(&mut self, kind: TokenKind, problem: &'static str) -> Result<(), ParseError> {
         let token = self.next()?;
-        if token.kind == kind {
-            Ok(())
-        } else {
-            Err(token.problem(problem))
+        if token.kind != kind {
+            return Err(token.wrong(problem));
         }
+        Ok(())
     }
 }
 
-// The token that a word is.
-fn token_kind(word: &str) -> Result<TokenKind, Problem> {
+// The token that a word is, or what is wrong with it.
+fn token_kind(word: &str) -> Result<TokenKind, &'static str> {
     if let Some(spelling) = SPELLINGS.iter().find(|spelling| spelling.0 == word) {
         Ok(spelling.1)
     } else if word.starts_with(|c: char| c.is_ascii_digit()) {
-        Ok(TokenKind::Number(decimal(word, Problem::NumberTooLarge)?))
+        Ok(TokenKind::Number(decimal(word, "this number doesn't fit 64 bits")?))
     } else if word.starts_with(|c: char| c.is_ascii_alphabetic()) {
         Ok(TokenKind::Cell(cell(word)?))
     } else {
-        Err(Problem::Character)
+        Err("this character stands nowhere")
     }
 }
 
@@ -181,28 +159,26 @@ const SPELLINGS: [(&str, TokenKind); 18] = [
     ("collect", TokenKind::Collect),
 ];
 
-// A number in decimal digits, or the problem where it doesn't fit.
-fn decimal(digits: &str, too_large: Problem) -> Result<i64, Problem> {
+// A number in decimal digits, or what is wrong with it.
+fn decimal(digits: &str, too_large: &'static str) -> Result<i64, &'static str> {
     digits.parse::<i64>().map_err(|error| match error.kind() {
         IntErrorKind::PosOverflow => too_large,
-        _ => Problem::Word,
+        _ => "this is no cell, no function and no command",
     })
 }
 
 // A cell: the letters of its column, and the number of its row.
-fn cell(word: &str) -> Result<Place, Problem> {
+fn cell(word: &str) -> Result<Place, &'static str> {
+    const NO_SUCH_CELL: &str = "the cells end at XFD1048576";
     let digits = word.trim_start_matches(|c: char| c.is_ascii_uppercase());
-    let row = decimal(digits, Problem::NoSuchCell)?;
+    let row = decimal(digits, NO_SUCH_CELL)?;
     let mut column = 0i64;
     for letter in word.bytes().take_while(|byte| byte.is_ascii_uppercase()) {
         let digit = i64::from(letter.wrapping_sub(b'A' - 1));
         column = column.saturating_mul(26).saturating_add(digit);
     }
-    if 1 <= column && column <= COLUMNS && 1 <= row && row <= ROWS {
-        let column = (column - 1) as u32;
-        let row = (row - 1) as u32;
-        Ok(Place { column, row })
-    } else {
-        Err(Problem::NoSuchCell)
+    if column < 1 || COLUMNS < column || row < 1 || ROWS < row {
+        return Err(NO_SUCH_CELL);
     }
+    Ok(Place::new((column - 1) as u32, (row - 1) as u32))
 }

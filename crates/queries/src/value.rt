@@ -58,10 +58,7 @@ impl Value {
     pub fn of(outcome: Result<i64, CellError>) -> Value
         ensures { result ≡ value_of outcome }
     {
-        match outcome {
-            Ok(number) => Value::Number(number),
-            Err(error) => Value::Error(error),
-        }
+        outcome.map_or_else(Value::Error, Value::Number)
     }
 }
 
