@@ -1,4 +1,5 @@
 pub mod Blocks
+pub mod Equal
 pub mod Formulas
 pub mod Memos
 pub mod Needs

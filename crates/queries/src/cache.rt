@@ -98,7 +98,6 @@ impl Cache {
         ensures used_up { IsErrOf result Fault.RevisionsUsedUp ↔ (self.old.revision ≡ u64.MAX) }
         ensures otherwise { IsOkUnless result Fault.RevisionsUsedUp }
     {
-        laws::keys_are_equal_exactly_if_they_are_the_same();
         laws::handles_are_their_names();
         let _number = self.keys.number();
         self.revision = self.revision.checked_add(1).ok_or(Fault::RevisionsUsedUp)?;
@@ -144,7 +143,6 @@ impl Cache {
             KeepsBegun self.old frames self.new frames) }
         ensures cache { (sheet : Formulas) → IsCache sheet self.old → IsCache sheet self.new }
     {
-        laws::keys_are_equal_exactly_if_they_are_the_same();
         let _number = self.keys.number();
         let (handle, _) = Interned::new_gc(&mut self.keys, key)?;
         Ok(handle)
@@ -283,7 +281,6 @@ impl Cache {
             IfOk result (IsNearer sheet.now root self.new path.new.frames.items
             (steps_left sheet.now root self.old (top ∷ path.old.frames.items))) }
     {
-        laws::keys_are_equal_exactly_if_they_are_the_same();
         let _number = self.keys.number();
         let value = self.settle(sheet, top)?;
         match path.pop() {
@@ -350,7 +347,6 @@ impl Cache {
             reads self.now.keys (ref_name frame.now.handle) ≡ Some frame.now.key →
             IfSome result (λ value. value ≡ gives sheet frame.now.key frame.now.values.items) }
     {
-        laws::values_are_equal_exactly_if_they_are_the_same();
         let memo = self.memo(frame.handle)?;
         match memo.answer {
             Answer::Value(value) => (memo.values == frame.values).then_some(value),

@@ -6,7 +6,6 @@ ghost use Rattle.queries.specs.Sheet.{reads_of};
 ghost use Rattle.queries.specs.declared.key.Key.{Key as KeyType};
 
 use crate::key::{Key, KeyRef, Keys};
-use crate::laws;
 use crate::sheet::Sheet;
 use indexmap::IndexSet;
 use std::alloc::{AllocError, Global};
@@ -16,7 +15,6 @@ pub fn needed_handles(alloc: Global, sheet: &Sheet, keys: &Keys) -> Result<Vec<K
     ensures { IfOk result (λ handles.
         AreNeeded sheet.now keys.now (list_map ref_name handles.items)) }
 {
-    laws::keys_are_equal_exactly_if_they_are_the_same();
     let _number = keys.number();
     let needed = needed_keys(alloc, sheet, keys)?;
     let mut handles = Vec::new(alloc);
@@ -48,7 +46,6 @@ fn formula_cells(alloc: Global, sheet: &Sheet) -> Result<IndexSet<Key>, AllocErr
     ensures { IfOk result (λ cells. (key : KeyType) →
         Contains cells.keys key ↔ IsFormulaCell sheet.now key) }
 {
-    laws::keys_are_equal_exactly_if_they_are_the_same();
     let mut cells = IndexSet::new(alloc);
     for place in &sheet.places()? {
         cells.insert(Key::Cell(*place))?;
@@ -66,7 +63,6 @@ fn need_reads(
     ensures { OnOk result (TakesReads keys.now (reads_of sheet.now key)
         needed.old.keys needed.new.keys) }
 {
-    laws::keys_are_equal_exactly_if_they_are_the_same();
     let _number = keys.number();
     for read in &sheet.reads(key)? {
         if keys.get(read).is_some() {

@@ -6,7 +6,6 @@ ghost use Rattle.queries.specs.declared.place.Place.{Place as PlaceType};
 
 use crate::formula::{Formula, formula_value};
 use crate::key::Key;
-use crate::laws;
 use crate::place::{Block, Place};
 use crate::value::{Value, total};
 use std::alloc::{AllocError, Global};
@@ -46,7 +45,6 @@ impl Sheet {
             ≡ (if same_place place p then Some formula else formula_at self.old p)) }
         ensures err { OnErr result (self.new ≡ self.old) }
     {
-        laws::places_are_their_columns_and_rows();
         self.formulas.insert(place, formula)?;
         Ok(())
     }
@@ -56,7 +54,6 @@ impl Sheet {
         ensures { (p : PlaceType) → formula_at self.new p
             ≡ (if same_place place p then None else formula_at self.old p) }
     {
-        laws::places_are_their_columns_and_rows();
         let _ = self.formulas.remove(&place);
     }
 
@@ -66,7 +63,6 @@ impl Sheet {
         ensures cells { IfOk result (λ places. (p : PlaceType) →
             Contains places.items p ↔ IsSome (formula_at self.now p)) }
     {
-        laws::places_are_their_columns_and_rows();
         let mut places: Vec<Place> = self.formulas.keys().copied().collect(self.alloc)?;
         places.sort()?;
         Ok(places)
@@ -76,7 +72,6 @@ impl Sheet {
     pub fn reads(&self, key: Key) -> Result<Vec<Key>, AllocError>
         ensures { IfOk result (λ reads. reads.items ≡ reads_of self.now key) }
     {
-        laws::places_are_their_columns_and_rows();
         match key {
             Key::Cell(place) => match self.formulas.get(&place) {
                 Some(formula) => Vec::from_slice(self.alloc, formula.reads()),
@@ -90,7 +85,6 @@ impl Sheet {
     pub fn give(&self, key: Key, values: &[Value]) -> Result<Value, AllocError>
         ensures { IfOk result (λ value. value ≡ gives self.now key values.now) }
     {
-        laws::places_are_their_columns_and_rows();
         match key {
             Key::Cell(place) => match self.formulas.get(&place) {
                 Some(formula) => formula_value(self.alloc, formula.steps(), values),

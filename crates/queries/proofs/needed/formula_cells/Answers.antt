@@ -1,5 +1,6 @@
 use Rattle.std.proofs.Common.{Contains, sym, subst}
 use Rattle.std.proofs.lemmas.Option.{slice_get-get_or}
+use Rattle.queries.proofs.Equal.{keys_alike}
 use Rattle.queries.proofs.Needs.{cells_all, cells_more, inserts, no_cells}
 use Rattle.queries.proofs.needed.formula_cells.Goals as goal
 
@@ -10,7 +11,7 @@ pub loop-place-preserved : goal.loop-place-preserved
 loop-place-preserved c =
     cells_more c.deref-place-items.result.now c.loop-place.place-index _
     (slice_get-get_or _ _ _ c.loop-place-test.true) _ _ c.loop-place.invariant
-    (inserts _ c.keys_are_equal_exactly_if_they_are_the_same.ensures _ _ _ c.in_ok-insert.ensures.keys)
+    (inserts _ keys_alike _ _ _ c.in_ok-insert.ensures.keys)
 
 pub returns : goal.returns
 returns c key =

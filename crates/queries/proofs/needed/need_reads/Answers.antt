@@ -3,6 +3,7 @@ use Rattle.std.proofs.lemmas.List.{take_all}
 use Rattle.std.proofs.lemmas.Option.{slice_get-get_or}
 use Rattle.ra_ap_intern.specs.Handle.{ref_name}
 use Rattle.queries.specs.Needed.{TakesReads}
+use Rattle.queries.proofs.Equal.{keys_alike}
 use Rattle.queries.proofs.Needs.{handle_found, handle_none, inserts, takes_more, takes_none, takes_past}
 use Rattle.queries.proofs.needed.need_reads.Goals as goal
 use Rattle.queries.proofs.needed.need_reads.Goals.{then-is_some+in_ok-insert, else-is_some}
@@ -16,7 +17,7 @@ loop-read-preserved c =
     let all = c.deref-read-items.result.now in
     let i = c.loop-read.read-index in
     let old = c.args.needed.now.keys in
-    let alike = c.keys_are_equal_exactly_if_they_are_the_same.ensures in
+    let alike = keys_alike in
     let ok = c.number-number.ensures.state in
     let Taken = TakesReads keys (take (i + 1) all) old in
     elim c.if-is_some.branch [

@@ -2,6 +2,7 @@ use Rattle.std.proofs.Common.{◌+◌, ◌∙◌, ◌∷◌, [], map, take, sym,
 use Rattle.std.proofs.lemmas.List.{map-append, take_all}
 use Rattle.std.proofs.lemmas.Option.{slice_get-get_or}
 use Rattle.ra_ap_intern.specs.Handle.{ref_name}
+use Rattle.queries.proofs.Equal.{keys_alike}
 use Rattle.queries.proofs.Memos.{found_none, found_one}
 use Rattle.queries.proofs.Needs.{HasNames, named_reads, names_more, names_past}
 use Rattle.queries.proofs.needed.needed_handles.Goals as goal
@@ -12,7 +13,7 @@ loop-key-preserved c =
     let keys = c.args.keys.now in
     let all = c.as_slice-key-items.result.now in
     let i = c.loop-key.key-index in
-    let alike = c.keys_are_equal_exactly_if_they_are_the_same.ensures in
+    let alike = keys_alike in
     let ok = c.number-number.ensures.state in
     let Named = HasNames keys (take (i + 1) all) in
     elim c.match-get.branch [

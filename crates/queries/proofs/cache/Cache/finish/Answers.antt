@@ -1,5 +1,6 @@
 use Rattle.std.proofs.Common.{refl, sym, subst}
 use Rattle.queries.specs.Path.{IsPath}
+use Rattle.queries.proofs.Equal.{keys_alike}
 use Rattle.queries.proofs.Paths.{path_takes}
 use Rattle.queries.proofs.Steps.{nearer_finish, state_of_keys}
 use Rattle.queries.proofs.cache.Cache.finish.Goals as goal
@@ -20,5 +21,5 @@ returns-in_ok-push-in-Some-clause-nearer c root path =
     nearer_finish c.args.sheet.now root c.args.self.now c.settle.new.self c.args.top waiting
     (record waiting { values = c.push.new.self }) c.pop.new.self.frames.items
     c.args.path.now.frames.items c.in_ok-value.value
-    (state_of_keys _ c.keys_are_equal_exactly_if_they_are_the_same.ensures keys c.number-number.ensures.state)
+    (state_of_keys _ keys_alike keys c.number-number.ensures.state)
     c.in_ok-value.ensures.settled c.in-Some.ensures refl refl c.in_ok-push-in-Some.ensures.items

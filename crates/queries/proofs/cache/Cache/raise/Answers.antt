@@ -3,13 +3,14 @@ use Rattle.ra_ap_intern.specs.Handle.{ref_name}
 use Rattle.ra_ap_intern.specs.Named.{same_name}
 use Rattle.ra_ap_intern.proofs.CallerLemmas.{map_changed, same_names}
 use Rattle.queries.specs.declared.key.Key.TheVariants.{Cell}
+use Rattle.queries.proofs.Equal.{keys_alike}
 use Rattle.queries.proofs.Memos.{found_one, found_none, memos_edited, none_here, none_elsewhere}
 use Rattle.queries.proofs.cache.Cache.raise.Goals as goal
 
 pub returns-in-Some-clause-cache : goal.returns-in-Some-clause-cache
 returns-in-Some-clause-cache c old new is others =
     let keys = c.args.self.now.keys in
-    let alike = c.keys_are_equal_exactly_if_they_are_the_same.ensures in
+    let alike = keys_alike in
     let more : c.in_ok-self.field-0 ≡ c.args.self.now.revision + 1 = search rules in
     let changed = map_changed _ same_name ref_name c.handles_are_their_names.ensures c.args.self.now.memos
     c.remove.new.self c.in-Some.handle None c.remove.ensures.updates.0 in
@@ -23,7 +24,7 @@ returns-in-Some-clause-cache c old new is others =
 pub returns-in_default-clause-cache : goal.returns-in_default-clause-cache
 returns-in_default-clause-cache c old new is others =
     let keys = c.args.self.now.keys in
-    let alike = c.keys_are_equal_exactly_if_they_are_the_same.ensures in
+    let alike = keys_alike in
     let more : c.in_ok-self.field-0 ≡ c.args.self.now.revision + 1 = search rules in
     memos_edited old new c.args.place others keys keys c.args.self.now.revision c.in_ok-self.field-0
     c.args.self.now.memos c.args.self.now.memos refl more is
