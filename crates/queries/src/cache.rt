@@ -17,12 +17,11 @@ ghost use Rattle.queries.specs.declared.place.Place.{Place as PlaceType};
 
 use crate::fault::Fault;
 use crate::key::{Key, KeyRef, Keys};
-use crate::laws;
 use crate::path::{Frame, Path};
 use crate::place::Place;
 use crate::sheet::Sheet;
 use crate::value::{Answer, Value};
-use ra_ap_intern::{GarbageCollector, Interned, Refusal, laws as names};
+use ra_ap_intern::{GarbageCollector, Interned, Refusal};
 use std::alloc::{AllocError, Global};
 use std::collections::HashMap;
 
@@ -98,7 +97,6 @@ impl Cache {
         ensures used_up { IsErrOf result Fault.RevisionsUsedUp ↔ (self.old.revision ≡ u64.MAX) }
         ensures otherwise { IsOkUnless result Fault.RevisionsUsedUp }
     {
-        laws::handles_are_their_names();
         let _number = self.keys.number();
         self.revision = self.revision.checked_add(1).ok_or(Fault::RevisionsUsedUp)?;
         if let Some(handle) = self.keys.get(&Key::Cell(place)) {
@@ -152,7 +150,6 @@ impl Cache {
     fn memo(&self, handle: KeyRef) -> Option<&Memo>
         ensures { option_copied result ≡ memo_at self.now (ref_name handle) }
     {
-        laws::handles_are_their_names();
         self.memos.get(&handle)
     }
 
@@ -169,7 +166,6 @@ impl Cache {
             IsMemo sheet self.old.keys self.old.revision (ref_name handle) memo →
             IsCache sheet self.new }
     {
-        names::references_are_names::<Key>();
         let verified = self.revision;
         let memo = Memo {
             answer,
@@ -257,7 +253,6 @@ impl Cache {
             IsPath sheet self.now.keys root path.now.frames.items top.now.key →
             IfSome result (IsRight sheet key) }
     {
-        laws::handles_are_their_names();
         if let Some(answer) = self.current(handle) {
             return Some(answer);
         }

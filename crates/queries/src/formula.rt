@@ -1,7 +1,8 @@
 //! Formulas in postfix order, and their values.
 ghost use Rattle.std.specs.Prelude.{◌≡◌, ◌∷◌, ◌++◌, List, [], ℤ, reverse, Result, IfOk, MatchResult};
 ghost use Rattle.queries.specs.Formula.{applied, run, formula_of};
-ghost use Rattle.queries.specs.Value.{and_then};
+ghost use Rattle.queries.specs.Tree.{Tree, postfix, tree_number};
+ghost use Rattle.queries.specs.Value.{and_then, value_of};
 ghost use Rattle.queries.specs.declared.formula.Step.{Step as StepType};
 ghost use Rattle.queries.specs.declared.formula.Step.TheVariants.{Apply as apply_step};
 ghost use Rattle.queries.specs.declared.value.Value.{Value as ValueType};
@@ -121,3 +122,9 @@ pub fn formula_value(alloc: Global, steps: &[Step], values: &[Value]) -> Result<
     }
     Ok(Value::of(stack.pop().ok_or(CellError::Incomplete)))
 }
+
+/// A law: a formula in postfix order comes to what its tree does.
+pub fn a_formula_comes_to_what_its_tree_does()
+    ensures { (tree : Tree) (values : List ValueType) →
+        formula_of (postfix tree) values ≡ value_of (tree_number values tree) }
+{}

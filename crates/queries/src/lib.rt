@@ -5,7 +5,6 @@ pub mod cache;
 pub mod fault;
 pub mod formula;
 pub mod key;
-pub mod laws;
 mod needed;
 pub mod parser;
 mod path;

@@ -5,7 +5,6 @@ ghost use Rattle.ra_ap_intern.specs.Handle.{ref_name};
 ghost use Rattle.ra_ap_intern.specs.Named.{same_name};
 
 use crate::key::{Key, KeyRef};
-use crate::laws;
 use crate::value::Value;
 use std::alloc::{AllocError, Global};
 use std::collections::HashSet;
@@ -58,7 +57,6 @@ impl Path {
     pub fn push(&mut self, frame: Frame) -> Result<(), AllocError>
         ensures { OnOk result (self.new.frames.items ≡ self.old.frames.items ++ frame ∷ []) }
     {
-        laws::handles_are_their_names();
         self.waited.insert(frame.handle)?;
         Ok(self.frames.push(frame)?)
     }
@@ -76,7 +74,6 @@ impl Path {
         ensures { IsTrue result ↔ Any (λ frame. ref_name frame.handle ≡ ref_name handle)
             self.now.frames.items }
     {
-        laws::handles_are_their_names();
         self.waited.contains(&handle) && is_among(&self.frames, handle)
     }
 }
@@ -85,7 +82,6 @@ impl Path {
 fn is_among(frames: &[Frame], handle: KeyRef) -> bool
     ensures { IsTrue result ↔ Any (λ frame. ref_name frame.handle ≡ ref_name handle) frames.now }
 {
-    laws::handles_are_their_names();
     for frame in frames {
         if frame.handle == handle {
             return true;
