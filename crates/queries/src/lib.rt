@@ -12,5 +12,5 @@ pub mod place;
 pub mod run;
 pub mod sheet;
 pub mod spreadsheet;
-pub mod token;
+mod token;
 pub mod value;

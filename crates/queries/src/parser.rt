@@ -2,7 +2,8 @@
 use crate::formula::{Formula, Operator, Step};
 use crate::key::Key;
 use crate::place::{Block, Place};
-use crate::token::{ParseError, Token, TokenKind, Tokens};
+pub use crate::token::ParseError;
+use crate::token::{Token, TokenKind, Tokens};
 use std::alloc::{AllocError, Global};
 
 /// The most cells that a block may have.
