@@ -21,7 +21,7 @@ use crate::path::{Frame, Path};
 use crate::place::Place;
 use crate::sheet::Sheet;
 use crate::value::{Answer, Value};
-use ra_ap_intern::{GarbageCollector, Interned, Refusal};
+use ra_ap_intern::{GarbageCollector, Interned, Refusal, laws};
 use std::alloc::{AllocError, Global};
 use std::collections::HashMap;
 
@@ -97,6 +97,7 @@ impl Cache {
         ensures used_up { IsErrOf result Fault.RevisionsUsedUp ↔ (self.old.revision ≡ u64.MAX) }
         ensures otherwise { IsOkUnless result Fault.RevisionsUsedUp }
     {
+        laws::references_are_names::<Key>();
         let _number = self.keys.number();
         self.revision = self.revision.checked_add(1).ok_or(Fault::RevisionsUsedUp)?;
         if let Some(handle) = self.keys.get(&Key::Cell(place)) {
@@ -166,6 +167,7 @@ impl Cache {
             IsMemo sheet self.old.keys self.old.revision (ref_name handle) memo →
             IsCache sheet self.new }
     {
+        laws::references_are_names::<Key>();
         let verified = self.revision;
         let memo = Memo {
             answer,
@@ -253,6 +255,7 @@ impl Cache {
             IsPath sheet self.now.keys root path.now.frames.items top.now.key →
             IfSome result (IsRight sheet key) }
     {
+        laws::references_are_names::<Key>();
         if let Some(answer) = self.current(handle) {
             return Some(answer);
         }

@@ -6,6 +6,7 @@ ghost use Rattle.ra_ap_intern.specs.Named.{same_name};
 
 use crate::key::{Key, KeyRef};
 use crate::value::Value;
+use ra_ap_intern::laws;
 use std::alloc::{AllocError, Global};
 use std::collections::HashSet;
 
@@ -57,6 +58,7 @@ impl Path {
     pub fn push(&mut self, frame: Frame) -> Result<(), AllocError>
         ensures { OnOk result (self.new.frames.items ≡ self.old.frames.items ++ frame ∷ []) }
     {
+        laws::references_are_names::<Key>();
         self.waited.insert(frame.handle)?;
         Ok(self.frames.push(frame)?)
     }
@@ -74,6 +76,7 @@ impl Path {
         ensures { IsTrue result ↔ Any (λ frame. ref_name frame.handle ≡ ref_name handle)
             self.now.frames.items }
     {
+        laws::references_are_names::<Key>();
         self.waited.contains(&handle) && is_among(&self.frames, handle)
     }
 }
@@ -82,6 +85,7 @@ impl Path {
 fn is_among(frames: &[Frame], handle: KeyRef) -> bool
     ensures { IsTrue result ↔ Any (λ frame. ref_name frame.handle ≡ ref_name handle) frames.now }
 {
+    laws::references_are_names::<Key>();
     for frame in frames {
         if frame.handle == handle {
             return true;

@@ -1,9 +1,8 @@
 use Rattle.std.proofs.Common.{sym, ◌∙◌}
 use Rattle.ra_ap_intern.specs.Handle.{ref_name}
-use Rattle.ra_ap_intern.proofs.CallerLemmas.{names_same}
+use Rattle.ra_ap_intern.proofs.CallerLemmas.{handles_tested, names_same}
 use Rattle.queries.specs.Evaluation.{IsRight}
 use Rattle.queries.specs.declared.value.Answer.TheVariants.{Cycle}
-use Rattle.queries.proofs.Equal.{handles_alike}
 use Rattle.queries.proofs.Memos.{fact_there}
 use Rattle.queries.proofs.Paths.{cycle_top, cycle_path}
 use Rattle.queries.proofs.cache.Cache.known.Goals as goal
@@ -19,7 +18,7 @@ returns-clause-right c sheet root is at path =
     c.then_some.ensures (λ waits. elim c.if-eq.branch [
       | then-eq w ↦
           cycle_top sheet _ c.args.top.now c.args.key at c.requires.waits (ref_name c.args.handle)
-          (names_same _ _ (sym (handles_alike c.args.top.now.handle c.args.handle)
+          (names_same _ _ (sym ((handles_tested _ ref_name c.references_are_names.ensures.equal) c.args.top.now.handle c.args.handle)
           ∙ sym w.if-eq.ensures))
           c.requires.stored
       | else-eq w ↦

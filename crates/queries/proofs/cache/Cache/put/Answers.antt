@@ -2,13 +2,12 @@ use Rattle.std.proofs.Common.{Some}
 use Rattle.ra_ap_intern.specs.Handle.{ref_name}
 use Rattle.ra_ap_intern.proofs.CallerLemmas.{names_changed}
 use Rattle.queries.specs.Cache.{memo_now}
-use Rattle.queries.proofs.Equal.{handles_equal}
 use Rattle.queries.proofs.Memos.{memo_put}
 use Rattle.queries.proofs.cache.Cache.put.Goals as goal
 
 pub returns-clause-memos : goal.returns-clause-memos
 returns-clause-memos c =
-    names_changed _ handles_equal c.args.self.now.memos c.insert.new.self
+    names_changed _ c.references_are_names.ensures.equal c.args.self.now.memos c.insert.new.self
     c.args.handle (Some (memo_now c.args.answer c.args.values c.args.self.now.revision))
     c.in_ok-insert.ensures.updates.0
 

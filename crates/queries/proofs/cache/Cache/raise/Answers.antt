@@ -1,9 +1,9 @@
 use Rattle.std.proofs.Common.{◌≡◌, ◌+◌, None, refl, sym, ◌∙◌, rules}
 use Rattle.ra_ap_intern.specs.Handle.{ref_name}
 use Rattle.ra_ap_intern.specs.Named.{same_name}
-use Rattle.ra_ap_intern.proofs.CallerLemmas.{map_changed, same_names}
+use Rattle.ra_ap_intern.proofs.CallerLemmas.{handles_tested, map_changed, same_names}
 use Rattle.queries.specs.declared.key.Key.TheVariants.{Cell}
-use Rattle.queries.proofs.Equal.{handles_alike, keys_alike}
+use Rattle.queries.proofs.Equal.{keys_alike}
 use Rattle.queries.proofs.Memos.{found_one, found_none, memos_edited, none_here, none_elsewhere}
 use Rattle.queries.proofs.cache.Cache.raise.Goals as goal
 
@@ -12,7 +12,7 @@ returns-in-Some-clause-cache c old new is others =
     let keys = c.args.self.now.keys in
     let alike = keys_alike in
     let more : c.in_ok-self.field-0 ≡ c.args.self.now.revision + 1 = search rules in
-    let changed = map_changed _ same_name ref_name handles_alike c.args.self.now.memos
+    let changed = map_changed _ same_name ref_name (handles_tested _ ref_name c.references_are_names.ensures.equal) c.args.self.now.memos
     c.remove.new.self c.in-Some.handle None c.remove.ensures.updates.0 in
     memos_edited old new c.args.place others keys keys c.args.self.now.revision c.in_ok-self.field-0
     c.args.self.now.memos c.remove.new.self refl more is

@@ -4,9 +4,9 @@ use Rattle.std.specs.Prelude.{All, Any}
 use Rattle.ra_ap_intern.specs.Handle.{ref_name}
 use Rattle.ra_ap_intern.specs.Name.{Name}
 use Rattle.ra_ap_intern.specs.Named.{same_name}
+use Rattle.ra_ap_intern.proofs.CallerLemmas.{handles_tested}
 use Rattle.queries.specs.Cache.{Handle}
 use Rattle.queries.specs.declared.path.Frame.{Frame}
-use Rattle.queries.proofs.Equal.{handles_alike}
 use Rattle.queries.proofs.path.Path.has.Goals as goal
 
 -- the handle of a query that waits was noted
@@ -31,6 +31,6 @@ returns-else-contains c = (
       let found = noted c.args.self.now.waited c.args.self.now.frames.items (ref_name c.args.handle)
       c.args.self.now.noted any in
       c.contains.ensures
-      ∙ (λ i. contains_by (λ r. handles_alike c.args.handle r i) c.args.self.now.waited)
+      ∙ (λ i. contains_by (λ r. (handles_tested _ ref_name c.references_are_names.ensures.equal) c.args.handle r i) c.args.self.now.waited)
       ∙ found,
 )

@@ -4,9 +4,9 @@ use Rattle.std.specs.Prelude.{All}
 use Rattle.std.proofs.lemmas.List.Elements.{All-push, All-same, All-weaker}
 use Rattle.ra_ap_intern.specs.Handle.{ref_name}
 use Rattle.ra_ap_intern.specs.Named.{same_name}
+use Rattle.ra_ap_intern.proofs.CallerLemmas.{handles_tested}
 use Rattle.queries.specs.Cache.{Handle}
 use Rattle.queries.specs.declared.path.Frame.{Frame}
-use Rattle.queries.proofs.Equal.{handles_alike}
 use Rattle.queries.proofs.path.Path.push.Goals as goal
 
 true_still : (b x : Bool) → x ≡ true → cond b true x ≡ true
@@ -34,7 +34,7 @@ pub invariant_of-self-2 : goal.invariant_of-self-2
 invariant_of-self-2 c =
     let P : Frame → Type 0 = λ f.
     contains_by (λ r. same_name (ref_name f.handle) (ref_name r)) c.insert.new.self ≡ true in
-    let same = handles_alike in
+    let same = (handles_tested _ ref_name c.references_are_names.ensures.equal) in
     let before : All P c.args.self.now.frames.items =
     All-weaker _ P (noted_more _ same c.args.self.now.waited c.insert.new.self c.args.frame.handle
     c.in_ok-insert.ensures.updates.0) c.args.self.now.frames.items c.args.self.now.noted in
