@@ -11,7 +11,7 @@ use Rattle.ra_ap_intern.specs.Handle.{ref_name}
 use Rattle.ra_ap_intern.specs.Name.{Name}
 use Rattle.ra_ap_intern.specs.Names.{has}
 use Rattle.ra_ap_intern.specs.Reach.{IsReachedSet, starts_with}
-use Rattle.ra_ap_intern.specs.State.{State, reads}
+use Rattle.ra_ap_intern.specs.State.{State}
 use Rattle.ra_ap_intern.specs.Symbols.{Named, same_named, symbol_ref_name}
 use Rattle.ra_ap_intern.specs.Under.{under_symbol}
 use Rattle.ra_ap_intern.specs.declared.gc.Collected.{Collected}

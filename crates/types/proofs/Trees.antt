@@ -4,10 +4,10 @@ use Rattle.std.specs.Option.{option_map}
 use Rattle.std.proofs.lemmas.Option.{same_Some}
 use Rattle.ra_ap_intern.specs.Name.{Name}
 use Rattle.ra_ap_intern.specs.State.{State, reads}
-use Rattle.ra_ap_intern.specs.Tree.{Trees, tree, no_more, one_more, AllUnfold}
+use Rattle.ra_ap_intern.specs.Tree.{Trees, tree, no_more, AllUnfold}
 use Rattle.types.specs.Tree.{Tree, UnfoldsTo}
 use Rattle.types.specs.Types.{Kind, integer, boolean, unknown, any, declared_by, kind_of, open_shape, shape, shape_at}
-use Rattle.types.specs.Unifying.{replaced, all_replaced, placed, either, two}
+use Rattle.types.specs.Unifying.{placed, either, two}
 use Rattle.types.specs.declared.value.TypeNode.{TypeNode}
 use Rattle.types.specs.declared.value.TypeNode.TheVariants.{Integer, Boolean, Unknown, Any, Function', Pair', outs-Integer, outs-Boolean, outs-Unknown, outs-Any, outs-Function', outs-Pair'}
 use Rattle.ra_ap_intern.proofs.CallerLemmas.{one_tree, seen_read, some_read}

@@ -102,6 +102,8 @@ IsNoUnknown s n = (number : ℕ) → shape_at s n ≢ Some (unknown_shape number
 
 -- an error that says of two types that nothing makes them equal
 abbrev pub IsConflict : TypeError → Type 0
+IsConflict (error.Expected what) = ⊥
+IsConflict (error.Unended word) = ⊥
 IsConflict (error.Unbound name) = ⊥
 IsConflict (error.Clash first second) = ⊤
 IsConflict (error.Infinite first second) = ⊤

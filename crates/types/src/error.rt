@@ -12,6 +12,12 @@ use thiserror::Error;
 /// Why a declaration has no type.
 #[derive(Clone, Copy, Debug, Error)]
 pub enum TypeError {
+    /// When a word can't stand where it does: what can.
+    #[error("expected {0}")]
+    Expected(&'static str),
+    /// When what was begun doesn't end: the word that ends it.
+    #[error("expected an operator or {0}")]
+    Unended(&'static str),
     /// When a name is bound neither in the declaration nor by an earlier one.
     #[error("unbound name")]
     Unbound(SymbolRef),
@@ -28,13 +34,16 @@ pub enum TypeError {
     /// When the steps are those of no expression, as the parser makes none.
     #[error("no expression")]
     NoOperand,
-    /// When there was no memory beside the store of types.
+    /// When there was no memory beside the stores of names and of types.
     #[error("out of memory")]
     OutOfMemory(AllocError),
-    /// When the store of types refused one.
+    /// When a store refused a name or a type.
     #[error("out of memory")]
     Refused(#[from] Refusal),
 }
+
+/// What is answered, or why a declaration has no type.
+pub type Result<T, E = TypeError> = std::result::Result<T, E>;
 
 /// Why a declaration has no type, and where.
 #[derive(Clone, Copy)]

@@ -1,10 +1,9 @@
-//! Tokens from text.
-use crate::token::{Operator, Token};
-use ra_ap_intern::{Refusal, SymbolTable};
-use text_run::{Language, Place, Words};
+//! The words of the language.
+use crate::step::{Action, Combination};
+use text_run::Language;
 
-// What the words of the language are.
-struct Functional;
+/// The language, as words are cut from a text.
+pub struct Functional;
 
 impl Language for Functional {
     const COMMENT: char = '#';
@@ -18,49 +17,39 @@ impl Language for Functional {
     }
 }
 
-/// The next token, and where it begins. Behind the last one it is `End` for ever. `Refused` when
-/// there is no memory for a name.
-///
-/// Each name becomes a symbol of the table, and keeps one count in it.
-pub fn next_token(names: &mut SymbolTable, words: &mut Words) -> Result<(Token, Place), Refusal> {
-    let (word, place) = words.next::<Functional>();
-    Ok((token_of(names, word)?, place))
+// The words that are no names, though they begin as names do.
+const KEYWORDS: [&str; 9] = [
+    "let", "rec", "in", "if", "then", "else", "fun", "true", "false",
+];
+
+/// Whether a word is a name.
+pub fn is_name(word: &str) -> bool {
+    word.starts_with(|c: char| c.is_alphabetic() || c == '_') && !KEYWORDS.contains(&word)
 }
 
-// The token that a word is.
-fn token_of(names: &mut SymbolTable, word: &str) -> Result<Token, Refusal> {
-    if let Some(spelling) = SPELLINGS.iter().find(|spelling| spelling.0 == word) {
-        Ok(spelling.1)
-    } else if word.starts_with(|c: char| c.is_alphabetic() || c == '_') {
-        Ok(Token::Name(names.get_or_intern(word)?))
-    } else if word.bytes().all(|byte| byte.is_ascii_digit()) {
-        Ok(Token::Integer)
-    } else {
-        Ok(Token::Bad)
+/// What a number or a truth value is. None where a word is neither.
+pub fn literal(word: &str) -> Option<Action> {
+    match word {
+        "" => None,
+        "true" | "false" => Some(Action::Boolean),
+        _ if word.bytes().all(|byte| byte.is_ascii_digit()) => Some(Action::Integer),
+        _ => None,
     }
 }
 
-// The keywords and signs, as they are written.
-const SPELLINGS: [(&str, Token); 21] = [
-    ("", Token::End),
-    ("let", Token::Let),
-    ("rec", Token::Rec),
-    ("in", Token::In),
-    ("if", Token::If),
-    ("then", Token::Then),
-    ("else", Token::Else),
-    ("fun", Token::Function),
-    ("true", Token::Boolean),
-    ("false", Token::Boolean),
-    ("->", Token::Arrow),
-    ("(", Token::Open),
-    (")", Token::Close),
-    (",", Token::Comma),
-    (";", Token::Semicolon),
-    ("=", Token::Equals),
-    ("==", Token::Operator(Operator::Equal)),
-    ("+", Token::Operator(Operator::Add)),
-    ("-", Token::Operator(Operator::Subtract)),
-    ("*", Token::Operator(Operator::Multiply)),
-    ("<", Token::Operator(Operator::Less)),
-];
+/// How tightly a function binds its argument, tighter than any operator.
+pub const APPLICATION: u8 = 4;
+
+/// How tightly two operands are bound, the greater, the tighter, and what they become, where this
+/// word is between them, or begins the second. None where they aren't.
+pub fn between(word: &str) -> Option<(u8, Combination)> {
+    match word {
+        "<" | "==" => Some((1, Combination::Comparison)),
+        "+" | "-" => Some((2, Combination::Arithmetic)),
+        "*" => Some((3, Combination::Arithmetic)),
+        _ if word == "(" || is_name(word) || literal(word).is_some() => {
+            Some((APPLICATION, Combination::Application))
+        }
+        _ => None,
+    }
+}

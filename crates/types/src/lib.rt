@@ -4,16 +4,14 @@
 mod copy;
 pub mod environment;
 pub mod error;
-pub mod fault;
 pub mod infer;
 pub mod laws;
-pub mod lexer;
+mod lexer;
 pub mod parser;
 mod scope;
 pub mod session;
 pub mod step;
 pub mod store;
-pub mod token;
 mod unify;
 mod unknowns;
 pub mod value;

@@ -1,334 +1,255 @@
 //! Parses declarations into steps.
 ghost use Rattle.std.specs.Prelude.{◌≡◌};
 
-use crate::fault::Fault;
-use crate::lexer::next_token;
-use crate::step::{Action, Binding, Step};
-use crate::token::{Operator, Token};
+use crate::error::{Failure, Result, TypeError};
+use crate::lexer::{APPLICATION, Functional, between, is_name, literal};
+use crate::step::{Action, Combination, Step};
 use ra_ap_intern::{SymbolRef, SymbolTable};
 use std::alloc::{AllocError, Global};
 use text_run::{Place, Words};
 
-/// A declaration: a name, and the steps of what is bound to it.
-#[derive(Drop)]
-pub struct Declaration {
-    pub name: SymbolRef,
-    pub steps: Vec<Step>,
-}
-
-/// What stands up to a semicolon, or up to the end.
-#[derive(Drop)]
-pub enum Parsed {
-    /// A declaration.
-    Declaration(Declaration),
-    /// No declaration, since a token can't stand where it does: its place, and what can.
-    Wrong(Place, &'static str),
-    /// Nothing more.
-    End,
-}
-
-// What comes next.
+// Where something ends that was begun.
 #[derive(Clone, Copy)]
-enum State {
-    Declaration,
-    // The name of a binding, maybe behind `rec`.
-    Name,
-    // The name of a recursive binding.
-    RecursiveName,
-    // The parameters of a binding, up to `=`.
-    Parameters,
-    // The first parameter of a function.
-    FirstParameter,
-    // The others, up to `->`.
-    OtherParameters,
-    Operand,
-    Operator,
-    // Nothing: the name is declared.
-    End(SymbolRef),
-    // Anything, up to the semicolon, since at this place something else stood than this.
-    Wrong(Place, &'static str),
+enum End {
+    // At this word.
+    At(&'static str),
+    // Before what binds less tightly than this, or where what is around it ends.
+    Before(u8),
 }
 
-impl State {
-    // In words.
-    fn text(self) -> &'static str {
-        match self {
-            State::Declaration | State::End(_) | State::Wrong(..) => "a declaration",
-            State::Name | State::RecursiveName | State::FirstParameter => "a name",
-            State::Parameters => "a parameter or =",
-            State::OtherParameters => "a parameter or ->",
-            State::Operand => "an expression",
-            State::Operator => "an operator",
-        }
-    }
-}
-
-// What was begun and isn't ended.
-#[derive(Clone, Copy)]
-enum Frame {
-    // `name = ..`
-    Declaration(Binding),
-    // `let name = ..`
-    Binding(Binding),
-    // `let .. in ..`
-    Scope,
-    // `(..`
-    Parenthesis,
-    // `(.., ..`
-    Pair,
-    // `if ..`
-    Condition,
-    // `if .. then ..`
-    Branch,
-    // `if .. then .. else ..`
-    Alternative,
-    // `fun .. -> ..`
-    Function,
-    // A function, whose argument comes next.
-    Application,
-    // An operator, whose right operand comes next.
-    Operator(Operator),
-}
-
-impl Frame {
-    // The action at the end of what has no end of its own: operators that bind at least so tightly
-    // and, where the strength is 0, functions, scopes and alternatives.
-    fn action_at_end(self, strength: u8) -> Option<Action> {
-        match self {
-            Frame::Operator(operator) if strength <= operator.strength() => {
-                Some(Action::Operate(operator))
-            }
-            Frame::Function if strength == 0 => Some(Action::EndFunction),
-            Frame::Scope if strength == 0 => Some(Action::EndScope),
-            Frame::Alternative if strength == 0 => Some(Action::Branches),
-            _ => None,
-        }
-    }
-
-    // What may come after an operand.
-    fn expected(self) -> &'static str {
-        match self {
-            Frame::Parenthesis | Frame::Pair => "an operator or )",
-            Frame::Binding(_) => "an operator or in",
-            Frame::Condition => "an operator or then",
-            Frame::Branch => "an operator or else",
-            _ => "an operator or ;",
-        }
-    }
-}
-
+// What was begun, and the step at its end, if there is one.
 #[derive(Clone, Copy)]
 struct Begun {
-    frame: Frame,
-    place: Place,
+    end: End,
+    step: Option<Step>,
 }
 
-// What was begun, on a stack of its own, and the steps so far.
+/// Reads declarations, one after the other.
 #[derive(Drop)]
-struct Parser {
+pub struct Parser<'a> {
+    /// The names in the text.
+    pub names: SymbolTable,
+    /// The steps of the last declaration.
+    pub steps: Vec<Step>,
+    // What was begun and isn't ended, the innermost last.
     begun: Vec<Begun>,
-    steps: Vec<Step>,
+    // The next word, where it stands, and the words behind it.
+    word: &'a str,
+    place: Place,
+    words: Words<'a>,
 }
 
-/// The next declaration of a text, whose names are added to the table. `OutOfMemory` or `Refused`
-/// when there is no memory.
-pub fn parse(alloc: Global, names: &mut SymbolTable, words: &mut Words) -> Result<Parsed, Fault> {
-    let mut parser = Parser {
-        begun: Vec::new(alloc),
-        steps: Vec::new(alloc),
-    };
-    let state = parser.run(names, words)?;
-    Ok(match state {
-        State::End(name) => Parsed::Declaration(Declaration {
-            name,
-            steps: parser.steps,
-        }),
-        State::Wrong(place, expected) => Parsed::Wrong(place, expected),
-        _ => Parsed::End,
-    })
-}
-
-impl Parser {
-    // What comes after the semicolon or the end.
-    fn run(&mut self, names: &mut SymbolTable, words: &mut Words) -> Result<State, Fault> {
-        let mut state = State::Declaration;
-        for _ in 0..u64::MAX {
-            let (token, place) = next_token(names, words)?;
-            state = self.take(state, token, place)?;
-            match (state, token) {
-                (State::Declaration, Token::Semicolon) => {}
-                (_, Token::Semicolon | Token::End) => break,
-                _ => {}
-            }
-        }
-        Ok(state)
-    }
-
-    // Takes the next token, and answers what comes after it.
-    fn take(&mut self, state: State, token: Token, place: Place) -> Result<State, AllocError> {
-        match state {
-            State::Operand => self.operand(token, place),
-            State::Operator => self.operator(token, place),
-            State::Wrong(..) => Ok(state),
-            _ => self.head(state, token, place),
+impl<'a> Parser<'a> {
+    /// At the beginning of a text, as if behind a semicolon.
+    pub fn new(alloc: Global, number: u64, text: &'a str) -> Parser<'a> {
+        Parser {
+            names: SymbolTable::new(alloc, number),
+            steps: Vec::new(alloc),
+            begun: Vec::new(alloc),
+            word: ";",
+            place: Place::START,
+            words: Words::new(text, Place::START),
         }
     }
 
-    // Takes a token before the body of a declaration, a binding or a function.
-    fn head(&mut self, state: State, token: Token, place: Place) -> Result<State, AllocError> {
-        if let Token::Name(name) = token {
-            return self.name(state, name, place);
-        }
-        Ok(match (state, token) {
-            (State::Declaration, Token::End | Token::Semicolon) => State::Declaration,
-            (State::Declaration, Token::Let) => State::Name,
-            (State::Declaration | State::Name, Token::Rec) => State::RecursiveName,
-            (State::Parameters, Token::Equals) => State::Operand,
-            (State::OtherParameters, Token::Arrow) => State::Operand,
-            _ => State::Wrong(place, state.text()),
+    /// Reads the steps of the next declaration, and answers the name that it declares. None at the
+    /// end. After an error the next one begins behind the next semicolon.
+    pub fn next(&mut self) -> Result<Option<SymbolRef>, Failure> {
+        self.pass_rest();
+        self.begun.clear();
+        self.steps.clear();
+        self.declaration().map_err(|error| Failure {
+            place: self.place,
+            error,
         })
     }
 
-    // Takes a name there.
-    fn name(&mut self, state: State, name: SymbolRef, place: Place) -> Result<State, AllocError> {
-        match state {
-            State::Declaration | State::Name => self.begin_binding(name, place, false),
-            State::RecursiveName => self.begin_binding(name, place, true),
-            State::Parameters => self.begin_function(name, place, State::Parameters),
-            State::FirstParameter | State::OtherParameters => {
-                self.begin_function(name, place, State::OtherParameters)
+    // Passes what is left of a declaration, and the semicolons behind it.
+    fn pass_rest(&mut self) {
+        let mut has_ended = false;
+        for _ in 0..u64::MAX {
+            has_ended = has_ended || self.word == ";";
+            if self.word.is_empty() || has_ended && self.word != ";" {
+                break;
             }
-            _ => Ok(State::Wrong(place, state.text())),
+            self.advance();
         }
     }
 
-    fn emit(&mut self, action: Action, place: Place) -> Result<(), AllocError>
-        ensures { self.new.begun ≡ self.old.begun }
-    {
+    fn advance(&mut self) {
+        (self.word, self.place) = self.words.next::<Functional>();
+    }
+
+    // Passes this word, if it comes.
+    fn passes(&mut self, word: &str) -> bool {
+        let comes = self.word == word;
+        if comes {
+            self.advance();
+        }
+        comes
+    }
+
+    // The name that comes, where nothing else may.
+    fn name(&mut self, expected: &'static str) -> Result<SymbolRef> {
+        if !is_name(self.word) {
+            return Err(TypeError::Expected(expected));
+        }
+        Ok(self.names.get_or_intern(self.word)?)
+    }
+
+    fn emit(&mut self, action: Action) -> Result<()> {
+        let place = self.place;
         Ok(self.steps.push(Step { action, place })?)
     }
 
-    // Begins what an operand comes next in.
-    fn begin(&mut self, frame: Frame, place: Place) -> Result<State, AllocError> {
-        self.begun.push(Begun { frame, place })?;
-        Ok(State::Operand)
+    fn begin(&mut self, end: End, action: Option<Action>, place: Place) -> Result<()> {
+        let step = action.map(|action| Step { action, place });
+        Ok(self.begun.push(Begun { end, step })?)
     }
 
-    // The outermost binding is the declaration.
-    fn begin_binding(
-        &mut self,
-        name: SymbolRef,
-        place: Place,
-        is_recursive: bool,
-    ) -> Result<State, AllocError> {
-        let binding = Binding { name, is_recursive };
-        let frame = if self.begun.is_empty() {
-            Frame::Declaration(binding)
-        } else {
-            Frame::Binding(binding)
-        };
-        self.begin(frame, place)?;
-        self.emit(Action::BeginBinding(binding), place)?;
-        Ok(State::Parameters)
+    // Begins what has no end of its own.
+    fn begin_open(&mut self, combination: Combination, strength: u8) -> Result<()> {
+        let action = Action::Combine(combination);
+        self.begin(End::Before(strength), Some(action), self.place)
     }
 
-    fn begin_function(
-        &mut self,
-        name: SymbolRef,
-        place: Place,
-        next: State,
-    ) -> Result<State, AllocError> {
-        self.begin(Frame::Function, place)?;
-        self.emit(Action::BeginFunction(name), place)?;
-        Ok(next)
-    }
-
-    fn operand(&mut self, token: Token, place: Place) -> Result<State, AllocError> {
-        match token {
-            Token::Name(name) => self.atom(Action::Variable(name), place),
-            Token::Integer => self.atom(Action::Integer, place),
-            Token::Boolean => self.atom(Action::Boolean, place),
-            Token::Open => self.begin(Frame::Parenthesis, place),
-            Token::If => self.begin(Frame::Condition, place),
-            Token::Let => Ok(State::Name),
-            Token::Function => Ok(State::FirstParameter),
-            _ => Ok(State::Wrong(place, State::Operand.text())),
+    // Takes a declaration up to its semicolon.
+    fn declaration(&mut self) -> Result<Option<SymbolRef>> {
+        if self.word.is_empty() {
+            return Ok(None);
         }
-    }
-
-    fn atom(&mut self, action: Action, place: Place) -> Result<State, AllocError> {
-        self.emit(action, place)?;
-        self.end_atom()
-    }
-
-    // An operand has ended that nothing takes apart: a function before it is applied to it.
-    fn end_atom(&mut self) -> Result<State, AllocError> {
-        if let Some(
-            Begun {
-                frame: Frame::Application,
-                place,
-            },
-        ) = self.begun.last().copied()
-        {
-            self.begun.pop();
-            self.emit(Action::Apply, place)?;
+        if !is_name(self.word) && !matches!(self.word, "let" | "rec") {
+            return Err(TypeError::Expected("a declaration"));
         }
-        Ok(State::Operator)
-    }
-
-    fn operator(&mut self, token: Token, place: Place) -> Result<State, AllocError> {
-        match token {
-            Token::Operator(operator) => {
-                self.end_open(operator.strength())?;
-                self.begin(Frame::Operator(operator), place)
-            }
-            Token::Name(_) | Token::Integer | Token::Boolean | Token::Open => {
-                self.begin(Frame::Application, place)?;
-                self.operand(token, place)
-            }
-            _ => {
-                self.end_open(0)?;
-                self.end(token, place)
-            }
-        }
-    }
-
-    // Ends what has no end of its own.
-    fn end_open(&mut self, strength: u8) -> Result<(), AllocError> {
-        while let Some(Begun { frame, place }) = self.begun.pop() {
-            let Some(action) = frame.action_at_end(strength) else {
-                self.begin(frame, place)?;
+        self.passes("let");
+        let name = self.binding(";")?;
+        let mut is_whole = false;
+        for _ in 0..u64::MAX {
+            if self.begun.is_empty() {
                 break;
+            }
+            is_whole = if is_whole {
+                self.infix()?
+            } else {
+                self.prefix()?
             };
-            self.emit(action, place)?;
+        }
+        Ok(Some(name))
+    }
+
+    // Takes `rec name parameter .. =`. What is bound ends at this word.
+    fn binding(&mut self, end: &'static str) -> Result<SymbolRef> {
+        let is_recursive = self.passes("rec");
+        let name = self.name("a name")?;
+        self.begin(End::At(end), Some(Action::EndBinding(name)), self.place)?;
+        self.emit(Action::BeginBinding)?;
+        if is_recursive {
+            self.parameter(Combination::Recursion, "a name")?;
+        } else {
+            self.advance();
+        }
+        self.parameters("=", "a parameter or =")?;
+        Ok(name)
+    }
+
+    // Takes parameters, and the word behind them.
+    fn parameters(&mut self, end: &str, expected: &'static str) -> Result<()> {
+        for _ in 0..u64::MAX {
+            if self.passes(end) {
+                break;
+            }
+            self.parameter(Combination::Function, expected)?;
         }
         Ok(())
     }
 
-    // Ends, or goes on with, what was begun last.
-    fn end(&mut self, token: Token, place: Place) -> Result<State, AllocError> {
-        let Some(begun) = self.begun.pop() else {
-            return Ok(State::Wrong(place, State::Declaration.text()));
-        };
-        match (begun.frame, token) {
-            (Frame::Declaration(binding), Token::Semicolon) => {
-                self.emit(Action::EndBinding(binding), begun.place)?;
-                Ok(State::End(binding.name))
-            }
-            (Frame::Binding(binding), Token::In) => {
-                self.emit(Action::EndBinding(binding), begun.place)?;
-                self.emit(Action::BeginScope(binding.name), begun.place)?;
-                self.begin(Frame::Scope, place)
-            }
-            (Frame::Parenthesis, Token::Comma) => self.begin(Frame::Pair, begun.place),
-            (Frame::Parenthesis, Token::Close) => self.end_atom(),
-            (Frame::Pair, Token::Close) => self.atom(Action::Pair, begun.place),
-            (Frame::Condition, Token::Then) => {
-                self.emit(Action::Condition, begun.place)?;
-                self.begin(Frame::Branch, begun.place)
-            }
-            (Frame::Branch, Token::Else) => self.begin(Frame::Alternative, place),
-            (frame, _) => Ok(State::Wrong(place, frame.expected())),
+    // Takes a name that stands for one type in what it begins.
+    fn parameter(&mut self, begins: Combination, expected: &'static str) -> Result<()> {
+        let name = self.name(expected)?;
+        self.begin_open(begins, 0)?;
+        self.emit(Action::BeginFunction(name))?;
+        self.advance();
+        Ok(())
+    }
+
+    // Takes what an operand begins with. Whether that is the whole operand.
+    fn prefix(&mut self) -> Result<bool> {
+        let place = self.place;
+        if self.passes("(") {
+            self.begin(End::At(")"), None, place)?;
+        } else if self.passes("if") {
+            self.begin(End::At("then"), Some(Action::Condition), place)?;
+        } else if self.passes("let") {
+            self.binding("in")?;
+        } else if self.passes("fun") {
+            self.parameter(Combination::Function, "a name")?;
+            self.parameters("->", "a parameter or ->")?;
+        } else {
+            let action = match literal(self.word) {
+                Some(action) => action,
+                None => Action::Variable(self.name("an expression")?),
+            };
+            self.emit(action)?;
+            self.advance();
+            return Ok(true);
         }
+        Ok(false)
+    }
+
+    // Takes what stands behind an operand. Whether an operand is whole then.
+    fn infix(&mut self) -> Result<bool> {
+        let Some((strength, combination)) = between(self.word) else {
+            self.end_open(0)?;
+            return self.end();
+        };
+        self.end_open(strength)?;
+        self.begin_open(combination, strength)?;
+        // An argument begins with the word that tells that it comes.
+        if strength < APPLICATION {
+            self.advance();
+        }
+        Ok(false)
+    }
+
+    // Ends what has no end of its own, and binds at least so tightly.
+    fn end_open(&mut self, strength: u8) -> Result<()> {
+        let ends = |begun: &mut Begun| matches!(begun.end, End::Before(own) if strength <= own);
+        while let Some(begun) = self.begun.pop_if(ends) {
+            if let Some(step) = begun.step {
+                self.steps.push(step)?;
+            }
+        }
+        Ok(())
+    }
+
+    // Ends, or goes on with, what was begun last. Whether it is a whole operand.
+    fn end(&mut self) -> Result<bool> {
+        let Some(
+            Begun {
+                end: End::At(end),
+                step,
+            },
+        ) = self.begun.pop()
+        else {
+            return Err(TypeError::NoOperand);
+        };
+        let word = self.word;
+        if word == "," && end == ")" && step.is_none() {
+            let action = Action::Combine(Combination::Pair);
+            self.begin(End::At(")"), Some(action), self.place)?;
+        } else if word != end {
+            return Err(TypeError::Unended(end));
+        } else if let Some(step) = step {
+            self.steps.push(step)?;
+        }
+        match word {
+            ";" => return Ok(true),
+            "in" => self.begin_open(Combination::Scope, 0)?,
+            "then" => self.begin(End::At("else"), None, self.place)?,
+            "else" => self.begin_open(Combination::Branches, 0)?,
+            _ => {}
+        }
+        self.advance();
+        Ok(word == ")")
     }
 }

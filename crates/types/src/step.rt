@@ -1,5 +1,4 @@
 //! Expressions as steps: operands before what takes them.
-use crate::token::Operator;
 use ra_ap_intern::SymbolRef;
 use text_run::Place;
 
@@ -12,35 +11,39 @@ pub enum Action {
     Boolean,
     /// What a name stands for is an operand.
     Variable(SymbolRef),
-    /// A function's body begins, in which its parameter has a name.
+    /// A name stands for one type, which isn't known yet, and is an operand: that of a parameter,
+    /// or of what is bound to the name and speaks of it.
     BeginFunction(SymbolRef),
-    /// The body ends: the function is the operand.
-    EndFunction,
-    /// A function and its argument become what it answers.
-    Apply,
-    /// Two operands become what an operator makes of them.
-    Operate(Operator),
-    /// Two operands become a pair.
-    Pair,
     /// An operand was a condition.
     Condition,
-    /// Two operands were the branches of a condition, and become one.
-    Branches,
     /// What is bound to a name begins.
-    BeginBinding(Binding),
-    /// What is bound to a name ends: it is the operand.
-    EndBinding(Binding),
-    /// The scope of a name begins, which stands for the operand.
-    BeginScope(SymbolRef),
-    /// The scope of the innermost binding ends.
-    EndScope,
+    BeginBinding,
+    /// What is bound to a name ends. It is an operand, and the name stands for it.
+    EndBinding(SymbolRef),
+    /// Two operands become one.
+    Combine(Combination),
 }
 
-/// A name that is bound, and whether what is bound to it speaks of it.
+/// What two operands become.
 #[derive(Clone, Copy)]
-pub struct Binding {
-    pub name: SymbolRef,
-    pub is_recursive: bool,
+pub enum Combination {
+    /// A parameter and the body: the function. The scope of the parameter ends.
+    Function,
+    /// What a name stood for in what is bound to it, and that: the latter. The scope of the name
+    /// within it ends.
+    Recursion,
+    /// What is bound to a name, and what is in its scope: the latter. The scope ends.
+    Scope,
+    /// A function and its argument: what it answers.
+    Application,
+    /// Two integers: an integer.
+    Arithmetic,
+    /// Two integers: a truth value.
+    Comparison,
+    /// The pair.
+    Pair,
+    /// The branches of a condition: one of them.
+    Branches,
 }
 
 /// An action at the place that its errors are told at.

@@ -57,6 +57,11 @@ impl Types {
         self.types.number()
     }
 
+    /// What the store takes its memory from.
+    pub fn allocator(&self) -> Global {
+        self.alloc
+    }
+
     /// The functions from a type to another.
     pub fn function(&mut self, from: TypeRef, to: TypeRef) -> Result<TypeRef, Refusal>
         ensures { Makes ⟦<TypeNode as PartialEq>⟧.eq shape result self.old self.new
@@ -93,7 +98,6 @@ impl Types {
     /// A type as it is written.
     pub fn written(&self, handle: TypeRef) -> Written<'_> {
         Written {
-            alloc: self.alloc,
             types: self,
             handle,
         }

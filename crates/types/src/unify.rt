@@ -7,13 +7,12 @@ ghost use Rattle.types.specs.Founded.{AreOver, AreResolved, StaysFounded, known_
 ghost use Rattle.types.specs.Types.{shape_at, unknown_shape};
 ghost use Rattle.types.specs.Unifying.{AreApart, Binds, HasTree, HaveNoUnifier, HaveParts, IsConflict, IsNever, IsNoUnknown, IsRefusal, IsSolvable, Unifies, two};
 
-use crate::error::TypeError;
+use crate::error::{Result, TypeError};
 use crate::laws::types_are_their_shapes;
 use crate::store::Types;
 use crate::unknowns::{Unknowns, number_of};
 use crate::value::{TypeNode, TypeRef};
 use ra_ap_intern::{FixedState, laws};
-use std::alloc::Global;
 use std::collections::HashSet;
 use std::hash::BuildHasher;
 
@@ -21,13 +20,7 @@ use std::hash::BuildHasher;
 /// general unifier. Refused: `Clash` or `Infinite` where there is none, `OutOfMemory`, and `TooLarge`
 /// only where an unknown type was never added or is known to be itself for ever; some unknown types
 /// may have become others then. Pairs that were met are not looked into again.
-pub fn unify(
-    alloc: Global,
-    types: &Types,
-    unknowns: &mut Unknowns,
-    left: TypeRef,
-    right: TypeRef,
-) -> Result<(), TypeError>
+pub fn unify(types: &Types, unknowns: &mut Unknowns, left: TypeRef, right: TypeRef) -> Result<()>
     // What unknown types may be is what they could be, and by which the two types are one tree.
     ensures unifies { OnOk result (Unifies types.now unknowns.old unknowns.new
         (ref_name left) (ref_name right)) }
@@ -46,8 +39,8 @@ pub fn unify(
         StaysFounded types.now (known_types unknowns.old) (known_types unknowns.new)) }
 {
     laws::references_are_names::<TypeNode>();
-    let mut open = Vec::new(alloc);
-    let mut met = HashSet::new(alloc);
+    let mut open = Vec::new(types.allocator());
+    let mut met = HashSet::new(types.allocator());
     open.push((left, right))?;
     while let Some((first, second)) = open.pop() {
         let first = unknowns.resolve(types, first);
@@ -55,7 +48,7 @@ pub fn unify(
         if first == second || !met.insert((first, second))? {
             continue;
         }
-        if bind_one(alloc, types, unknowns, first, second)? {
+        if bind_one(types, unknowns, first, second)? {
             continue;
         }
         let Some(((a, b), (c, d))) = parts(types, first, second) else {
@@ -109,13 +102,7 @@ pub fn parts_of(types: &Types, handle: TypeRef) -> Option<(bool, TypeRef, TypeRe
 }
 
 // Where one of two types is unknown, it becomes the other. Whether one is.
-fn bind_one(
-    alloc: Global,
-    types: &Types,
-    unknowns: &mut Unknowns,
-    first: TypeRef,
-    second: TypeRef,
-) -> Result<bool, TypeError>
+fn bind_one(types: &Types, unknowns: &mut Unknowns, first: TypeRef, second: TypeRef) -> Result<bool>
     requires { ref_name first ≢ ref_name second }
     ensures bound { IfOk result (λ bound. OnTrue bound
         (Unifies types.now unknowns.old unknowns.new (ref_name first) (ref_name second))) }
@@ -136,12 +123,12 @@ fn bind_one(
     let number = number_of(types, first);
     if let Some(other) = number_of(types, second) {
         if gives_way(other, number) {
-            bind(alloc, types, unknowns, (other, second), first)?;
+            bind(types, unknowns, (other, second), first)?;
             return Ok(true);
         }
     }
     if let Some(number) = number {
-        bind(alloc, types, unknowns, (number, first), second)?;
+        bind(types, unknowns, (number, first), second)?;
         return Ok(true);
     }
     Ok(false)
@@ -167,12 +154,11 @@ fn lot(number: u64) -> u64 {
 // An unknown type, which has a number, becomes another type that it is no part of, whose unknown
 // types then belong to its level.
 fn bind(
-    alloc: Global,
     types: &Types,
     unknowns: &mut Unknowns,
     unknown: (u64, TypeRef),
     handle: TypeRef,
-) -> Result<(), TypeError>
+) -> Result<()>
     requires unknown { shape_at types.now (ref_name unknown.1) ≡ Some (unknown_shape unknown.0) }
     requires other { ref_name unknown.1 ≢ ref_name handle }
     ensures binds { OnOk result (Binds types.now unknowns.old unknowns.new unknown.0
@@ -196,8 +182,8 @@ fn bind(
     let Some(level) = unknowns.level(number) else {
         return Err(TypeError::TooLarge);
     };
-    let mut open = Vec::new(alloc);
-    let mut met = HashSet::new(alloc);
+    let mut open = Vec::new(types.allocator());
+    let mut met = HashSet::new(types.allocator());
     open.push(handle)?;
     while let Some(part) = open.pop() {
         if part == unknown {

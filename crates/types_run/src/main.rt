@@ -8,17 +8,17 @@ mod tests;
 use std::alloc::Global;
 use std::process::ExitCode;
 use text_run::{Program, run};
-use types::fault::Fault;
+use types::error::TypeError;
 use types::session::answer_all;
 
 struct Types;
 
 impl Program for Types {
-    type Fault = Fault;
+    type Fault = TypeError;
 
     const NAME: &'static str = "types";
 
-    fn answers(alloc: Global, text: &str) -> Result<String, Fault> {
+    fn answers(alloc: Global, text: &str) -> Result<String, TypeError> {
         answer_all(alloc, text)
     }
 }

@@ -1,4 +1,4 @@
-use Rattle.std.proofs.Common.{◌≡◌, ◌+◌, ◌∙◌, [], ◌∷◌, ◌++◌, length, slice_get, slice_set, Some, None, IsSome, inl, inr, refl, sym, ap, subst, rules, arith}
+use Rattle.std.proofs.Common.{◌≡◌, ◌∙◌, [], ◌∷◌, ◌++◌, length, slice_get, slice_set, Some, None, IsSome, inl, inr, refl, sym, ap, subst, rules, arith}
 use Rattle.std.specs.Bool.{OnFalse}
 use Rattle.std.proofs.lemmas.List.{length-append}
 use Rattle.ra_ap_intern.specs.Handle.{ref_name}
