@@ -8,20 +8,13 @@ use ra_ap_intern::{SymbolRef, SymbolTable};
 use std::alloc::{AllocError, Global};
 use text_run::{Place, Words};
 
-// Where something ends that was begun.
+// What was begun and isn't ended, with the step at its end.
 #[derive(Clone, Copy)]
-enum End {
-    // At this word.
-    At(&'static str),
-    // Before what binds less tightly than this, or where what is around it ends.
-    Before(u8),
-}
-
-// What was begun, and the step at its end, if there is one.
-#[derive(Clone, Copy)]
-struct Begun {
-    end: End,
-    step: Option<Step>,
+enum Begun {
+    // What ends at this word. Not each has a step.
+    Until(&'static str, Option<Step>),
+    // What ends before what binds less tightly than this, or where what is around it ends.
+    Open(u8, Step),
 }
 
 /// Reads declarations, one after the other.
@@ -31,7 +24,7 @@ pub struct Parser<'a> {
     pub names: SymbolTable,
     /// The steps of the last declaration.
     pub steps: Vec<Step>,
-    // What was begun and isn't ended, the innermost last.
+    // The innermost last.
     begun: Vec<Begun>,
     // The next word, where it stands, and the words behind it.
     word: &'a str,
@@ -58,10 +51,9 @@ impl<'a> Parser<'a> {
         self.pass_rest();
         self.begun.clear();
         self.steps.clear();
-        self.declaration().map_err(|error| Failure {
-            place: self.place,
-            error,
-        })
+        let declared = self.declaration();
+        let place = self.place;
+        declared.map_err(|error| Failure { place, error })
     }
 
     // Passes what is left of a declaration, and the semicolons behind it.
@@ -97,20 +89,21 @@ impl<'a> Parser<'a> {
         Ok(self.names.get_or_intern(self.word)?)
     }
 
-    fn emit(&mut self, action: Action) -> Result<()> {
+    // An action at the next word.
+    fn step(&self, action: Action) -> Step {
         let place = self.place;
-        Ok(self.steps.push(Step { action, place })?)
+        Step { action, place }
     }
 
-    fn begin(&mut self, end: End, action: Option<Action>, place: Place) -> Result<()> {
-        let step = action.map(|action| Step { action, place });
-        Ok(self.begun.push(Begun { end, step })?)
+    fn emit(&mut self, action: Action) -> Result<()> {
+        let step = self.step(action);
+        Ok(self.steps.push(step)?)
     }
 
     // Begins what has no end of its own.
-    fn begin_open(&mut self, combination: Combination, strength: u8) -> Result<()> {
-        let action = Action::Combine(combination);
-        self.begin(End::Before(strength), Some(action), self.place)
+    fn open(&mut self, strength: u8, combination: Combination) -> Result<()> {
+        let step = self.step(Action::Combine(combination));
+        Ok(self.begun.push(Begun::Open(strength, step))?)
     }
 
     // Takes a declaration up to its semicolon.
@@ -123,16 +116,12 @@ impl<'a> Parser<'a> {
         }
         self.passes("let");
         let name = self.binding(";")?;
-        let mut is_whole = false;
+        let mut whole = false;
         for _ in 0..u64::MAX {
             if self.begun.is_empty() {
                 break;
             }
-            is_whole = if is_whole {
-                self.infix()?
-            } else {
-                self.prefix()?
-            };
+            whole = if whole { self.infix()? } else { self.prefix()? };
         }
         Ok(Some(name))
     }
@@ -141,7 +130,8 @@ impl<'a> Parser<'a> {
     fn binding(&mut self, end: &'static str) -> Result<SymbolRef> {
         let is_recursive = self.passes("rec");
         let name = self.name("a name")?;
-        self.begin(End::At(end), Some(Action::EndBinding(name)), self.place)?;
+        let step = self.step(Action::EndBinding(name));
+        self.begun.push(Begun::Until(end, Some(step)))?;
         self.emit(Action::BeginBinding)?;
         if is_recursive {
             self.parameter(Combination::Recursion, "a name")?;
@@ -166,7 +156,7 @@ impl<'a> Parser<'a> {
     // Takes a name that stands for one type in what it begins.
     fn parameter(&mut self, begins: Combination, expected: &'static str) -> Result<()> {
         let name = self.name(expected)?;
-        self.begin_open(begins, 0)?;
+        self.open(0, begins)?;
         self.emit(Action::BeginFunction(name))?;
         self.advance();
         Ok(())
@@ -176,9 +166,11 @@ impl<'a> Parser<'a> {
     fn prefix(&mut self) -> Result<bool> {
         let place = self.place;
         if self.passes("(") {
-            self.begin(End::At(")"), None, place)?;
+            self.begun.push(Begun::Until(")", None))?;
         } else if self.passes("if") {
-            self.begin(End::At("then"), Some(Action::Condition), place)?;
+            let action = Action::Condition;
+            self.begun
+                .push(Begun::Until("then", Some(Step { action, place })))?;
         } else if self.passes("let") {
             self.binding("in")?;
         } else if self.passes("fun") {
@@ -203,7 +195,7 @@ impl<'a> Parser<'a> {
             return self.end();
         };
         self.end_open(strength)?;
-        self.begin_open(combination, strength)?;
+        self.open(strength, combination)?;
         // An argument begins with the word that tells that it comes.
         if strength < APPLICATION {
             self.advance();
@@ -213,30 +205,22 @@ impl<'a> Parser<'a> {
 
     // Ends what has no end of its own, and binds at least so tightly.
     fn end_open(&mut self, strength: u8) -> Result<()> {
-        let ends = |begun: &mut Begun| matches!(begun.end, End::Before(own) if strength <= own);
-        while let Some(begun) = self.begun.pop_if(ends) {
-            if let Some(step) = begun.step {
-                self.steps.push(step)?;
-            }
+        let ends = |begun: &mut Begun| matches!(*begun, Begun::Open(own, _) if strength <= own);
+        while let Some(Begun::Open(_, step)) = self.begun.pop_if(ends) {
+            self.steps.push(step)?;
         }
         Ok(())
     }
 
     // Ends, or goes on with, what was begun last. Whether it is a whole operand.
     fn end(&mut self) -> Result<bool> {
-        let Some(
-            Begun {
-                end: End::At(end),
-                step,
-            },
-        ) = self.begun.pop()
-        else {
+        let Some(Begun::Until(end, step)) = self.begun.pop() else {
             return Err(TypeError::NoOperand);
         };
         let word = self.word;
         if word == "," && end == ")" && step.is_none() {
-            let action = Action::Combine(Combination::Pair);
-            self.begin(End::At(")"), Some(action), self.place)?;
+            let step = self.step(Action::Combine(Combination::Pair));
+            self.begun.push(Begun::Until(")", Some(step)))?;
         } else if word != end {
             return Err(TypeError::Unended(end));
         } else if let Some(step) = step {
@@ -244,9 +228,9 @@ impl<'a> Parser<'a> {
         }
         match word {
             ";" => return Ok(true),
-            "in" => self.begin_open(Combination::Scope, 0)?,
-            "then" => self.begin(End::At("else"), None, self.place)?,
-            "else" => self.begin_open(Combination::Branches, 0)?,
+            "in" => self.open(0, Combination::Scope)?,
+            "then" => self.begun.push(Begun::Until("else", None))?,
+            "else" => self.open(0, Combination::Branches)?,
             _ => {}
         }
         self.advance();

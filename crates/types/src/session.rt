@@ -60,10 +60,11 @@ impl Session<'_> {
         self.collect(0)?;
         let names = self.inference.environment.declared.len();
         let (kept, removed) = (self.kept, self.removed);
-        Ok(write!(
+        write!(
             self.out,
             "{names} names, {kept} types, {removed} types removed\n"
-        )?)
+        )?;
+        Ok(())
     }
 
     // fst : 'a * 'b -> 'a; snd : 'a * 'b -> 'b

@@ -60,12 +60,11 @@ pub fn unify(types: &Types, unknowns: &mut Unknowns, left: TypeRef, right: TypeR
     Ok(())
 }
 
+// The two parts of a type.
+type Parts = (TypeRef, TypeRef);
+
 // The parts of two types of one kind. Others are no one type, where both are known.
-fn parts(
-    types: &Types,
-    first: TypeRef,
-    second: TypeRef,
-) -> Option<((TypeRef, TypeRef), (TypeRef, TypeRef))>
+fn parts(types: &Types, first: TypeRef, second: TypeRef) -> Option<(Parts, Parts)>
     ensures parts { IfSome result (λ r. HaveParts types.now (ref_name first) (ref_name second)
         (ref_name r.0.0) (ref_name r.0.1) (ref_name r.1.0) (ref_name r.1.1)) }
     ensures none { IfNone result (ref_name first ≢ ref_name second →
@@ -75,12 +74,8 @@ fn parts(
     // What these say is used here: that no two types are equal, and what types are.
     types_are_their_shapes();
     let _number = types.number();
-    let Some((kind, a, b)) = parts_of(types, first) else {
-        return None;
-    };
-    let Some((other, c, d)) = parts_of(types, second) else {
-        return None;
-    };
+    let (kind, a, b) = parts_of(types, first)?;
+    let (other, c, d) = parts_of(types, second)?;
     if kind != other {
         return None;
     }
@@ -140,10 +135,7 @@ fn bind_one(types: &Types, unknowns: &mut Unknowns, first: TypeRef, second: Type
 fn gives_way(number: u64, other: Option<u64>) -> bool
     ensures { IsNone other → IsTrue result }
 {
-    match other {
-        Some(other) => lot(number) < lot(other),
-        None => true,
-    }
+    other.is_none_or(|other| lot(number) < lot(other))
 }
 
 // Another number for each, in no order that a text has.
@@ -151,14 +143,12 @@ fn lot(number: u64) -> u64 {
     FixedState::new().hash_one(number)
 }
 
-// An unknown type, which has a number, becomes another type that it is no part of, whose unknown
-// types then belong to its level.
-fn bind(
-    types: &Types,
-    unknowns: &mut Unknowns,
-    unknown: (u64, TypeRef),
-    handle: TypeRef,
-) -> Result<()>
+// An unknown type, and its number.
+type Unknown = (u64, TypeRef);
+
+// An unknown type becomes another type that it is no part of, whose unknown types then belong to
+// its level.
+fn bind(types: &Types, unknowns: &mut Unknowns, unknown: Unknown, handle: TypeRef) -> Result<()>
     requires unknown { shape_at types.now (ref_name unknown.1) ≡ Some (unknown_shape unknown.0) }
     requires other { ref_name unknown.1 ≢ ref_name handle }
     ensures binds { OnOk result (Binds types.now unknowns.old unknowns.new unknown.0
