@@ -4,8 +4,8 @@
 #[cfg(test)]
 mod tests;
 
+use rules::answers::answer_all;
 use rules::fault::Fault;
-use rules::run::answer_all;
 use std::alloc::Global;
 use std::process::ExitCode;
 use text_run::{Program, run};

@@ -1,8 +1,7 @@
 //! Which atoms a new fact is looked at by.
-use ra_ap_intern::SymbolTable;
+use rules::check::Program;
 use rules::fault::Fault;
 use rules::readers::Readers;
-use rules::run::read_program;
 use std::process::Abort;
 
 // These are the readers of the head of the rule of a number, by number and place.
@@ -10,9 +9,8 @@ const READERS: [&[(usize, usize)]; 3] = [&[(0, 0), (0, 2), (2, 1)], &[(1, 0)], &
 
 #[test]
 fn each_predicate_has_the_atoms_that_read_it(rt: HostRuntime) -> Result<(), Fault> {
-    let mut names = SymbolTable::new(rt.alloc(), 0);
     let text = "p(X) :- p(X), e(X), p(X). q(X) :- q(X), not r(X). r(X) :- e(X), p(X).";
-    let program = read_program(rt.alloc(), text, &mut names)?;
+    let program = Program::read(rt.alloc(), text)?;
     let readers = Readers::find(rt.alloc(), &program.rules)?;
     for (rule, wanted) in program.rules.iter().zip(READERS) {
         let found = readers.of(rule.head.predicate);
