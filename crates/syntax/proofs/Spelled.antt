@@ -1,9 +1,10 @@
 -- What pieces spell.
-use Rattle.std.proofs.Common.{◌≡◌, ℕ, ◌+◌, ◌*◌, ◌≤◌, Bool, true, false, cond, List, [], ◌∷◌, ◌++◌, map, reverse, length, ◌==◌, arith, Option, Some, refl, sym, ap, subst, ◌∙◌, add-one, append_assoc}
+use Rattle.std.proofs.Common.{◌≡◌, ℕ, ◌+◌, ◌*◌, ◌≤◌, Bool, true, false, cond, List, [], ◌∷◌, ◌++◌, map, reverse, length, get_or, arith, Option, Some, None, refl, sym, ap, subst, ◌∙◌, add-one, append_assoc}
 use Rattle.std.specs.Option.{option_map}
+use Rattle.std.proofs.lemmas.Option.{same_Some}
 use Rattle.std.proofs.lemmas.List.{append-nil, length-append, reverse-append, map-append}
 use Rattle.intern_terms.specs.Handle.{term_name}
-use Rattle.intern_terms.specs.Tree.{Tree, Trees, tree, no_more, one_more, UnfoldsTo}
+use Rattle.intern_terms.specs.Tree.{Tree, Trees, tree, no_more, one_more, count, UnfoldsTo}
 use Rattle.intern_terms.specs.declared.handle.TermRef.{TermRef}
 use Rattle.ra_ap_intern.specs.Name.{Name}
 use Rattle.ra_ap_intern.specs.State.{reads}
@@ -11,10 +12,10 @@ use Rattle.ra_ap_intern.specs.Symbols.{Named, same_named, symbol_name, symbol_re
 use Rattle.ra_ap_intern.specs.declared.symbol.Symbol.{Symbol}
 use Rattle.ra_ap_intern.specs.declared.symbol.SymbolRef.{SymbolRef}
 use Rattle.ra_ap_intern.specs.declared.symbol.symbols.TheConstants as constant
-use Rattle.syntax.specs.Lexeme.{Lexeme, lexeme, call, mark, between, operator_of}
+use Rattle.syntax.specs.Lexeme.{Lexeme, lexeme, atom, call, mark, between, operator_of}
 use Rattle.syntax.specs.Parsing.{Store, Stand}
 use Rattle.syntax.specs.Pieces.{Spell, Lay, Prints, comma_pieces, tokens_among}
-use Rattle.syntax.specs.Printing.{arguments, called_with, two_parts, conditional, local, three_parts, written, tokens_of, tokens_of_each, definition, item_mark, name_or_call, defined_tokens}
+use Rattle.syntax.specs.Printing.{arguments, called_with, two_parts, conditional, local, keywords, three_parts, written, tokens_of, tokens_of_each, definition, item_mark, name_or_call, defined_tokens}
 use Rattle.syntax.specs.declared.printer.Piece.{Piece}
 use Rattle.syntax.specs.declared.printer.Piece.TheVariants as piece
 use Rattle.syntax.specs.declared.token.Mark.{Mark}
@@ -22,18 +23,44 @@ use Rattle.syntax.specs.declared.token.Mark.TheVariants.{Open, Close, If, Then, 
 use Rattle.syntax.specs.declared.token.Operator.{Operator}
 use Rattle.syntax.specs.declared.token.Token.{Token}
 use Rattle.syntax.specs.declared.token.Token.TheVariants as token
-use Rattle.intern_terms.proofs.CallerTerms.{tree_head, tree_arguments}
+use Rattle.intern_terms.proofs.CallerTerms.{tree_head, tree_arguments, forest_length}
 
 abbrev pub marked : Mark → Piece
 marked m = piece.Token (token.Mark m)
 
-pub three_called : (head : Named) → same_named head (symbol_name constant.then) ≡ false
-    → same_named head (symbol_name constant.let_) ≡ false → (a b c : List Lexeme)
+-- keywords, and what three parts are written as, by whether their head is that of `if`, or of `let`
+abbrev keywords_as : Bool → Bool → Option (Mark × Mark × Mark)
+keywords_as one other = cond one (Some (If, Then, Else)) (cond other (Some (Let, Equals, In)) None)
+
+abbrev three_as : Bool → Bool → Named → List Lexeme → List Lexeme → List Lexeme → List Lexeme
+three_as one other head a b c = cond one (conditional a b c)
+    (cond other (local a b c) (called_with head a (b ∷ c ∷ [])))
+
+three_called : (head : Named) → keywords head ≡ None → (a b c : List Lexeme)
     → three_parts head a b c ≡ called_with head a (b ∷ c ∷ [])
-three_called head isnt nor a b c =
-    ap (λ x. cond x (conditional a b c) (cond (same_named head (symbol_name constant.let_))
-    (local a b c) (called_with head a (b ∷ c ∷ [])))) isnt
-    ∙ ap (λ x. cond x (local a b c) (called_with head a (b ∷ c ∷ []))) nor
+three_called head none a b c =
+    go (same_named head (symbol_name constant.then)) (same_named head (symbol_name constant.let_)) none
+  where
+    go : (one other : Bool) → keywords_as one other ≡ None
+        → three_as one other head a b c ≡ called_with head a (b ∷ c ∷ [])
+    go true other none = absurd (cc)
+    go false true none = absurd (cc)
+    go false false none = refl
+
+two_are : (parts : List TermRef) (d : TermRef) → length parts ≡ 2
+    → parts ≡ get_or parts 0 d ∷ get_or parts 1 d ∷ []
+two_are [] d two = absurd (omega arith)
+two_are (l ∷ []) d two = absurd (omega arith)
+two_are (l ∷ r ∷ []) d two = refl
+two_are (l ∷ r ∷ x ∷ more) d two = absurd (omega arith)
+
+three_are : (parts : List TermRef) (d : TermRef) → length parts ≡ 3
+    → parts ≡ get_or parts 0 d ∷ get_or parts 1 d ∷ get_or parts 2 d ∷ []
+three_are [] d three = absurd (omega arith)
+three_are (l ∷ []) d three = absurd (omega arith)
+three_are (l ∷ m ∷ []) d three = absurd (omega arith)
+three_are (l ∷ m ∷ r ∷ []) d three = refl
+three_are (l ∷ m ∷ r ∷ x ∷ more) d three = absurd (omega arith)
 
 tokens_more : (ps qs : List Piece) → tokens_among qs ≤ tokens_among (ps ++ qs)
 tokens_more [] qs = let same : tokens_among ([] ++ qs) ≡ tokens_among qs = refl in omega arith
@@ -152,38 +179,82 @@ module _ (s : Store) where
       ) in
       subst Q (sym whole) spelled
 
-  pub spelled_conditional : (head : Named) → same_named head (symbol_name constant.then) ≡ true
-      → (a b c : TermRef) (t u v : Tree) → UnfoldsTo s (term_name a) t
-      → UnfoldsTo s (term_name b) u → UnfoldsTo s (term_name c) v → (items : List Piece)
-      → items ≡ marked Open ∷ marked If ∷ piece.Tree a ∷ marked Then ∷ piece.Tree b
-      ∷ marked Else ∷ piece.Tree c ∷ marked Close ∷ []
+  pub spelled_keywords : (head : Named) (first second third : Mark)
+      → keywords head ≡ Some (first, second, third) → (a b c : TermRef) (t u v : Tree)
+      → UnfoldsTo s (term_name a) t → UnfoldsTo s (term_name b) u → UnfoldsTo s (term_name c) v
+      → (items : List Piece)
+      → items ≡ marked Open ∷ marked first ∷ piece.Tree a ∷ marked second ∷ piece.Tree b
+      ∷ marked third ∷ piece.Tree c ∷ marked Close ∷ []
       → Lay s items (three_parts head (tokens_of t) (tokens_of u) (tokens_of v))
-  spelled_conditional head is a b c t u v one two three items whole =
-      let P : Bool → Type 0 = λ x. Lay s items
-      (cond x (conditional (tokens_of t) (tokens_of u) (tokens_of v))
-      (cond (same_named head (symbol_name constant.let_))
-      (local (tokens_of t) (tokens_of u) (tokens_of v))
-      (called_with head (tokens_of t) (tokens_of u ∷ tokens_of v ∷ [])))) in
-      subst P (sym is) (spelled_three a b c t u v one two three If Then Else items whole)
+  spelled_keywords head first second third is a b c t u v one two three items whole =
+      go (same_named head (symbol_name constant.then)) (same_named head (symbol_name constant.let_)) is
+    where
+      P : Mark × Mark × Mark → Type 0
+      P k = Lay s items (framed k.0 k.1 k.2 t u v)
 
-  pub spelled_local : (head : Named) → same_named head (symbol_name constant.then) ≡ false
-      → same_named head (symbol_name constant.let_) ≡ true
-      → (a b c : TermRef) (t u v : Tree) → UnfoldsTo s (term_name a) t
-      → UnfoldsTo s (term_name b) u → UnfoldsTo s (term_name c) v → (items : List Piece)
-      → items ≡ marked Open ∷ marked Let ∷ piece.Tree a ∷ marked Equals ∷ piece.Tree b
-      ∷ marked In ∷ piece.Tree c ∷ marked Close ∷ []
-      → Lay s items (three_parts head (tokens_of t) (tokens_of u) (tokens_of v))
-  spelled_local head isnt is a b c t u v one two three items whole =
-      let P : Bool → Type 0 = λ x. Lay s items
-      (cond x (conditional (tokens_of t) (tokens_of u) (tokens_of v))
-      (cond (same_named head (symbol_name constant.let_))
-      (local (tokens_of t) (tokens_of u) (tokens_of v))
-      (called_with head (tokens_of t) (tokens_of u ∷ tokens_of v ∷ [])))) in
-      let Q : Bool → Type 0 = λ x. Lay s items
-      (cond x (local (tokens_of t) (tokens_of u) (tokens_of v))
-      (called_with head (tokens_of t) (tokens_of u ∷ tokens_of v ∷ []))) in
-      subst P (sym isnt)
-      (subst Q (sym is) (spelled_three a b c t u v one two three Let Equals In items whole))
+      spelled : P (first, second, third)
+      spelled = spelled_three a b c t u v one two three first second third items whole
+
+      go : (b1 b2 : Bool) → keywords_as b1 b2 ≡ Some (first, second, third)
+          → Lay s items (three_as b1 b2 head (tokens_of t) (tokens_of u) (tokens_of v))
+      go true b2 is = subst P (sym (same_Some (If, Then, Else) (first, second, third) is)) spelled
+      go false true is = subst P (sym (same_Some (Let, Equals, In) (first, second, third) is)) spelled
+      go false false is = absurd (cc)
+
+  -- each other head and parts are written as what an item defines
+  pub written_called : (parts : List TermRef) (ts : Trees) → Stand s parts ts → (head : Named)
+      → (length parts ≡ 2 → operator_of head ≡ None) → (length parts ≡ 3 → keywords head ≡ None)
+      → written head (tokens_of_each ts) ≡ name_or_call head (tokens_of_each ts)
+  written_called parts ts stand head two three = go ts (forest_length s ts parts stand)
+    where
+      go : (ts : Trees) → count ts ≡ length parts
+          → written head (tokens_of_each ts) ≡ name_or_call head (tokens_of_each ts)
+      go no_more n = refl
+      go (one_more t no_more) n = refl
+      go (one_more t (one_more u no_more)) n =
+          ap (λ o. two_parts head o (tokens_of t) (tokens_of u)) (two (sym n))
+      go (one_more t (one_more u (one_more v no_more))) n =
+          three_called head (three (sym n)) (tokens_of t) (tokens_of u) (tokens_of v)
+      go (one_more t (one_more u (one_more v (one_more w ws)))) n = refl
+
+  -- the trees of two parts, and of three
+  two_stand : (parts : List TermRef) (l r : TermRef) → parts ≡ l ∷ r ∷ [] → (ts : Trees)
+      → Stand s parts ts → (P : List (List Lexeme) → Type 0)
+      → ((t u : Tree) → UnfoldsTo s (term_name l) t → UnfoldsTo s (term_name r) u
+      → P (tokens_of t ∷ tokens_of u ∷ [])) → P (tokens_of_each ts)
+  two_stand parts l r is ts stand P made =
+      go ts (subst (λ terms. Stand s terms ts) is stand)
+    where
+      go : (ts : Trees) → Stand s (l ∷ r ∷ []) ts → P (tokens_of_each ts)
+      go no_more stand = absurd stand
+      go (one_more t no_more) stand = absurd stand.1
+      go (one_more t (one_more u no_more)) stand = made t u stand.0 stand.1.0
+      go (one_more t (one_more u (one_more v vs))) stand = absurd stand.1.1
+
+  three_stand : (parts : List TermRef) (l m r : TermRef) → parts ≡ l ∷ m ∷ r ∷ [] → (ts : Trees)
+      → Stand s parts ts → (P : List (List Lexeme) → Type 0)
+      → ((t u v : Tree) → UnfoldsTo s (term_name l) t → UnfoldsTo s (term_name m) u
+      → UnfoldsTo s (term_name r) v → P (tokens_of t ∷ tokens_of u ∷ tokens_of v ∷ []))
+      → P (tokens_of_each ts)
+  three_stand parts l m r is ts stand P made =
+      go ts (subst (λ terms. Stand s terms ts) is stand)
+    where
+      go : (ts : Trees) → Stand s (l ∷ m ∷ r ∷ []) ts → P (tokens_of_each ts)
+      go no_more stand = absurd stand
+      go (one_more t no_more) stand = absurd stand.1
+      go (one_more t (one_more u no_more)) stand = absurd stand.1.1
+      go (one_more t (one_more u (one_more v no_more))) stand =
+          made t u v stand.0 stand.1.0 stand.1.1.0
+      go (one_more t (one_more u (one_more v (one_more w ws)))) stand = absurd stand.1.1.1
+
+  pub spelled_atom : (name : SymbolRef) (head : Named) → symbol_ref_name name ≡ head
+      → (items : List Piece) → items ≡ piece.Token (token.Atom name) ∷ []
+      → Lay s items (atom head ∷ [])
+  spelled_atom name head is items whole =
+      let Q : List Piece → Type 0 = λ ps. Lay s ps (atom head ∷ []) in
+      let spelled : Q (piece.Token (token.Atom name) ∷ []) =
+      ([], ap (λ h. atom h ∷ []) (sym is), refl) in
+      subst Q (sym whole) spelled
 
   pub no_parts : (parts : List TermRef) (ts : Trees) → length parts ≡ 0 → Stand s parts ts
       → tokens_of_each ts ≡ []
@@ -202,13 +273,37 @@ module _ (s : Store) where
       go no_more stand = absurd stand
       go (one_more t us) stand = made t us stand.0 stand.1
 
-  pub many_parts : (rest : List TermRef) (ws : Trees) (head : Named) (a b c : List Lexeme)
-      → (length rest == 0) ≡ false → Stand s rest ws
-      → written head (a ∷ b ∷ c ∷ tokens_of_each ws)
-      ≡ called_with head a (b ∷ c ∷ tokens_of_each ws)
-  many_parts [] ws head a b c some stand = absurd (cc)
-  many_parts (n ∷ rest) no_more head a b c some stand = absurd stand
-  many_parts (n ∷ rest) (one_more t ts) head a b c some stand = refl
+  -- an operator and its sides
+  pub sides_of : (parts : List TermRef) (ts : Trees) → Stand s parts ts → length parts ≡ 2
+      → (d : TermRef) (operator : Operator) (head : Named) → operator_of head ≡ Some operator
+      → (begin end : Piece) → begin ≡ marked Open → end ≡ marked Close → (items : List Piece)
+      → items ≡ begin ∷ piece.Tree (get_or parts 0 d) ∷ piece.Token (token.Infix operator)
+      ∷ piece.Tree (get_or parts 1 d) ∷ end ∷ []
+      → Lay s items (written head (tokens_of_each ts))
+  sides_of parts ts stand two d operator head is begin end opens closes items whole =
+      two_stand parts (get_or parts 0 d) (get_or parts 1 d) (two_are parts d two) ts stand
+      (λ texts. Lay s items (written head texts)) (λ t u first second.
+      spelled_sides (get_or parts 0 d) (get_or parts 1 d) operator t u first second head is items
+      (whole ∙ (λ i. opens i ∷ piece.Tree (get_or parts 0 d) ∷ piece.Token (token.Infix operator)
+      ∷ piece.Tree (get_or parts 1 d) ∷ closes i ∷ [])))
+
+  -- three parts behind keywords
+  pub keywords_of : (parts : List TermRef) (ts : Trees) → Stand s parts ts → length parts ≡ 3
+      → (d : TermRef) (first second third : Mark) (head : Named)
+      → keywords head ≡ Some (first, second, third) → (p q r x y : Piece) → p ≡ marked Open
+      → q ≡ marked first → r ≡ marked second → x ≡ marked third → y ≡ marked Close
+      → (items : List Piece)
+      → items ≡ p ∷ q ∷ piece.Tree (get_or parts 0 d) ∷ r ∷ piece.Tree (get_or parts 1 d) ∷ x
+      ∷ piece.Tree (get_or parts 2 d) ∷ y ∷ []
+      → Lay s items (written head (tokens_of_each ts))
+  keywords_of parts ts stand three d first second third head is p q r x y e1 e2 e3 e4 e5 items whole =
+      three_stand parts (get_or parts 0 d) (get_or parts 1 d) (get_or parts 2 d)
+      (three_are parts d three) ts stand (λ texts. Lay s items (written head texts))
+      (λ t u v one two last.
+      spelled_keywords head first second third is (get_or parts 0 d) (get_or parts 1 d)
+      (get_or parts 2 d) t u v one two last items
+      (whole ∙ (λ i. e1 i ∷ e2 i ∷ piece.Tree (get_or parts 0 d) ∷ e3 i
+      ∷ piece.Tree (get_or parts 1 d) ∷ e4 i ∷ piece.Tree (get_or parts 2 d) ∷ e5 i ∷ [])))
 
   -- a tree that a name reads is written by its head and its parts
   pub written_tree : (name : Name) (t : Tree) (header : Symbol) (parts : List TermRef)

@@ -8,13 +8,11 @@ use Rattle.intern_terms.specs.declared.handle.TermRef.{TermRef}
 use Rattle.ra_ap_intern.specs.Symbols.{symbol_ref_name}
 use Rattle.ra_ap_intern.specs.declared.symbol.SymbolRef.{SymbolRef}
 use Rattle.syntax.specs.Frames.{shape_of, opened_by, Opened, no_frame}
-use Rattle.syntax.specs.Lexeme.{Lexeme, atom, lexeme, atom_of}
+use Rattle.syntax.specs.Lexeme.{atom, lexeme}
 use Rattle.syntax.specs.Machine.{Unclosed, Reading, with_last, is_nil, opened, opening, with_opened, separates, closes, closes_item, completed, sides, begun, marked, reduced, gone_on}
-use Rattle.syntax.specs.Parsing.{Store, Keeps, Stand, IsUnclosed, AreUnclosed, IsValue, Opens, ReadsBefore, Reaches, OnUnexpected}
-use Rattle.syntax.specs.declared.message.Expected.{Expected}
-use Rattle.syntax.specs.declared.message.Stop.{Stop}
-use Rattle.syntax.specs.declared.message.Stop.TheVariants.{Unexpected, Fault}
-use Rattle.text_run.specs.declared.place.Place.{Place}
+use Rattle.syntax.specs.Parsing.{Store, Keeps, Stand, IsUnclosed, AreUnclosed, IsValue, Opens, ReadsBefore, Reaches, OnUnexpected, IsUnexpected}
+use Rattle.syntax.specs.declared.fault.Stop.{Stop}
+use Rattle.syntax.specs.declared.fault.Stop.TheVariants.{Unexpected, Fault}
 use Rattle.syntax.specs.declared.machine.Form.{Form}
 use Rattle.syntax.specs.declared.machine.Form.TheVariants as form
 use Rattle.syntax.specs.declared.token.Operator.{Operator}
@@ -51,14 +49,6 @@ value_stands : (s : Store) (v : Option TermRef) (o : Option Tree) → v ≡ None
 value_stands s v o is none =
     subst (λ v. IsValue s v o) (sym is) (subst (λ o. IsValue s None o) (sym none) tt)
 
-atom_named : (name : SymbolRef) (t : Token) → atom_of t ≡ Some name
-    → lexeme t ≡ atom (symbol_ref_name name)
-atom_named name (token.Atom other) is =
-    let same : other ≡ name = cc in ap (λ x. atom (symbol_ref_name x)) same
-atom_named name (token.Call other) is = absurd (cc)
-atom_named name (token.Infix operator) is = absurd (cc)
-atom_named name (token.Mark mark) is = absurd (cc)
-
 begun_named : (old new : Store) → Keeps old new → (m n : Machine) (name : SymbolRef)
     → n.items ≡ m.items → n.frames ≡ m.frames
     → IsValue new n.value (Some (tree (symbol_ref_name name) no_more))
@@ -85,65 +75,59 @@ begun_named old new keeps m n name same_items same_frames value some items (o �
 
 -- a name or a number where an expression begins
 pub begun_atom : (old new : Store) → Keeps old new → (m n : Machine) (name : SymbolRef)
-    (t : Token) → atom_of t ≡ Some name → n.items ≡ m.items → n.frames ≡ m.frames
+    (t : Token) → t ≡ token.Atom name → n.items ≡ m.items → n.frames ≡ m.frames
     → IsValue new n.value (Some (tree (symbol_ref_name name) no_more))
     → no_frame m.frames.items ≡ false → (items : Trees) (os : List Unclosed)
     → ReadsBefore old m items os → Reaches new n (begun items os (lexeme t))
 begun_atom old new keeps m n name t is same_items same_frames value some items os before =
-    let P : Lexeme → Type 0 = λ l. Reaches new n (begun items os l) in
-    subst P (sym (atom_named name t is))
+    let P : Token → Type 0 = λ t. Reaches new n (begun items os (lexeme t)) in
+    subst P (sym is)
     (begun_named old new keeps m n name same_items same_frames value some items os before)
 
--- and between items
-pub begun_atom_between : (s : Store) (m : Machine) (name : SymbolRef) (t : Token)
-    → atom_of t ≡ Some name → no_frame m.frames.items ≡ true → (items : Trees)
-    (os : List Unclosed) → ReadsBefore s m items os → begun items os (lexeme t) ≡ None
-begun_atom_between s m name (token.Atom other) is none items [] before = refl
-begun_atom_between s m name (token.Atom other) is none items (o ∷ os) before =
-    let lacks : false ≡ true = sym (none_open s m.frames.items (o ∷ os) before.opens) ∙ none in
-    absurd (cc)
-begun_atom_between s m name (token.Call other) is none items os before = absurd (cc)
-begun_atom_between s m name (token.Infix operator) is none items os before = absurd (cc)
-begun_atom_between s m name (token.Mark mark) is none items os before = absurd (cc)
+-- each other token opens what it opens
+abbrev pub IsOther : Token → Type 0
+IsOther (token.Atom name) = ⊥
+IsOther (token.Call name) = Unit {0}
+IsOther (token.Infix operator) = Unit {0}
+IsOther (token.Mark mark) = Unit {0}
 
--- a token that is no atom opens what it opens
-begun_form : (t : Token) → atom_of t ≡ None → (items : Trees) (os : List Unclosed)
+begun_form : (t : Token) → IsOther t → (items : Trees) (os : List Unclosed)
     → begun items os (lexeme t) ≡ with_opened items os (opened (lexeme t) (not (is_nil os)))
-begun_form (token.Atom name) lacks items os = absurd (cc)
-begun_form (token.Call name) lacks items [] = refl
-begun_form (token.Call name) lacks items (o ∷ os) = refl
-begun_form (token.Infix operator) lacks items [] = refl
-begun_form (token.Infix operator) lacks items (o ∷ os) = refl
-begun_form (token.Mark mark) lacks items [] = refl
-begun_form (token.Mark mark) lacks items (o ∷ os) = refl
+begun_form (token.Atom name) other items os = absurd other
+begun_form (token.Call name) other items [] = refl
+begun_form (token.Call name) other items (o ∷ os) = refl
+begun_form (token.Infix operator) other items [] = refl
+begun_form (token.Infix operator) other items (o ∷ os) = refl
+begun_form (token.Mark mark) other items [] = refl
+begun_form (token.Mark mark) other items (o ∷ os) = refl
 
-begun_by : (s : Store) (m : Machine) (t : Token) → atom_of t ≡ None → (found : Option Form)
+begun_by : (s : Store) (m : Machine) (t : Token) → IsOther t → (found : Option Form)
     → opened_by found ≡ opened (lexeme t) (not (no_frame m.frames.items)) → (items : Trees)
     (os : List Unclosed) → ReadsBefore s m items os
     → begun items os (lexeme t) ≡ with_opened items os (opened_by found)
-begun_by s m t lacks found is items os before =
-    begun_form t lacks items os
+begun_by s m t other found is items os before =
+    begun_form t other items os
     ∙ ap (λ b. with_opened items os (opened (lexeme t) (not b)))
     (sym (none_open s m.frames.items os before.opens))
     ∙ ap (with_opened items os) (sym is)
 
-pub begun_none : (s : Store) (m : Machine) (t : Token) → atom_of t ≡ None
+pub begun_none : (s : Store) (m : Machine) (t : Token) → IsOther t
     → (found : Option Form) → opened_by found ≡ opened (lexeme t) (not (no_frame m.frames.items))
     → found ≡ None → (items : Trees) (os : List Unclosed)
     → ReadsBefore s m items os → begun items os (lexeme t) ≡ None
-begun_none s m t lacks found is none items os before =
-    begun_by s m t lacks found is items os before
+begun_none s m t other found is none items os before =
+    begun_by s m t other found is items os before
     ∙ ap (λ found. with_opened items os (opened_by found)) none
 
-pub begun_opened : (s : Store) (m n : Machine) (t : Token) → atom_of t ≡ None
+pub begun_opened : (s : Store) (m n : Machine) (t : Token) → IsOther t
     → (found : Option Form) (form : Form)
     → opened_by found ≡ opened (lexeme t) (not (no_frame m.frames.items)) → found ≡ Some form
     → m.value ≡ None → n.items ≡ m.items → n.value ≡ m.value
     → Opened m.frames.items n.frames.items form [] → (items : Trees) (os : List Unclosed)
     → ReadsBefore s m items os → Reaches s n (begun items os (lexeme t))
-begun_opened s m n t lacks found form is some none same_items same_value new items os before = (
+begun_opened s m n t other found form is some none same_items same_value new items os before = (
   record { items = items; opens = opening (shape_of form) ∷ os; value = None },
-  begun_by s m t lacks found is items os before
+  begun_by s m t other found is items os before
       ∙ ap (λ found. with_opened items os (opened_by found)) some,
   record {
     items = subst (λ v. Stand s v.items items) (sym same_items) before.items;
@@ -292,10 +276,9 @@ marked_nothing s m mk none items os t before =
     (opens_none s os (subst (λ fs. Opens s fs os) none before.opens))
 
 -- what is told where a token can't stand
-pub on_unexpected : (told : Stop) (place : Place) (expected : Expected) (found : Option Token)
-    (P : Type 0) → told ≡ Unexpected place expected found → P → OnUnexpected told P
-on_unexpected told place expected found P is proof =
-    subst (λ told. OnUnexpected told P) (sym is) proof
+pub on_unexpected : (told : Stop) (P : Type 0) → IsUnexpected told → P → OnUnexpected told P
+on_unexpected (Unexpected error) P is proof = proof
+on_unexpected (Fault fault) P is proof = absurd is
 
 pub if_unexpected_more : {A : Type 0} (r : Result A Stop) (P Q : Type 0) → (P → Q)
     → IfErr r (λ told. OnUnexpected told P) → IfErr r (λ told. OnUnexpected told Q)
@@ -303,7 +286,7 @@ if_unexpected_more (Ok x) P Q more is = tt
 if_unexpected_more (Err told) P Q more is = go told is
   where
     go : (told : Stop) → OnUnexpected told P → OnUnexpected told Q
-    go (Unexpected place expected found) is = more is
+    go (Unexpected error) is = more is
     go (Fault fault) is = tt
 
 -- an operator behind an expression

@@ -1,7 +1,6 @@
 -- Tokens, and what operators are called.
-use Rattle.std.specs.Prelude.{ℕ, List, [], ◌∷◌, Option, Some, None, find, map as list_map}
+use Rattle.std.specs.Prelude.{ℕ, List, [], ◌∷◌, Option, find, map as list_map}
 use Rattle.ra_ap_intern.specs.Symbols.{Named, same_named, symbol_name, symbol_ref_name}
-use Rattle.ra_ap_intern.specs.declared.symbol.SymbolRef.{SymbolRef}
 use Rattle.ra_ap_intern.specs.declared.symbol.symbols.TheConstants as sym
 use Rattle.syntax.specs.declared.token.Mark.{Mark}
 use Rattle.syntax.specs.declared.token.Operator.{Operator}
@@ -22,13 +21,6 @@ lexeme (token.Atom name) = atom (symbol_ref_name name)
 lexeme (token.Call name) = call (symbol_ref_name name)
 lexeme (token.Infix operator) = between operator
 lexeme (token.Mark m) = mark m
-
--- the name or the number that a token is
-abbrev pub atom_of : Token → Option SymbolRef
-atom_of (token.Atom name) = Some name
-atom_of (token.Call name) = None
-atom_of (token.Infix operator) = None
-atom_of (token.Mark m) = None
 
 abbrev pub lexemes : List PlacedToken → List Lexeme
 lexemes = list_map (λ placed. lexeme placed.token)

@@ -9,10 +9,10 @@ use Rattle.ra_ap_intern.specs.State.{State}
 use Rattle.ra_ap_intern.specs.declared.symbol.Symbol.{Symbol}
 use Rattle.syntax.specs.Frames.{shape_of}
 use Rattle.syntax.specs.Machine.{Unclosed, Reading}
+use Rattle.syntax.specs.declared.fault.Stop.{Stop}
+use Rattle.syntax.specs.declared.fault.Stop.TheVariants as stop
 use Rattle.syntax.specs.declared.machine.Frame.{Frame}
 use Rattle.syntax.specs.declared.machine.Machine.{Machine}
-use Rattle.syntax.specs.declared.message.Stop.{Stop}
-use Rattle.syntax.specs.declared.message.Stop.TheVariants as stop
 
 -- a store of terms
 abbrev pub Store : Type 0
@@ -20,8 +20,13 @@ Store = State (Sliced Symbol TermRef)
 
 -- a fact, where a token can't stand where it does
 abbrev pub OnUnexpected : Stop → Type 0 → Type 0
-OnUnexpected (stop.Unexpected place expected found) P = P
+OnUnexpected (stop.Unexpected error) P = P
 OnUnexpected (stop.Fault fault) P = Unit {0}
+
+-- a stop is no fault
+abbrev pub IsUnexpected : Stop → Type 0
+IsUnexpected (stop.Unexpected error) = Unit {0}
+IsUnexpected (stop.Fault fault) = ⊥
 
 -- each tree of an earlier store is one of a later
 abbrev pub Keeps : Store → Store → Type 0

@@ -29,6 +29,13 @@ abbrev pub local : List Lexeme → List Lexeme → List Lexeme → List Lexeme
 local a b c = mark Open ∷ mark Let ∷ (a ++ (mark Equals ∷ (b ++ (mark In ∷
     (c ++ (mark Close ∷ []))))))
 
+-- what stands before the three parts of `if` and of `let`
+abbrev pub keywords : Named → Option (Mark × Mark × Mark)
+keywords head =
+    if same_named head (symbol_name sym.then) then Some (If, Then, Else)
+    else if same_named head (symbol_name sym.let_) then Some (Let, Equals, In)
+    else None
+
 abbrev pub three_parts : Named → List Lexeme → List Lexeme → List Lexeme → List Lexeme
 three_parts head a b c =
     if same_named head (symbol_name sym.then) then conditional a b c

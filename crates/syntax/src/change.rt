@@ -112,23 +112,17 @@ fn push_parts(
     ensures news { OnOk result (news_of (reverse pairs.new.items)
         ≡ news.now ++ news_of (reverse pairs.old.items)) }
 {
-    let mut old_spot = pair.old.spot.saturating_sub(1);
-    let mut new_spot = pair.new.spot.saturating_sub(1);
+    let Change { mut old, mut new } = pair;
+    old.spot = old.spot.saturating_sub(1);
+    new.spot = new.spot.saturating_sub(1);
     let mut left = olds.len();
     while left > 0 {
         left -= 1;
-        pairs.push(Change {
-            old: Part {
-                tree: olds[left],
-                spot: old_spot,
-            },
-            new: Part {
-                tree: news[left],
-                spot: new_spot,
-            },
-        })?;
-        old_spot = before(spots.old, old_spot);
-        new_spot = before(spots.new, new_spot);
+        old.tree = olds[left];
+        new.tree = news[left];
+        pairs.push(Change { old, new })?;
+        old.spot = before(spots.old, old.spot);
+        new.spot = before(spots.new, new.spot);
     }
     Ok(())
 }

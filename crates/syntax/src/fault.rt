@@ -1,10 +1,12 @@
-//! Why a run gave up.
+//! Why a version isn't parsed, and why a run gives up.
 ghost use Rattle.std.specs.Prelude.{◌≡◌};
 ghost use Rattle.std.specs.declared.alloc.AllocError.{AllocError as NoMemory};
 ghost use Rattle.syntax.specs.declared.fault.Fault.TheVariants.{OutOfMemory as out_of_memory};
 
-use ra_ap_intern::{Refusal, Refused};
+use crate::token::Token;
+use ra_ap_intern::Refusal;
 use std::alloc::{AllocError, AllocFailed};
+use text_run::Place;
 use thiserror::Error;
 
 /// Why a run gave up.
@@ -19,6 +21,24 @@ pub enum Fault {
     /// When what is written has more pieces, or has more parts to compare, than is allowed.
     #[error("a changed part is too long to be written")]
     TooLong,
+}
+
+/// A token that can't stand where it does, or the end of the tokens within an item, or a word that is
+/// no token: the last two without what was found.
+#[derive(Clone, Copy)]
+pub struct Unexpected {
+    pub place: Place,
+    /// What could have stood there, in words.
+    pub expected: &'static str,
+    pub found: Option<Token>,
+}
+
+/// Why a version wasn't parsed.
+#[derive(Clone, Copy)]
+pub enum Stop {
+    Unexpected(Unexpected),
+    /// When the program has to give up.
+    Fault(Fault),
 }
 
 impl From<AllocError> for Fault {
@@ -37,9 +57,36 @@ impl<Lost: Drop> From<AllocFailed<Lost>> for Fault {
     }
 }
 
-impl<T: Drop> From<Refused<T>> for Fault {
-    fn from(refused: Refused<T>) -> Fault {
-        Fault::Refused(refused.why)
+impl From<Fault> for Stop {
+    ghost use Rattle.syntax.specs.declared.fault.Stop.TheVariants.{Fault as stop_fault};
+
+    ghost from_gives = { λ fault stop. stop ≡ stop_fault fault };
+
+    fn from(fault: Fault) -> Stop {
+        Stop::Fault(fault)
+    }
+}
+
+impl Stop {
+    ghost use Rattle.syntax.specs.Parsing.{IsUnexpected};
+
+    /// That something else was expected at a place.
+    pub fn unexpected(place: Place, expected: &'static str, found: Option<Token>) -> Stop
+        ensures { IsUnexpected result }
+    {
+        Stop::Unexpected(Unexpected {
+            place,
+            expected,
+            found,
+        })
+    }
+
+    /// Where it stands in the text. A fault stands before all of it.
+    pub fn position(&self) -> Option<(u64, u64)> {
+        match self {
+            Stop::Fault(_) => None,
+            Stop::Unexpected(error) => Some((error.place.line, error.place.column)),
+        }
     }
 }
 

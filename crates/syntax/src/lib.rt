@@ -10,11 +10,8 @@
 
 pub mod change;
 pub mod fault;
-mod header;
 pub mod lexer;
 mod machine;
-mod message;
-pub mod parser;
 mod printer;
 mod report;
 pub mod session;

@@ -5,11 +5,11 @@ ghost use Rattle.ra_ap_intern.specs.Symbols.{symbol_ref_name};
 ghost use Rattle.syntax.specs.Lexeme.{lexeme};
 ghost use Rattle.syntax.specs.Machine.{opened as shape_opened, yields as shape_yields, separates as shape_separates, closes as shape_closes, closes_item as shape_closes_item, head_of};
 ghost use Rattle.syntax.specs.Frames.{shape_of, opened_by, Opened, NoneYields, no_frame};
+ghost use Rattle.syntax.specs.Parsing.{IsUnexpected};
 ghost use Rattle.syntax.specs.declared.machine.Form.TheVariants.{Infix as infix_form};
 
-use crate::fault::Fault;
-use crate::message::Expected;
-use crate::token::{Mark, Operator, Token};
+use crate::fault::{Fault, Stop};
+use crate::token::{Mark, Operator, PlacedToken, Token};
 use intern_terms::TermRef;
 use ra_ap_intern::{SymbolRef, sym};
 use std::alloc::Global;
@@ -128,6 +128,19 @@ impl Form {
             _ => false,
         }
     }
+
+    // What can stand behind so many parts and one more. A semicolon ends only the outermost form.
+    fn expected_behind(self, parts: usize, is_outermost: bool) -> &'static str {
+        match (self, parts) {
+            (Form::Group, _) => "an operator or `)`",
+            (Form::Call(_), _) => "an operator, `,` or `)`",
+            (Form::Choice, 0) => "an operator or `then`",
+            (Form::Choice, _) => "an operator or `else`",
+            (Form::Binding | Form::Definition, 0) => "`=`",
+            (Form::Binding, _) if !is_outermost => "an operator or `in`",
+            (Form::Binding | Form::Definition | Form::Infix(_), _) => "an operator or `;`",
+        }
+    }
 }
 
 impl Machine {
@@ -165,12 +178,11 @@ impl Machine {
         ensures value { self.new.value ≡ self.old.value }
         ensures frames { OnOk result (Opened self.old.frames.items self.new.frames.items form []) }
     {
-        let first = self.spots.len();
         self.frames.push(Frame {
             form,
             parts: Vec::new(alloc),
             place,
-            first,
+            first: self.spots.len(),
         })?;
         Ok(())
     }
@@ -187,18 +199,14 @@ impl Machine {
         ensures frames { OnOk result (Opened self.old.frames.items self.new.frames.items
             (infix_form operator) (left ∷ [])) }
     {
-        let mut parts = Vec::new(alloc);
-        parts.push(left)?;
-        let spot = self.last_spot();
-        let first = self.spots.len().saturating_sub(spot.size);
-        self.frames.push(Frame {
+        let size = self.spots.last().map_or(0, |spot| spot.size);
+        let frame = Frame {
             form: Form::Infix(operator),
-            parts,
-            place: spot.place,
-            first,
-        })?;
-        self.value = None;
-        Ok(())
+            parts: Vec::new(alloc),
+            place: self.spots.last().map_or(Place::START, |spot| spot.place),
+            first: self.spots.len().saturating_sub(size),
+        };
+        self.push_part(frame, left)
     }
 
     /// Adds a part to a form, of which another follows.
@@ -255,35 +263,21 @@ impl Machine {
         Ok(())
     }
 
-    // The spot of what was read last.
-    fn last_spot(&self) -> Spot {
-        self.spots.last().copied().unwrap_or(Spot {
-            place: Place::START,
-            size: 0,
-        })
-    }
-
-    /// What can stand where an expression or an item begins.
-    pub fn expected(&self) -> Expected {
-        if self.is_between_items() {
-            Expected::Item
-        } else {
-            Expected::Expression
-        }
-    }
-
-    /// What can stand behind the expression that was read last: in the innermost form that doesn't
-    /// end with it.
-    pub fn expected_behind(&self) -> Expected {
+    /// What can stand next: behind an expression, in the innermost form that doesn't end with it.
+    pub fn expected(&self) -> &'static str {
         let goes_on = |frame: &Frame| !frame.form.yields(frame.parts.len(), None);
         let depth = self.frames.iter().rposition(goes_on).unwrap_or(0);
         match self.frames.get(depth) {
-            Some(frame) => Expected::After {
-                form: frame.form,
-                parts: frame.parts.len(),
-                is_outermost: depth == 0,
-            },
-            None => Expected::Item,
+            None => "`fn` or `let`",
+            Some(_) if self.value.is_none() => "an expression",
+            Some(frame) => frame.form.expected_behind(frame.parts.len(), depth == 0),
         }
+    }
+
+    /// What is told of a token that can't stand where it does.
+    pub fn refuse(&self, placed: PlacedToken) -> Stop
+        ensures { IsUnexpected result }
+    {
+        Stop::unexpected(placed.place, self.expected(), Some(placed.token))
     }
 }

@@ -3,15 +3,14 @@ ghost use Rattle.std.specs.Prelude.{◌≡◌, ℕ, ◌+◌, ◌*◌, ◌≤◌,
 ghost use Rattle.intern_terms.specs.Handle.{term_name};
 ghost use Rattle.intern_terms.specs.Tree.{Tree, Trees, UnfoldsTo};
 ghost use Rattle.ra_ap_intern.specs.Symbols.{symbol_name, same_named};
-ghost use Rattle.syntax.specs.Lexeme.{Lexeme, lexeme, operator_of};
+ghost use Rattle.syntax.specs.Lexeme.{Lexeme, lexeme};
 ghost use Rattle.syntax.specs.Parsing.{Stand};
 ghost use Rattle.syntax.specs.Pieces.{Spell, Lay, Prints, comma_pieces};
-ghost use Rattle.syntax.specs.Printing.{tokens_of, tokens_of_each, item_tokens, written, called_with, two_parts, three_parts, definition, item_mark, name_or_call, defined_tokens, IsItem};
+ghost use Rattle.syntax.specs.Printing.{tokens_of, tokens_of_each, item_tokens, written, keywords, definition, item_mark, name_or_call, defined_tokens, IsItem};
 ghost use Rattle.syntax.specs.declared.printer.Piece.TheVariants.{Token as token_piece};
 ghost use Rattle.syntax.specs.declared.token.Token.TheVariants.{Mark as mark_token};
 
 use crate::fault::Fault;
-use crate::message::write_token;
 use crate::syntax::Syntax;
 use crate::token::{Mark, Operator, Token};
 use intern_terms::TermRef;
@@ -35,8 +34,7 @@ impl Syntax {
         ensures long { (t : Tree) → UnfoldsTo self.now.terms (term_name tree) t →
             IfErr result (λ why. why ≡ Fault.TooLong → most ≤ 2 * length (tokens_of t)) }
     {
-        let layout = self.layout(tree)?;
-        self.print_pieces(layout, most)
+        self.print_pieces(self.layout(tree)?, most)
     }
 
     /// An item as tokens.
@@ -46,8 +44,7 @@ impl Syntax {
         ensures long { (t : Tree) → UnfoldsTo self.now.terms (term_name item) t → IsItem t →
             IfErr result (λ why. why ≡ Fault.TooLong → most ≤ 2 * length (item_tokens t)) }
     {
-        let layout = self.item_layout(item)?;
-        self.print_pieces(layout, most)
+        self.print_pieces(self.item_layout(item)?, most)
     }
 
     /// What an item defines as tokens: a name or a call, also where its head is an operator's.
@@ -57,8 +54,7 @@ impl Syntax {
         ensures long { (t : Tree) → UnfoldsTo self.now.terms (term_name defined) t →
             IfErr result (λ why. why ≡ Fault.TooLong → most ≤ 2 * length (defined_tokens t)) }
     {
-        let layout = self.defined_layout(defined)?;
-        self.print_pieces(layout, most)
+        self.print_pieces(self.defined_layout(defined)?, most)
     }
 
     // The tokens of pieces.
@@ -75,26 +71,12 @@ impl Syntax {
             let Some(piece) = pieces.pop() else {
                 return Ok(tokens);
             };
-            self.print_piece(piece, &mut tokens, &mut pieces)?;
+            match piece {
+                Piece::Token(token) => tokens.push(token)?,
+                Piece::Tree(tree) => push_all(self.layout(tree)?, &mut pieces)?,
+            }
         }
         Err(Fault::TooLong)
-    }
-
-    // Prints a token, or puts the pieces of a tree on the stack.
-    fn print_piece(
-        &self,
-        piece: Piece,
-        tokens: &mut Vec<Token>,
-        pieces: &mut Vec<Piece>,
-    ) -> Result<(), AllocError>
-        ensures { OnOk result ((taken : ℕ) (spelled : List Lexeme) →
-            Prints self.now.terms taken tokens.old.items (pieces.old.items ++ piece ∷ []) spelled →
-            Prints self.now.terms (taken + 1) tokens.new.items pieces.new.items spelled) }
-    {
-        match piece {
-            Piece::Token(token) => Ok(tokens.push(token)?),
-            Piece::Tree(tree) => push_all(self.layout(tree)?, pieces),
-        }
     }
 
     // A tree as the tokens of its own, and its parts between them.
@@ -102,162 +84,44 @@ impl Syntax {
         ensures { (t : Tree) → UnfoldsTo self.now.terms (term_name tree) t →
             IfOk result (λ pieces. Lay self.now.terms pieces.items (tokens_of t)) }
     {
-        let Some(head) = self.terms.head(tree) else {
-            return Ok(Vec::new(self.alloc));
-        };
-        let Some(parts) = self.terms.args(tree) else {
-            return Ok(Vec::new(self.alloc));
-        };
-        self.spell(head, parts)
+        match self.terms.node(tree) {
+            Some((head, parts)) => self.spell(head, parts),
+            None => Ok(Vec::new(self.alloc)),
+        }
     }
 
-    // A head and parts as pieces.
+    // A head and parts as pieces: an operator and its sides, `if`, `let`, a call, or a name.
     fn spell(&self, head: &Symbol, parts: &[TermRef]) -> Result<Vec<Piece>, AllocError>
         ensures { (ts : Trees) → Stand self.now.terms parts.now ts → IfOk result (λ pieces.
             Lay self.now.terms pieces.items (written (symbol_name head.now) (tokens_of_each ts))) }
     {
-        match parts.split_first() {
-            None => self.spell_atom(head),
-            Some((first, others)) => self.spell_first(head, *first, others),
+        match parts {
+            &[left, right] => match Operator::of(head) {
+                Some(operator) => Ok(vec![in self.alloc;
+                    mark(Mark::Open),
+                    Piece::Tree(left),
+                    Piece::Token(Token::Infix(operator)),
+                    Piece::Tree(right),
+                    mark(Mark::Close),
+                ]?),
+                None => self.spell_defined(head, parts),
+            },
+            &[first, second, third] => match keywords_of(head) {
+                Some((begin, middle, end)) => Ok(vec![in self.alloc;
+                    mark(Mark::Open),
+                    mark(begin),
+                    Piece::Tree(first),
+                    mark(middle),
+                    Piece::Tree(second),
+                    mark(end),
+                    Piece::Tree(third),
+                    mark(Mark::Close),
+                ]?),
+                None => self.spell_defined(head, parts),
+            },
+            [] | [_] => self.spell_defined(head, parts),
+            [_, _, _, _, ..] => self.spell_defined(head, parts),
         }
-    }
-
-    // A head without parts: a name or a number.
-    fn spell_atom(&self, head: &Symbol) -> Result<Vec<Piece>, AllocError>
-        ensures { IfOk result (λ pieces.
-            Lay self.now.terms pieces.items (written (symbol_name head.now) [])) }
-    {
-        Ok(vec![in self.alloc; Piece::Token(Token::Atom(head.as_ref()))]?)
-    }
-
-    // A head, its first part, and the others.
-    fn spell_first(
-        &self,
-        head: &Symbol,
-        first: TermRef,
-        others: &[TermRef],
-    ) -> Result<Vec<Piece>, AllocError>
-        ensures { (t : Tree) (us : Trees) → UnfoldsTo self.now.terms (term_name first) t →
-            Stand self.now.terms others.now us → IfOk result (λ pieces.
-            Lay self.now.terms pieces.items (written (symbol_name head.now)
-            (tokens_of t ∷ tokens_of_each us))) }
-    {
-        match others.split_first() {
-            None => self.call(head, first, others),
-            Some((second, more)) => self.spell_second(head, first, *second, others, more),
-        }
-    }
-
-    // A head, its first part, and the others, of which the first is the second part.
-    fn spell_second(
-        &self,
-        head: &Symbol,
-        first: TermRef,
-        second: TermRef,
-        others: &[TermRef],
-        more: &[TermRef],
-    ) -> Result<Vec<Piece>, AllocError>
-        requires { others.now ≡ second ∷ more.now }
-        ensures { (t u : Tree) (vs : Trees) → UnfoldsTo self.now.terms (term_name first) t →
-            UnfoldsTo self.now.terms (term_name second) u → Stand self.now.terms more.now vs →
-            IfOk result (λ pieces. Lay self.now.terms pieces.items
-            (written (symbol_name head.now) (tokens_of t ∷ tokens_of u ∷ tokens_of_each vs))) }
-    {
-        match more.split_first() {
-            None => self.spell_two(head, first, second),
-            Some((third, rest)) => {
-                if rest.is_empty() {
-                    self.spell_three(head, first, second, *third)
-                } else {
-                    self.call(head, first, others)
-                }
-            }
-        }
-    }
-
-    // A head and two parts: an operator and its sides, or a call.
-    fn spell_two(
-        &self,
-        head: &Symbol,
-        left: TermRef,
-        right: TermRef,
-    ) -> Result<Vec<Piece>, AllocError>
-        ensures { (t u : Tree) → UnfoldsTo self.now.terms (term_name left) t →
-            UnfoldsTo self.now.terms (term_name right) u → IfOk result (λ pieces.
-            Lay self.now.terms pieces.items (two_parts (symbol_name head.now)
-            (operator_of (symbol_name head.now)) (tokens_of t) (tokens_of u))) }
-    {
-        match Operator::of(head) {
-            Some(operator) => Ok(vec![in self.alloc;
-                mark(Mark::Open),
-                Piece::Tree(left),
-                Piece::Token(Token::Infix(operator)),
-                Piece::Tree(right),
-                mark(Mark::Close),
-            ]?),
-            None => self.call(head, left, &[right]),
-        }
-    }
-
-    // A head and three parts: `if`, `let`, or a call.
-    fn spell_three(
-        &self,
-        head: &Symbol,
-        first: TermRef,
-        second: TermRef,
-        third: TermRef,
-    ) -> Result<Vec<Piece>, AllocError>
-        ensures { (t u v : Tree) → UnfoldsTo self.now.terms (term_name first) t →
-            UnfoldsTo self.now.terms (term_name second) u →
-            UnfoldsTo self.now.terms (term_name third) v → IfOk result (λ pieces.
-            Lay self.now.terms pieces.items (three_parts (symbol_name head.now)
-            (tokens_of t) (tokens_of u) (tokens_of v))) }
-    {
-        if is_head(head, &sym::then) {
-            Ok(vec![in self.alloc;
-                mark(Mark::Open),
-                mark(Mark::If),
-                Piece::Tree(first),
-                mark(Mark::Then),
-                Piece::Tree(second),
-                mark(Mark::Else),
-                Piece::Tree(third),
-                mark(Mark::Close),
-            ]?)
-        } else if is_head(head, &sym::let_) {
-            Ok(vec![in self.alloc;
-                mark(Mark::Open),
-                mark(Mark::Let),
-                Piece::Tree(first),
-                mark(Mark::Equals),
-                Piece::Tree(second),
-                mark(Mark::In),
-                Piece::Tree(third),
-                mark(Mark::Close),
-            ]?)
-        } else {
-            self.call(head, first, &[second, third])
-        }
-    }
-
-    // A call of a head, with commas between its arguments.
-    fn call(
-        &self,
-        head: &Symbol,
-        first: TermRef,
-        others: &[TermRef],
-    ) -> Result<Vec<Piece>, AllocError>
-        ensures { (t : Tree) (ts : Trees) → UnfoldsTo self.now.terms (term_name first) t →
-            Stand self.now.terms others.now ts → IfOk result (λ pieces.
-            Lay self.now.terms pieces.items (called_with (symbol_name head.now) (tokens_of t)
-            (tokens_of_each ts))) }
-    {
-        let mut pieces = Vec::new(self.alloc);
-        pieces.push(Piece::Token(Token::Call(head.as_ref())))?;
-        pieces.push(Piece::Tree(first))?;
-        push_arguments(others, &mut pieces)?;
-        pieces.push(mark(Mark::Close))?;
-        Ok(pieces)
     }
 
     // An item as the tokens of its own, and its two parts between them.
@@ -265,13 +129,10 @@ impl Syntax {
         ensures { (t : Tree) → UnfoldsTo self.now.terms (term_name item) t → IsItem t →
             IfOk result (λ pieces. Spell self.now.terms pieces.items (item_tokens t)) }
     {
-        let Some(head) = self.terms.head(item) else {
-            return Ok(Vec::new(self.alloc));
-        };
-        let Some(&[defined, value]) = self.terms.args(item) else {
-            return Ok(Vec::new(self.alloc));
-        };
-        self.spell_item(head, defined, value)
+        match self.terms.node(item) {
+            Some((head, &[defined, value])) => self.spell_item(head, defined, value),
+            _ => Ok(Vec::new(self.alloc)),
+        }
     }
 
     // A definition.
@@ -287,8 +148,7 @@ impl Syntax {
             (defined_tokens t) (tokens_of u))) }
     {
         let name = self.defined_layout(defined)?;
-        let keyword = keyword_of(head);
-        let mut pieces = vec![in self.alloc; mark(keyword)]?;
+        let mut pieces = vec![in self.alloc; mark(keyword_of(head))]?;
         pieces.extend_from_slice(name.as_slice())?;
         pieces.extend_from_slice(&[
             mark(Mark::Equals),
@@ -303,55 +163,37 @@ impl Syntax {
         ensures { (t : Tree) → UnfoldsTo self.now.terms (term_name defined) t →
             IfOk result (λ pieces. Lay self.now.terms pieces.items (defined_tokens t)) }
     {
-        let Some(head) = self.terms.head(defined) else {
-            return Ok(Vec::new(self.alloc));
-        };
-        let Some(parts) = self.terms.args(defined) else {
-            return Ok(Vec::new(self.alloc));
-        };
-        self.spell_defined(head, parts)
+        match self.terms.node(defined) {
+            Some((head, parts)) => self.spell_defined(head, parts),
+            None => Ok(Vec::new(self.alloc)),
+        }
     }
 
-    // A name, or a call of a head over parts.
+    // A name, or a call of a head over parts, with commas between them.
     fn spell_defined(&self, head: &Symbol, parts: &[TermRef]) -> Result<Vec<Piece>, AllocError>
         ensures { (ts : Trees) → Stand self.now.terms parts.now ts → IfOk result (λ pieces.
             Lay self.now.terms pieces.items
             (name_or_call (symbol_name head.now) (tokens_of_each ts))) }
     {
-        match parts.split_first() {
-            None => self.spell_atom(head),
-            Some((first, others)) => self.call(head, *first, others),
-        }
+        let Some((first, others)) = parts.split_first() else {
+            return Ok(vec![in self.alloc; Piece::Token(Token::Atom(head.as_ref()))]?);
+        };
+        let mut pieces = Vec::new(self.alloc);
+        pieces.push(Piece::Token(Token::Call(head.as_ref())))?;
+        pieces.push(Piece::Tree(*first))?;
+        push_arguments(others, &mut pieces)?;
+        pieces.push(mark(Mark::Close))?;
+        Ok(pieces)
     }
 
-    /// Writes an expression as a text.
-    pub fn write(&self, tree: TermRef, most: usize, out: &mut String) -> Result<(), Fault> {
-        self.write_tokens(self.print(tree, most)?.as_slice(), out)
-    }
-
-    /// Writes an item as a text.
-    pub fn write_item(&self, item: TermRef, most: usize, out: &mut String) -> Result<(), Fault> {
-        self.write_tokens(self.print_item(item, most)?.as_slice(), out)
-    }
-
-    /// Writes what an item defines as a text.
-    pub fn write_defined(
-        &self,
-        defined: TermRef,
-        most: usize,
-        out: &mut String,
-    ) -> Result<(), Fault> {
-        self.write_tokens(self.print_defined(defined, most)?.as_slice(), out)
-    }
-
-    // Writes tokens as a text.
-    fn write_tokens(&self, tokens: &[Token], out: &mut String) -> Result<(), Fault> {
+    /// Writes tokens as a text.
+    pub fn write(&self, tokens: &[Token], out: &mut String) -> Result<(), Fault> {
         let mut before = None;
         for token in tokens {
             if is_spaced(before, *token) {
                 out.push(' ')?;
             }
-            write_token(*token, &self.names, out)?;
+            token.write(&self.names, out)?;
             before = Some(*token);
         }
         Ok(())
@@ -364,6 +206,19 @@ fn is_head(head: &Symbol, other: &Symbol) -> bool
 {
     laws::symbols_are_what_they_name();
     head == other
+}
+
+// What stands before the three parts of `if` and of `let`.
+fn keywords_of(head: &Symbol) -> Option<(Mark, Mark, Mark)>
+    ensures { result ≡ keywords (symbol_name head.now) }
+{
+    if is_head(head, &sym::then) {
+        Some((Mark::If, Mark::Then, Mark::Else))
+    } else if is_head(head, &sym::let_) {
+        Some((Mark::Let, Mark::Equals, Mark::In))
+    } else {
+        None
+    }
 }
 
 // What a definition with this head begins with.

@@ -2,10 +2,12 @@
 use crate::change::{Change, Part, Spots, before};
 use crate::fault::Fault;
 use crate::machine::Spot;
-use crate::parser::Program;
-use crate::syntax::Syntax;
+use crate::syntax::{Program, Syntax};
+use indexmap::IndexMap;
+use intern_terms::TermRef;
 use ra_ap_intern::SymbolRef;
 use std::collections::HashMap;
+use text_run::Place;
 
 /// How many pieces of a text are written, and how many parts are looked at, at the most.
 const MOST: usize = 1 << 40;
@@ -17,147 +19,114 @@ struct Definition {
     earlier: usize,
 }
 
-// An item, under what it defines.
-#[derive(Clone, Copy)]
-struct Item {
-    definition: Definition,
-    part: Part,
+// The items of a program under what they define, in order.
+type Items = IndexMap<Definition, Part>;
+
+/// What is told of changes, and the trees in it.
+#[derive(Drop)]
+pub struct Report<'a> {
+    pub syntax: &'a Syntax,
+    pub out: &'a mut String,
 }
 
-/// Tells each item that was added, each that was removed, and in each other what changed. Of a name
-/// that is defined more than once, each definition is compared with the one of the same number.
-pub fn tell_changes(
-    syntax: &Syntax,
-    old: &Program,
-    new: &Program,
-    out: &mut String,
-) -> Result<(), Fault> {
-    let spots = Spots {
-        old: old.spots.as_slice(),
-        new: new.spots.as_slice(),
-    };
-    let olds = items_of(syntax, old)?;
-    let news = items_of(syntax, new)?;
-    let old_parts = by_definition(syntax, olds.as_slice())?;
-    let new_parts = by_definition(syntax, news.as_slice())?;
-    for item in olds.as_slice() {
-        if new_parts.get(&item.definition).is_none() {
-            tell_item(syntax, "  removed at ", item.part, spots.old, out)?;
-        }
+impl Report<'_> {
+    /// Tells each item that was added, each that was removed, and in each other what changed. Of a
+    /// name that is defined more than once, each definition is compared with the one of the same
+    /// number.
+    pub fn tell_changes(&mut self, old: &Program, new: &Program) -> Result<(), Fault> {
+        let spots = Spots {
+            old: old.spots.as_slice(),
+            new: new.spots.as_slice(),
+        };
+        let olds = self.items(old)?;
+        let news = self.items(new)?;
+        self.tell_removed(&olds, &news, spots.old)?;
+        self.tell_others(&olds, &news, spots)
     }
-    for item in news.as_slice() {
-        match old_parts.get(&item.definition) {
-            None => tell_item(syntax, "  added at ", item.part, spots.new, out)?,
-            Some(old) => {
-                let whole = Change {
-                    old: *old,
-                    new: item.part,
-                };
-                tell_changed(syntax, whole, spots, out)?;
+
+    // Tells each item that is no longer defined.
+    fn tell_removed(&mut self, olds: &Items, news: &Items, spots: &[Spot]) -> Result<(), Fault> {
+        for (definition, item) in olds.iter() {
+            if !news.contains_key(definition) {
+                self.tell_item("  removed at ", spots, *item)?;
             }
         }
+        Ok(())
     }
-    Ok(())
-}
 
-// The items of a program.
-fn items_of(syntax: &Syntax, program: &Program) -> Result<Vec<Item>, Fault> {
-    let spots = program.spots.as_slice();
-    let mut items = Vec::new(syntax.alloc);
-    let mut spot = spots.len().saturating_sub(1);
-    for tree in program.items.as_slice().iter().rev() {
-        let part = Part { tree: *tree, spot };
-        if let Some(name) = defined(syntax, part) {
-            let definition = Definition { name, earlier: 0 };
-            items.push(Item { definition, part })?;
+    // Tells each item that wasn't defined before, and what changed in the others.
+    fn tell_others(&mut self, olds: &Items, news: &Items, spots: Spots<'_>) -> Result<(), Fault> {
+        for (definition, item) in news.iter() {
+            match olds.get(definition) {
+                Some(old) => self.tell_changed(*old, *item, spots)?,
+                None => self.tell_item("  added at ", spots.new, *item)?,
+            }
         }
-        spot = before(spots, spot);
+        Ok(())
     }
-    items.reverse();
-    count_earlier(syntax, items.as_mut_slice())?;
-    Ok(items)
-}
 
-// Notes of each item how many before it define the same name.
-fn count_earlier(syntax: &Syntax, items: &mut [Item]) -> Result<(), Fault> {
-    let mut counts: HashMap<SymbolRef, usize> = HashMap::new(syntax.alloc);
-    for item in items.iter_mut() {
-        let name = item.definition.name;
-        let earlier = counts.get(&name).copied().unwrap_or(0);
-        item.definition.earlier = earlier;
-        counts.insert(name, earlier.saturating_add(1))?;
+    // Tells an item that was added or removed.
+    fn tell_item(&mut self, what: &str, spots: &[Spot], item: Part) -> Result<(), Fault> {
+        self.tell(what, spots, item, item)?;
+        Ok(self.out.push('\n')?)
     }
-    Ok(())
-}
 
-// The name that an item defines: the head of its first part.
-fn defined(syntax: &Syntax, item: Part) -> Option<SymbolRef> {
-    let first = syntax.terms.args(item.tree)?.first()?;
-    Some(syntax.terms.head(*first)?.as_ref())
-}
-
-// The items under what they define.
-fn by_definition(syntax: &Syntax, items: &[Item]) -> Result<HashMap<Definition, Part>, Fault> {
-    let mut parts = HashMap::new(syntax.alloc);
-    for item in items {
-        parts.insert(item.definition, item.part)?;
+    // Tells what changed from an item to another.
+    fn tell_changed(&mut self, old: Part, new: Part, spots: Spots<'_>) -> Result<(), Fault> {
+        let changes = self.syntax.changes(Change { old, new }, spots, MOST)?;
+        for change in changes.as_slice() {
+            self.tell("  changed at ", spots.old, old, change.old)?;
+            self.tell(", now at ", spots.new, new, change.new)?;
+            self.out.push('\n')?;
+        }
+        Ok(())
     }
-    Ok(parts)
-}
 
-// Tells an item that was added or removed.
-fn tell_item(
-    syntax: &Syntax,
-    what: &str,
-    item: Part,
-    spots: &[Spot],
-    out: &mut String,
-) -> Result<(), Fault> {
-    tell_place(what, item, spots, out)?;
-    syntax.write_item(item.tree, MOST, out)?;
-    Ok(out.push('\n')?)
-}
-
-// Tells what changed in an item.
-fn tell_changed(
-    syntax: &Syntax,
-    whole: Change,
-    spots: Spots<'_>,
-    out: &mut String,
-) -> Result<(), Fault> {
-    let changes = syntax.changes(whole, spots, MOST)?;
-    for change in changes.as_slice() {
-        tell_place("  changed at ", change.old, spots.old, out)?;
-        write_part(syntax, whole.old, change.old, spots.old, out)?;
-        tell_place(", now at ", change.new, spots.new, out)?;
-        write_part(syntax, whole.new, change.new, spots.new, out)?;
-        out.push('\n')?;
+    // Tells what became of a part of an item, where it begins, and how it stands there: as all of
+    // the item, as what it defines, or as an expression.
+    fn tell(&mut self, what: &str, spots: &[Spot], item: Part, part: Part) -> Result<(), Fault> {
+        let place = spots.get(part.spot).map_or(Place::START, |spot| spot.place);
+        write!(self.out, "{what}{place}: ")?;
+        let value = item.spot.saturating_sub(1);
+        let tokens = if part.spot == item.spot {
+            self.syntax.print_item(part.tree, MOST)?
+        } else if part.spot == before(spots, value) {
+            self.syntax.print_defined(part.tree, MOST)?
+        } else {
+            self.syntax.print(part.tree, MOST)?
+        };
+        self.syntax.write(tokens.as_slice(), self.out)
     }
-    Ok(())
-}
 
-// Writes a part of an item as it stands there: all of the item, what it defines, or an expression.
-fn write_part(
-    syntax: &Syntax,
-    item: Part,
-    part: Part,
-    spots: &[Spot],
-    out: &mut String,
-) -> Result<(), Fault> {
-    let value = item.spot.saturating_sub(1);
-    if part.spot == item.spot {
-        syntax.write_item(part.tree, MOST, out)
-    } else if part.spot == before(spots, value) {
-        syntax.write_defined(part.tree, MOST, out)
-    } else {
-        syntax.write(part.tree, MOST, out)
+    // The items of a program.
+    fn items(&self, program: &Program) -> Result<Items, Fault> {
+        let mut items = IndexMap::new(self.syntax.alloc);
+        let mut counts = HashMap::new(self.syntax.alloc);
+        for part in self.parts(program)?.as_slice().iter().rev() {
+            if let Some(name) = self.defined(part.tree) {
+                let earlier = counts.get(&name).copied().unwrap_or(0usize);
+                counts.insert(name, earlier.saturating_add(1))?;
+                items.insert(Definition { name, earlier }, *part)?;
+            }
+        }
+        Ok(items)
     }
-}
 
-// Tells what became of a part, and where it begins.
-fn tell_place(what: &str, part: Part, spots: &[Spot], out: &mut String) -> Result<(), Fault> {
-    match spots.get(part.spot) {
-        Some(Spot { place, .. }) => Ok(write!(out, "{what}{place}: ")?),
-        None => Ok(write!(out, "{what}: ")?),
+    // The items of a program, the last first.
+    fn parts(&self, program: &Program) -> Result<Vec<Part>, Fault> {
+        let spots = program.spots.as_slice();
+        let mut spot = spots.len().saturating_sub(1);
+        let mut parts = Vec::new(self.syntax.alloc);
+        for tree in program.items.as_slice().iter().rev() {
+            parts.push(Part { tree: *tree, spot })?;
+            spot = before(spots, spot);
+        }
+        Ok(parts)
+    }
+
+    // The name that an item defines: the head of its first part.
+    fn defined(&self, item: TermRef) -> Option<SymbolRef> {
+        let first = self.syntax.terms.args(item)?.first()?;
+        Some(self.syntax.terms.head(*first)?.as_ref())
     }
 }

@@ -1,22 +1,24 @@
 //! Syntax trees in a store of terms, and what makes them token by token.
-ghost use Rattle.std.specs.Prelude.{◌≡◌, ◌↔◌, IsTrue, List, IfOk, IfErr, OnOk};
+ghost use Rattle.std.specs.Prelude.{◌≡◌, ◌↔◌, IsTrue, List, IfOk, IfErr, OnOk, map as list_map};
 ghost use Rattle.intern_terms.specs.Handle.{term_name};
 ghost use Rattle.intern_terms.specs.Tree.{Tree, Trees, tree as tree_of, no_more, UnfoldsTo};
 ghost use Rattle.ra_ap_intern.specs.State.{new_state};
 ghost use Rattle.ra_ap_intern.specs.Symbols.{symbol_ref_name};
 ghost use Rattle.syntax.specs.Frames.{shape_of};
-ghost use Rattle.syntax.specs.Lexeme.{lexeme, atom_of};
-ghost use Rattle.syntax.specs.Machine.{Unclosed, Reading, step as stepped_to, begun, gone_on, marked, completed, reduced, with_last};
-ghost use Rattle.syntax.specs.Parsing.{Keeps, Stand, IsUnclosed, Opens, Reads, ReadsBefore, Reaches, IsValue, OnUnexpected, Store};
-ghost use Rattle.syntax.specs.declared.message.Stop.TheVariants.{Unexpected as unexpected_stop};
+ghost use Rattle.intern_terms.specs.Tree.{AllUnfold};
+ghost use Rattle.ra_ap_intern.specs.Name.{Name as TermName};
+ghost use Rattle.syntax.specs.Lexeme.{lexeme, lexemes};
+ghost use Rattle.syntax.specs.Printing.{AreItems, program_tokens};
+ghost use Rattle.syntax.specs.Machine.{program as program_of, Unclosed, Reading, step as stepped_to, begun, gone_on, marked, completed, reduced, with_last};
+ghost use Rattle.syntax.specs.Parsing.{Keeps, Stand, IsUnclosed, Opens, Reads, ReadsBefore, Reaches, IsValue, OnUnexpected};
 
-use crate::fault::Fault;
-use crate::machine::{Form, Frame, Machine};
-use crate::message::{Expected, Stop};
+use crate::fault::{Fault, Stop};
+use crate::machine::{Form, Frame, Machine, Spot};
 use crate::token::{Mark, Operator, PlacedToken, Token};
 use intern_terms::{TermRef, TermStore, laws};
 use ra_ap_intern::{SymbolRef, SymbolTable};
 use std::alloc::Global;
+use text_run::Place;
 
 /// Syntax trees, each kept once, and the names in them.
 ///
@@ -28,6 +30,23 @@ pub struct Syntax {
     pub alloc: Global,
     pub names: SymbolTable,
     pub terms: TermStore,
+}
+
+/// A program: its items, and the spots of their parts.
+#[derive(Drop)]
+pub struct Program {
+    pub items: Vec<TermRef>,
+    pub spots: Vec<Spot>,
+}
+
+impl Program {
+    /// No item.
+    pub fn new(alloc: Global) -> Program {
+        Program {
+            items: Vec::new(alloc),
+            spots: Vec::new(alloc),
+        }
+    }
 }
 
 impl Syntax {
@@ -51,6 +70,48 @@ impl Syntax {
         // What `number` says of the state is said here too.
         let _number = self.terms.number();
         first == second
+    }
+
+    /// The program that the tokens are, which end at this place. A program that was printed is read
+    /// as the items that it was printed from.
+    pub fn parse(&mut self, tokens: &[PlacedToken], end: Place) -> Result<Program, Stop>
+        ensures again { IfOk result (λ p. (names : List TermName) (items : Trees) →
+            AllUnfold self.old.terms names items → AreItems items →
+            lexemes tokens.now ≡ program_tokens items → list_map term_name p.items.items ≡ names) }
+        ensures refused { IfErr result (λ stop. OnUnexpected stop ((items : Trees) →
+            AreItems items → lexemes tokens.now ≡ program_tokens items → ⊥)) }
+        ensures program { IfOk result (λ p. (items : Trees)
+            × (program_of (lexemes tokens.now) ≡ Some items)
+            × Stand self.new.terms p.items.items items) }
+        ensures unexpected { IfErr result (λ stop. OnUnexpected stop (
+            program_of (lexemes tokens.now) ≡ None)) }
+        ensures keeps { Keeps self.old.terms self.new.terms }
+    {
+        let parsed = self.run(tokens, end);
+        // What `number` says of the state is said here too.
+        let _number = self.terms.number();
+        parsed
+    }
+
+    // The program that the machine reads.
+    fn run(&mut self, tokens: &[PlacedToken], end: Place) -> Result<Program, Stop>
+        ensures program { IfOk result (λ p. (items : Trees)
+            × (program_of (lexemes tokens.now) ≡ Some items)
+            × Stand self.new.terms p.items.items items) }
+        ensures unexpected { IfErr result (λ stop. OnUnexpected stop (
+            program_of (lexemes tokens.now) ≡ None)) }
+        ensures keeps { Keeps self.old.terms self.new.terms }
+    {
+        let mut machine = Machine::new(self.alloc);
+        for placed in tokens {
+            self.step(&mut machine, *placed)?;
+        }
+        if machine.is_whole() {
+            let Machine { items, spots, .. } = machine;
+            Ok(Program { items, spots })
+        } else {
+            Err(Stop::unexpected(end, machine.expected(), None))
+        }
     }
 
     /// Goes on by a token.
@@ -78,15 +139,17 @@ impl Syntax {
             begun items os (lexeme placed.token) ≡ None)) }
         ensures keeps { Keeps self.old.terms self.new.terms }
     {
-        match placed.token.atom() {
-            Some(name) => {
-                if machine.is_between_items() {
-                    Err(unexpected(placed, machine.expected()))
-                } else {
-                    Ok(self.begin_atom(machine, name, placed)?)
-                }
-            }
-            None => begin_form(self.alloc, machine, placed),
+        let in_item = !machine.is_between_items();
+        match placed.token {
+            Token::Atom(name) if in_item => Ok(self.begin_atom(machine, name, placed.place)?),
+            Token::Atom(_) => Err(machine.refuse(placed)),
+            Token::Call(_) | Token::Infix(_) | Token::Mark(_) => match Form::opened(
+                placed.token,
+                in_item,
+            ) {
+                Some(form) => Ok(machine.open(self.alloc, form, placed.place)?),
+                None => Err(machine.refuse(placed)),
+            },
         }
     }
 
@@ -95,7 +158,7 @@ impl Syntax {
         &mut self,
         machine: &mut Machine,
         name: SymbolRef,
-        placed: PlacedToken,
+        place: Place,
     ) -> Result<(), Fault>
         ensures items { machine.new.items ≡ machine.old.items }
         ensures frames { machine.new.frames ≡ machine.old.frames }
@@ -103,9 +166,9 @@ impl Syntax {
             (Some (tree_of (symbol_ref_name name) no_more))) }
         ensures keeps { Keeps self.old.terms self.new.terms }
     {
-        let value = self.atom(name)?;
+        let value = self.terms.term_of(name, &[], &mut self.names)?;
         let first = machine.spots.len();
-        machine.note(placed.place, first)?;
+        machine.note(place, first)?;
         machine.value = Some(value);
         Ok(())
     }
@@ -137,10 +200,7 @@ impl Syntax {
                 let whole = self.reduce(machine, value, None)?;
                 self.mark(machine, whole, mark, placed)
             }
-            Token::Atom(_) | Token::Call(_) => {
-                let _whole = self.reduce(machine, value, None)?;
-                Err(unexpected(placed, machine.expected_behind()))
-            }
+            Token::Atom(_) | Token::Call(_) => Err(machine.refuse(placed)),
         }
     }
 
@@ -185,54 +245,23 @@ impl Syntax {
             marked items os t mark ≡ None)) }
         ensures keeps { Keeps self.old.terms self.new.terms }
     {
-        let expected = machine.expected_behind();
+        let refused = machine.refuse(placed);
         let Some(frame) = machine.frames.pop() else {
-            return Err(unexpected(placed, expected));
+            return Err(refused);
         };
         let parts = frame.parts.len();
         let is_outermost = machine.is_between_items();
         if frame.form.separates(parts, mark) {
             Ok(machine.push_part(frame, value)?)
         } else if frame.form.closes(mark) {
-            Ok(self.close(machine, frame, value)?)
+            machine.value = Some(self.complete(machine, frame, value)?);
+            Ok(())
         } else if frame.form.closes_item(parts, mark, is_outermost) {
-            Ok(self.close_item(machine, frame, value)?)
+            let item = self.complete(machine, frame, value)?;
+            Ok(machine.push_item(item)?)
         } else {
-            Err(unexpected(placed, expected))
+            Err(refused)
         }
-    }
-
-    // Ends a form with its last part.
-    fn close(&mut self, machine: &mut Machine, frame: Frame, value: TermRef) -> Result<(), Fault>
-        ensures closed { OnOk result ((o : Unclosed) (t : Tree) →
-            IsUnclosed self.old.terms frame o → UnfoldsTo self.old.terms (term_name value) t →
-            IsValue self.new.terms machine.new.value (Some (completed o t))) }
-        ensures items { machine.new.items ≡ machine.old.items }
-        ensures frames { machine.new.frames ≡ machine.old.frames }
-        ensures keeps { Keeps self.old.terms self.new.terms }
-    {
-        let whole = self.complete(machine, frame, value)?;
-        machine.value = Some(whole);
-        Ok(())
-    }
-
-    // Ends an item with its last part.
-    fn close_item(
-        &mut self,
-        machine: &mut Machine,
-        frame: Frame,
-        value: TermRef,
-    ) -> Result<(), Fault>
-        ensures closed { OnOk result ((items : Trees) (o : Unclosed) (t : Tree) →
-            Stand self.old.terms machine.old.items.items items →
-            IsUnclosed self.old.terms frame o → UnfoldsTo self.old.terms (term_name value) t →
-            Stand self.new.terms machine.new.items.items (with_last items (completed o t))) }
-        ensures value { OnOk result (machine.new.value ≡ None) }
-        ensures frames { machine.new.frames ≡ machine.old.frames }
-        ensures keeps { Keeps self.old.terms self.new.terms }
-    {
-        let item = self.complete(machine, frame, value)?;
-        machine.push_item(item)
     }
 
     // The tree of a form with its last part.
@@ -256,42 +285,5 @@ impl Syntax {
         let mut parts = frame.parts;
         parts.push(value)?;
         Ok(self.terms.term_of(head, parts.as_slice(), &mut self.names)?)
-    }
-
-    // The term of a name or a number.
-    fn atom(&mut self, name: SymbolRef) -> Result<TermRef, Fault>
-        ensures tree { IfOk result (λ n. UnfoldsTo self.new.terms (term_name n)
-            (tree_of (symbol_ref_name name) no_more)) }
-        ensures keeps { Keeps self.old.terms self.new.terms }
-    {
-        Ok(self.terms.term_of(name, &[], &mut self.names)?)
-    }
-}
-
-// A token that is no atom where an expression or an item begins.
-fn begin_form(alloc: Global, machine: &mut Machine, placed: PlacedToken) -> Result<(), Stop>
-    requires no_atom { atom_of placed.token ≡ None }
-    requires no_value { machine.old.value ≡ None }
-    ensures ok { OnOk result ((s : Store) (items : Trees) (os : List Unclosed) →
-        ReadsBefore s machine.old items os →
-        Reaches s machine.new (begun items os (lexeme placed.token))) }
-    ensures unexpected { IfErr result (λ stop. OnUnexpected stop (
-        (s : Store) (items : Trees) (os : List Unclosed) → ReadsBefore s machine.old items os →
-        begun items os (lexeme placed.token) ≡ None)) }
-{
-    match Form::opened(placed.token, !machine.is_between_items()) {
-        Some(form) => Ok(machine.open(alloc, form, placed.place)?),
-        None => Err(unexpected(placed, machine.expected())),
-    }
-}
-
-// What a token is told with that can't stand where it does.
-fn unexpected(placed: PlacedToken, expected: Expected) -> Stop
-    ensures { result ≡ unexpected_stop placed.place expected (Some placed.token) }
-{
-    Stop::Unexpected {
-        place: placed.place,
-        expected,
-        found: Some(placed.token),
     }
 }

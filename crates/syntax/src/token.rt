@@ -1,9 +1,10 @@
 //! Tokens.
 ghost use Rattle.std.specs.Prelude.{◌≡◌};
 ghost use Rattle.ra_ap_intern.specs.Symbols.{symbol_name};
-ghost use Rattle.syntax.specs.Lexeme.{atom_of, operator_head, operator_of, precedence as precedence_of};
+ghost use Rattle.syntax.specs.Lexeme.{operator_head, operator_of, precedence as precedence_of};
 
-use ra_ap_intern::{Symbol, SymbolRef, laws, sym};
+use ra_ap_intern::{Symbol, SymbolRef, SymbolTable, laws, sym};
+use std::alloc::AllocError;
 use text_run::Place;
 
 /// An infix operator. `a + b` is another way to write the call `add(a, b)`, and so on.
@@ -101,26 +102,28 @@ impl Operator {
 }
 
 impl Token {
-    /// The name or the number that the token is.
-    pub fn atom(self) -> Option<SymbolRef>
-        ensures { result ≡ atom_of self }
-    {
-        match self {
-            Token::Atom(name) => Some(name),
-            Token::Call(_) | Token::Infix(_) | Token::Mark(_) => None,
-        }
-    }
-
     /// The operator, mark or keyword that is written so. None of another word.
     pub fn spelled(word: &str) -> Option<Token> {
         let spelling = SPELLINGS.iter().find(|spelling| spelling.0 == word)?;
         Some(spelling.1)
     }
 
-    /// How an operator, a mark or a keyword is written. None of a name or a number.
-    pub fn spelling(self) -> Option<&'static str> {
+    // How an operator, a mark or a keyword is written. None of a name or a number.
+    fn spelling(self) -> Option<&'static str> {
         let spelling = SPELLINGS.iter().find(|spelling| spelling.1 == self)?;
         Some(spelling.0)
+    }
+
+    /// Writes it as it is written in a program.
+    pub fn write(self, names: &SymbolTable, out: &mut String) -> Result<(), AllocError> {
+        match self {
+            Token::Atom(name) => out.push_str(name.as_str(names).unwrap_or("?")),
+            Token::Call(name) => {
+                out.push_str(name.as_str(names).unwrap_or("?"))?;
+                out.push('(')
+            }
+            Token::Infix(_) | Token::Mark(_) => out.push_str(self.spelling().unwrap_or("?")),
+        }
     }
 }
 

@@ -1,21 +1,20 @@
 //! Worked examples.
 use std::alloc::Global;
 use std::process::Abort;
-use syntax::lexer::read_line;
-use syntax::parser::Program;
+use syntax::lexer::Lexer;
 use syntax::session::answer_all;
-use syntax::syntax::Syntax;
+use syntax::syntax::{Program, Syntax};
 use text_run::Place;
 
 const MOST: usize = 1 << 40;
 
 /// The program of a line.
 pub fn parsed(rt: &impl Abort, syntax: &mut Syntax, line: &str) -> Program {
-    let mut tokens = Vec::new(syntax.alloc);
-    let read = read_line(line, 1, &mut syntax.names, &mut tokens);
+    let mut lexer = Lexer::new(syntax.alloc);
+    let read = lexer.read(line, 1, &mut syntax.names);
     assert!(rt; read.is_ok(), "tokens");
     let end = Place { line: 2, column: 1 };
-    let Ok(program) = syntax.parse(tokens.as_slice(), end) else {
+    let Ok(program) = syntax.parse(lexer.tokens.as_slice(), end) else {
         panic!(rt; "a program")
     };
     program
@@ -25,7 +24,10 @@ pub fn parsed(rt: &impl Abort, syntax: &mut Syntax, line: &str) -> Program {
 pub fn printed(rt: &impl Abort, syntax: &Syntax, program: &Program, index: usize) -> String {
     let mut out = String::new(syntax.alloc);
     if let Some(item) = program.items.get(index) {
-        let written = syntax.write_item(*item, MOST, &mut out);
+        let Ok(tokens) = syntax.print_item(*item, MOST) else {
+            panic!(rt; "printed")
+        };
+        let written = syntax.write(tokens.as_slice(), &mut out);
         assert!(rt; written.is_ok(), "written");
     }
     out

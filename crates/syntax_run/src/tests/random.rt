@@ -147,9 +147,11 @@ fn told_changes(syntax: &Syntax, whole: Change) -> Result<String, Fault> {
     let mut out = String::new(syntax.alloc);
     let spots = Spots { old: &[], new: &[] };
     for change in syntax.changes(whole, spots, MOST)?.as_slice() {
-        syntax.write(change.old.tree, MOST, &mut out)?;
+        let old = syntax.print(change.old.tree, MOST)?;
+        syntax.write(old.as_slice(), &mut out)?;
         out.push_str(" becomes ")?;
-        syntax.write(change.new.tree, MOST, &mut out)?;
+        let new = syntax.print(change.new.tree, MOST)?;
+        syntax.write(new.as_slice(), &mut out)?;
         out.push('\n')?;
     }
     Ok(out)

@@ -1,10 +1,13 @@
-use Rattle.std.proofs.Common.{refl, ap, ◌∙◌, ◌++◌, ◌∷◌, []}
+use Rattle.std.proofs.Common.{List, subst, ◌++◌, ◌∷◌, []}
+use Rattle.std.specs.Prelude.{OnOk}
+use Rattle.intern_terms.specs.declared.handle.TermRef.{TermRef}
+use Rattle.syntax.specs.Frames.{Opened}
+use Rattle.syntax.specs.declared.machine.Form.TheVariants as form
 use Rattle.syntax.proofs.machine.Machine.open_infix.Goals as goal
 
 pub returns-clause-frames : goal.returns-clause-frames
-returns-clause-frames c = (
-  _,
-  c.in_ok-push-2.ensures.items,
-  refl,
-  c.in_ok-push.ensures.items ∙ ap (λ xs. xs ++ c.args.left ∷ []) c.new-parts.ensures.items,
-)
+returns-clause-frames c =
+    let P : List TermRef → Type 0 = λ parts. OnOk c.push_part.result
+    (Opened c.args.self.now.frames.items c.push_part.new.self.frames.items
+    (form.Infix c.args.operator) (parts ++ c.args.left ∷ [])) in
+    subst P c.new.ensures.items c.push_part.ensures.frames

@@ -23,7 +23,7 @@ loop-placed-preserved c = record {
 pub returns-else-is_whole-clause-unexpected : goal.returns-else-is_whole-clause-unexpected
 returns-else-is_whole-clause-unexpected c =
     let all : length c.args.tokens.now ≤ c.loop-placed.placed-index = omega arith in
-    on_unexpected c.unfinished.result _ _ _ _ c.unfinished.ensures.1
+    on_unexpected c.unexpected.result _ c.unexpected.ensures
     (run_unfinished c.loop-placed.self.terms c.loop-placed.machine
     (lexemes c.args.tokens.now)
     (runs_out c.loop-placed.self.terms c.loop-placed.machine c.args.tokens.now
