@@ -1,14 +1,31 @@
-use Rattle.std.proofs.Common.{◌∷◌, Some, refl, sym, ap, subst, ◌∙◌, arith}
+use Rattle.std.proofs.Common.{List, ◌∷◌, Some, refl, sym, ap, subst, ◌∙◌, arith}
+use Rattle.std.specs.Prelude.{All}
 use Rattle.ra_ap_intern.specs.Handle.{ref_name}
+use Rattle.ra_ap_intern.specs.Interning.{ReadsOn}
+use Rattle.ra_ap_intern.specs.State.{State}
 use Rattle.queries.specs.declared.cache.Progress.TheVariants.{At}
+use Rattle.queries.specs.declared.key.Key.{Key}
 use Rattle.queries.specs.declared.path.Frame.{Frame}
 use Rattle.queries.specs.Evaluation.{Evaluates, IsRight, LeadsToCycle}
-use Rattle.queries.specs.Path.{IsPath, WaitsFor}
-use Rattle.queries.specs.Sheet.{reads_of}
+use Rattle.queries.specs.Path.{IsFrame, IsPath, IsStuck, WaitsFor}
+use Rattle.queries.specs.Sheet.{Formulas, reads_of}
 use Rattle.queries.specs.Steps.{is_begun, steps_left}
 use Rattle.queries.proofs.Paths.{frame_on, frame_take, path_on, path_push, stuck_top, stuck_path, stuck_first}
 use Rattle.queries.proofs.Steps.{nearer_open, nearer_still, nearer_stored, nearer_take, next_reachable, not_begun}
 use Rattle.queries.proofs.cache.Cache.advance.Goals as goal
+
+-- where a query that is waited for leads to a cycle, all that wait do
+all_stuck : (sheet : Formulas) (old new : State Key) → ReadsOn old new
+    → (top : Frame) (key through first : Key) (frames : List Frame)
+    → IsFrame sheet old top → WaitsFor top key → IsPath sheet old first frames top.key
+    → (IsFrame sheet new top → IsPath sheet new first frames top.key → LeadsToCycle sheet key through)
+    → IsStuck sheet new through top × All (IsStuck sheet new through) frames
+all_stuck sheet old new on top key through first frames is waits before cycle =
+    let frame = frame_on sheet old new on top is in
+    let path = path_on sheet old new on first top.key frames before in (
+      stuck_top sheet new top key frame waits first frames path through (cycle frame path),
+      stuck_path sheet new top key frame waits first frames path through (cycle frame path),
+    )
 
 pub returns-in_ok-push-in-Some-Value-clause-goes_on : goal.returns-in_ok-push-in-Some-Value-clause-goes_on
 returns-in_ok-push-in-Some-Value-clause-goes_on c root at =
@@ -46,35 +63,27 @@ pub returns-in_err-give_up-in-Some-Cycle-clause-cache : goal.returns-in_err-give
 returns-in_err-give_up-in-Some-Cycle-clause-cache c =
     let sheet = c.args.sheet.now in
     let key = c.in-Some.key in
-    let on = c.in_ok-handle.ensures.on in
     let is = c.in_ok-handle.ensures.cache sheet c.requires.cache in
     let first = c.requires.path.0 in
-    let path = path_on sheet _ _ on first c.args.top.key c.args.path.now.frames.items c.requires.path.1 in
-    let frame = frame_on sheet _ _ on c.args.top c.requires.frame in
-    let waits : WaitsFor c.args.top key = sym c.in-Some.ensures in
-    let cycle = subst (LeadsToCycle sheet key) (sym c.in-Some-Cycle.through-is)
+    let stuck = all_stuck sheet _ _ c.in_ok-handle.ensures.on c.args.top key _ first _ c.requires.frame
+    (sym c.in-Some.ensures) c.requires.path.1 (λ frame path.
+    subst (LeadsToCycle sheet key) (sym c.in-Some-Cycle.through-is)
     (subst (IsRight sheet key) c.in-Some-Cycle.field-0-is
-    (c.in-Some-Cycle.ensures.right sheet first is frame path)) in
-    c.give_up.ensures.cache sheet is
-    (stuck_top sheet _ c.args.top key frame waits first _ path _ cycle)
-    (stuck_path sheet _ c.args.top key frame waits first _ path _ cycle)
+    (c.in-Some-Cycle.ensures.right sheet first is frame path))) in
+    c.give_up.ensures.cache sheet is stuck.0 stuck.1
 
 pub returns-in_ok-give_up-in-Some-Cycle-clause-cache : goal.returns-in_ok-give_up-in-Some-Cycle-clause-cache
 returns-in_ok-give_up-in-Some-Cycle-clause-cache c =
     let sheet = c.args.sheet.now in
     let key = c.in-Some.key in
-    let on = c.in_ok-handle.ensures.on in
     let is = c.in_ok-handle.ensures.cache sheet c.requires.cache in
     let first = c.requires.path.0 in
-    let path = path_on sheet _ _ on first c.args.top.key c.args.path.now.frames.items c.requires.path.1 in
-    let frame = frame_on sheet _ _ on c.args.top c.requires.frame in
-    let waits : WaitsFor c.args.top key = sym c.in-Some.ensures in
-    let cycle = subst (LeadsToCycle sheet key) (sym c.in-Some-Cycle.through-is)
+    let stuck = all_stuck sheet _ _ c.in_ok-handle.ensures.on c.args.top key _ first _ c.requires.frame
+    (sym c.in-Some.ensures) c.requires.path.1 (λ frame path.
+    subst (LeadsToCycle sheet key) (sym c.in-Some-Cycle.through-is)
     (subst (IsRight sheet key) c.in-Some-Cycle.field-0-is
-    (c.in-Some-Cycle.ensures.right sheet first is frame path)) in
-    c.give_up.ensures.cache sheet is
-    (stuck_top sheet _ c.args.top key frame waits first _ path _ cycle)
-    (stuck_path sheet _ c.args.top key frame waits first _ path _ cycle)
+    (c.in-Some-Cycle.ensures.right sheet first is frame path))) in
+    c.give_up.ensures.cache sheet is stuck.0 stuck.1
 
 pub returns-in_ok-give_up-in-Some-Cycle-clause-goes_on : goal.returns-in_ok-give_up-in-Some-Cycle-clause-goes_on
 returns-in_ok-give_up-in-Some-Cycle-clause-goes_on c root at =
