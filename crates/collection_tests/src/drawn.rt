@@ -231,7 +231,8 @@ impl<'a, K, S: Shelf<K>> Run<'a, K, S> {
         Known { count, ..known }
     }
 
-    /// The number is found, read and counted as is known, and its last entry once it is gone is not.
+    /// The number is found, read and counted as is known, and its last entry once it is gone is
+    /// not.
     fn is_as_told(&self, rt: &impl Abort, number: u64, known: Known<K>) {
         let Some(entry) = known.entry else {
             assert!(rt; self.storage.find(number).is_none());

@@ -80,8 +80,8 @@ fn ten_thousand_nodes_of_a_slice_over_one_leaf_are_kept(rt: HostRuntime) {
     drop_slices_last(family);
 }
 
-/// Interns a leaf and nodes over it, this many entries in all, whose births are their tags. It gives the
-/// nodes over the leaf.
+/// Interns a leaf and nodes over it, this many entries in all, whose births are their tags. It
+/// gives the nodes over the leaf.
 fn intern_fan(
     rt: &impl Abort,
     alloc: Global,

@@ -115,8 +115,8 @@ fn a_registration_forgets_all_marks(rt: HostRuntime) {
     drop_collector(gc);
 }
 
-/// Nothing is marked, and there were no visits and no mark calls. The slice can be marked again, and
-/// the text of a storage outside still can't.
+/// Nothing is marked, and there were no visits and no mark calls. The slice can be marked again,
+/// and the text of a storage outside still can't.
 fn begins_anew(
     rt: &impl Abort,
     gc: &mut GarbageCollector,

@@ -31,8 +31,8 @@ pub fn intern_leaf(
     intern_node(rt, alloc, storage, (tag, &[]), birth)
 }
 
-/// Interns nodes without children that aren't stored, of each tag from the first one to the end: they
-/// get their tags as births.
+/// Interns nodes without children that aren't stored, of each tag from the first one to the end:
+/// they get their tags as births.
 pub fn intern_leaves(rt: &impl Abort, alloc: Global, storage: &mut Nodes, first: u64, end: u64) {
     for tag in first..end {
         let _ = intern_leaf(rt, alloc, storage, tag, tag);

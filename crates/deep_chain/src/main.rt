@@ -1,8 +1,8 @@
 //! Collects a chain of nodes, each the child of the next: first with an owner of the last, which
 //! keeps all, and then without one.
 //!
-//! `tools/deep_chain` runs it on a small stack. Neither a collection nor the end of a value may take
-//! stack for each node of a path.
+//! `tools/deep_chain` runs it on a small stack. Neither a collection nor the end of a value may
+//! take stack for each node of a path.
 #![tactic(auto)]
 
 mod node;

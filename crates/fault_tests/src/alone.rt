@@ -1,5 +1,5 @@
-//! Storages whose calls give a handle alone. What comes with a refused call, or is stored already, is
-//! dropped.
+//! Storages whose calls give a handle alone. What comes with a refused call, or is stored already,
+//! is dropped.
 use crate::fault::{Fault, ensure, refused};
 use crate::slices::{Input, Row};
 use crate::storage::Storage;

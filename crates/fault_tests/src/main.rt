@@ -2,8 +2,8 @@
 //!
 //! One request for memory may be refused, whichever it is: what was refused is tried once more, or
 //! the replies are checked that the calls after it have then. So the program writes the same,
-//! whatever was refused. Where a call was refused, it checks first that nothing has changed and that
-//! what was offered came back. Marks on standard error say what each request is for (`marks`).
+//! whatever was refused. Where a call was refused, it checks first that nothing has changed and
+//! that what was offered came back. Marks on standard error say what each request is for (`marks`).
 #![tactic(auto)]
 
 mod alone;

@@ -131,7 +131,8 @@ fn check_letters<T: Letter, H: Listed<T>>(
     Ok(())
 }
 
-/// Checks the call of a table. Where it is refused, the texts without a symbol in the list are interned.
+/// Checks the call of a table. Where it is refused, the texts without a symbol in the list are
+/// interned.
 pub(crate) fn check_texts(rt: &(impl Print + Eprint), alloc: Global) -> Result<(), Fault> {
     let mut table = SymbolTable::new(alloc, 1);
     let mut symbols = Vec::new(alloc);

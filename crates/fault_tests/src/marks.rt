@@ -7,8 +7,8 @@ pub(crate) fn prepares(rt: &impl Eprint) {
     let _ = rt.eprintln("prepares");
 }
 
-/// What is asked for is asked by a call. Where it is refused, the program writes `refused`, with the
-/// name of that call. Where it may be one of several, their names have ` | ` between them.
+/// What is asked for is asked by a call. Where it is refused, the program writes `refused`, with
+/// the name of that call. Where it may be one of several, their names have ` | ` between them.
 pub(crate) fn asks(rt: &impl Eprint, calls: &'static str) {
     let _ = eprintln!(rt; "asks: {calls}");
 }

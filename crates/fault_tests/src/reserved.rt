@@ -126,7 +126,8 @@ fn store(
     Ok(handle)
 }
 
-// Makes room in a storage. Where that is refused, all is as it was, and it is made at the second try.
+// Makes room in a storage. Where that is refused, all is as it was, and it is made at the second
+// try.
 fn reserve<K: Kind<FixedState>>(
     rt: &impl Eprint,
     storage: &mut Storage<K>,

@@ -20,8 +20,8 @@ impl Internable for Term {
     ghost USE_GC = { true };
 }
 
-/// A number, counted. All numbers have one hash, which is among the greatest: so a table soon has no
-/// bucket left for them, before it is built anew and also while that is done.
+/// A number, counted. All numbers have one hash, which is among the greatest: so a table soon has
+/// no bucket left for them, before it is built anew and also while that is done.
 #[derive(Clone, Copy, PartialEq, Eq)]
 pub(crate) struct OneHash(u64);
 

@@ -20,7 +20,7 @@ impl Internable for Word {
 }
 
 /// The handle of a word, counted once more. The word comes back if it is stored already. Refused,
-/// with the word back: `CountFull` where it is stored; `NumbersUsedUp` and `OutOfMemory` where it isn't.
+/// with the word back: `CountFull` where it is stored; else `NumbersUsedUp` and `OutOfMemory`.
 pub fn handle_of(
     words: &mut InternStorage<Word>,
     word: Word,

@@ -1,8 +1,8 @@
 //! The workload of terms: leaves, each with a head of its own, and as many terms over two leaves.
 //!
-//! The lower half of the places are leaves, whose heads are the symbols of `x` and the place. Behind
-//! them, the terms have one head, `upper`: the one that stands `i` places behind the first is over
-//! the leaves `i` and `7 i + 3` modulo the number of leaves. So no two terms are equal.
+//! The lower half of the places are leaves, whose heads are the symbols of `x` and the place.
+//! Behind them, the terms have one head, `upper`: the one that stands `i` places behind the first
+//! is over the leaves `i` and `7 i + 3` modulo the number of leaves. So no two terms are equal.
 use crate::arguments::Job;
 use crate::keepers::Keeper;
 use crate::loops::check_entries;

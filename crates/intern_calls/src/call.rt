@@ -30,9 +30,9 @@ pub enum Which {
 
 /// A call of the library, on handles in slots.
 ///
-/// A call names slots by their numbers. Where there is no slot of a number, or it holds nothing that
-/// the call takes, the reply is `WrongSlot`; else a call is refused where that of the library is.
-/// One that gives a handle puts it into a new slot at the end of the list, and replies `Made`.
+/// A call names slots by their numbers. Where there is no slot of a number, or it holds nothing
+/// that the call takes, the reply is `WrongSlot`; else a call is refused where that of the library
+/// is. One that gives a handle puts it into a new slot at the end of the list, and replies `Made`.
 #[derive(Drop)]
 pub enum Call<C, G, S: SliceInternable> {
     /// Interns a counted value: an owned handle, and the value back where an equal one was stored.
@@ -65,8 +65,8 @@ pub enum Call<C, G, S: SliceInternable> {
     /// An owned handle of what a reference names. Refused: `Foreign`, `Gone`, `CountFull`.
     ToOwned(usize),
     /// Gives an owned handle or a symbol up, and leaves the slot empty. It replies `Done`, with the
-    /// value back where this was the last handle of a counted value.
-    /// Refused, and the handle stays in its slot: `Foreign`, `Gone`, and but for symbols `CountZero`.
+    /// value back where this was the last handle of a counted value. Refused, and the handle stays
+    /// in its slot: `Foreign`, `Gone`, and but for symbols `CountZero`.
     Release(usize),
     /// Takes back the count of a handle that was dropped, by a reference or a symbol, and replies
     /// `Done`. A text goes with its last count; values and slices stay, also at zero.
@@ -82,7 +82,8 @@ pub enum Call<C, G, S: SliceInternable> {
     ReadsSlice(usize, S::Header, Vec<S::SliceType>),
     /// Whether a symbol reads this text, as `Read`.
     ReadsText(usize, String),
-    /// Whether two handles of one kind are equal, as `Truth`. Two of different kinds are wrong slots.
+    /// Whether two handles of one kind are equal, as `Truth`. Two of different kinds are wrong
+    /// slots.
     Same(usize, usize),
     /// The count of the entry that a handle names, as `Count`.
     Count(usize),

@@ -40,8 +40,8 @@ impl<C, G, S> Slots<C, G, S> {
         }
     }
 
-    /// Asks for the room of so many slots more. It takes memory only where that room isn't there, and
-    /// answers `AllocError` where there is no memory. What the slots hold stays.
+    /// Asks for the room of so many slots more. It takes memory only where that room isn't there,
+    /// and answers `AllocError` where there is no memory. What the slots hold stays.
     pub fn reserve(&mut self, more: usize) -> Result<(), AllocError>
         ensures held { self.new.held ≡ self.old.held }
         ensures room { OnOk result (more ≤ self.new.room) }

@@ -1,4 +1,5 @@
-//! Storages, made and dropped by calls of their own: a test that does it itself is proved for longer.
+//! Storages, made and dropped by calls of their own: a test that does it itself is proved for
+//! longer.
 ghost use Rattle.std.specs.Prelude.{◌<◌};
 
 use ra_ap_intern::{InternSliceStorage, InternStorage, Internable, Limits, SliceInternable};

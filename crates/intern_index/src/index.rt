@@ -167,8 +167,8 @@ impl<T, N: Copy, B: Births> Index<T, N, B> {
         Some(payload)
     }
 
-    /// Removes an entry, and answers its value. Where a `BirthOrder` has a list of places, this goes
-    /// over all of it.
+    /// Removes an entry, and answers its value. Where a `BirthOrder` has a list of places, this
+    /// goes over all of it.
     pub fn remove(&mut self, spot: Spot) -> Option<T>
         ensures value { result ≡ option_map (λ e. e.value) (map.get self.old.entries spot.birth) }
         ensures removed { self.new ≡ record self.old {
@@ -251,8 +251,8 @@ impl<T, N: Copy, B: Births> Index<T, N, B> {
     }
 
     /// An entry that fits a query. One is found where an entry of this hash fits; the one that is
-    /// found may have another. Entries are looked at to which a bucket with 16 bits of the hash leads,
-    /// also where the place was another entry's when the bucket was filled.
+    /// found may have another. Entries are looked at to which a bucket with 16 bits of the hash
+    /// leads, also where the place was another entry's when the bucket was filled.
     pub fn find<Q: Query<T, N>>(&self, hash: u64, query: &Q) -> Option<Spot>
         ensures found { IfSome result (λ s.
             is_sought (Q.fits query.now) (map.get self.now.entries s.birth) ≡ true) }
@@ -329,8 +329,8 @@ impl<T, N: Copy, B: Births> Index<T, N, B> {
 
 impl<T, N: Copy> Index<T, N, BirthOrder> {
     /// The entry of a rank in the order of births: where it lies, its value and its payload; none
-    /// behind the last. `before` is where the entry of the rank before lies, none for rank 0: births
-    /// in row are looked for from there.
+    /// behind the last. `before` is where the entry of the rank before lies, none for rank 0:
+    /// births in row are looked for from there.
     pub fn nth(&self, at: usize, before: Option<Spot>) -> Option<(Spot, &T, N)>
         requires within { at ≤ map.len self.now.entries }
         requires before { before ≡ spot_before self.now.entries at }

@@ -16,8 +16,8 @@ use std::alloc::{AllocError, Global};
 // For so many more entries a table is built at least.
 const LEAST: usize = 64;
 
-// Below so many entries a table is built for four times as many, else for twice as many: it is small
-// all the same, and is built half as often while a storage grows.
+// Below so many entries a table is built for four times as many, else for twice as many: it is
+// small all the same, and is built half as often while a storage grows.
 const FEW: usize = 1 << 15;
 
 /// What entries are entered under.

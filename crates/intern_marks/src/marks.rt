@@ -21,12 +21,13 @@ use std::ops::ControlFlow;
 /// The names of a family, which of them are marked, and which of these were visited.
 ///
 /// Where entries are added in the order of their places, each is in the slot of its place, counted
-/// from the first slot of its storage. A name is looked up there first. While births are in row, which
-/// is as long as in each storage birth and place differ by one number, any other name is in the slot
-/// that its birth tells; afterwards births are listed, and it is looked up in a hash table. So a mark
-/// call and a visit take expected constant time, beside a walk over the storages. The table is filled
-/// when a mark call or a root first asks it, in time linear in the slots. Only `with_room` and `add`
-/// take memory: 3 bytes a slot and 8 an entry, and 17 more a slot once births aren't in row.
+/// from the first slot of its storage. A name is looked up there first. While births are in row,
+/// which is as long as in each storage birth and place differ by one number, any other name is in
+/// the slot that its birth tells; afterwards births are listed, and it is looked up in a hash
+/// table. So a mark call and a visit take expected constant time, beside a walk over the storages.
+/// The table is filled when a mark call or a root first asks it, in time linear in the slots. Only
+/// `with_room` and `add` take memory: 3 bytes a slot and 8 an entry, and 17 more a slot once births
+/// aren't in row.
 #[derive(Drop)]
 pub struct Marks {
     slots: Slots,
@@ -83,8 +84,8 @@ impl Marks {
         }
     }
 
-    /// Nothing is registered, with room for this many entries. Past them it works on, but slows down.
-    /// Where there is no memory, `AllocError`.
+    /// Nothing is registered, with room for this many entries. Past them it works on, but slows
+    /// down. Where there is no memory, `AllocError`.
     #[tactic(auto, using(crate::proofs::Tied::nothing_names))]
     pub fn with_room(alloc: Global, entries: usize) -> Result<Marks, AllocError>
         ensures { IfOk result (λ m. m ≡ fresh map.empty) }
@@ -99,8 +100,8 @@ impl Marks {
         })
     }
 
-    /// Adds an entry, whose name isn't registered, with its flags. It is the next that is marked, if
-    /// the flags say so. Where there is no memory, or no slot is left, `AllocError`, and nothing
+    /// Adds an entry, whose name isn't registered, with its flags. It is the next that is marked,
+    /// if the flags say so. Where there is no memory, or no slot is left, `AllocError`, and nothing
     /// has changed.
     ///
     /// The entry's slot is that of its place. Slots before it that no entry takes stay vacant, and
@@ -122,19 +123,21 @@ impl Marks {
         Ok(())
     }
 
-    /// Makes `is_marked` take expected constant time for names without places too, in time linear in
-    /// the slots unless births are in row. A mark call for such a name does so itself. It takes no
-    /// memory.
+    /// Makes `is_marked` take expected constant time for names without places too, in time linear
+    /// in the slots unless births are in row. A mark call for such a name does so itself. It takes
+    /// no memory.
     ///
-    /// Where the hash table has no room for all entries, which takes hashes that are nearly all alike,
-    /// or more entries than it was made for, it stays out of use, and searches look at all slots.
+    /// Where the hash table has no room for all entries, which takes hashes that are nearly all
+    /// alike, or more entries than it was made for, it stays out of use, and searches look at all
+    /// slots.
     pub fn fill(&mut self)
         ensures { self.new ≡ self.old }
     {
         fill(&self.slots, &mut self.table);
     }
 
-    /// How many names are registered. Only these are marked, each once, and what was visited is marked.
+    /// How many names are registered. Only these are marked, each once, and what was visited is
+    /// marked.
     pub fn len(&self) -> usize
         ensures size { result ≡ map.len self.now.registered }
         ensures sound { IsSound self.now.registered self.now.marked }

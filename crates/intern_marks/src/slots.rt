@@ -226,8 +226,8 @@ impl Slots {
     }
 
     /// Makes room for an entry, and says which slot is to be its: that of its place, or else the
-    /// next. Where its birth isn't in row, births are listed from now on. Where there is no memory, or
-    /// no slot below 2^48 - 1 is left, nothing has changed.
+    /// next. Where its birth isn't in row, births are listed from now on. Where there is no memory,
+    /// or no slot below 2^48 - 1 is left, nothing has changed.
     pub(crate) fn make_room(&mut self, key: EntryKey) -> Result<usize, AllocError>
         ensures same { (i : ℕ) → registered_at self.new i ≡ registered_at self.old i }
         ensures count { slot_count self.new ≡ slot_count self.old }

@@ -37,7 +37,7 @@ pub trait Entries: Sized {
         ensures entries { entries result ≡ map.empty }
         ensures hasher { hashes_by result ≡ hasher };
 
-    /// Makes room for this many more entries.
+    /// Makes room for this many more entries. Where there is no memory, `AllocError`.
     fn reserve(&mut self, additional: usize) -> Result<(), AllocError>
         ensures entries { entries self.new ≡ entries self.old }
         ensures hasher { hashes_by self.new ≡ hashes_by self.old }
@@ -47,8 +47,8 @@ pub trait Entries: Sized {
     fn len(&self) -> usize
         ensures { result ≡ map.len (entries self.now) };
 
-    /// The bytes that the table has asked for and still holds: its slots, used or not, and what finds
-    /// them. What values hold elsewhere is not counted.
+    /// The bytes that the table has asked for and still holds: its slots, used or not, and what
+    /// finds them. What values hold elsewhere is not counted.
     fn memory(&self) -> usize
         ensures { least_memory (map.len (entries self.now)) ≤ result };
 
@@ -80,7 +80,8 @@ pub trait Entries: Sized {
 
 /// A table that keeps a part of each value outside of its entry.
 pub trait Pools: Entries {
-    /// Makes room for this much more outside of the entries.
+    /// Makes room for this much more outside of the entries. Where there is no memory,
+    /// `AllocError`.
     fn reserve_outside(&mut self, additional: usize) -> Result<(), AllocError>
         ensures entries { Self.entries self.new ≡ Self.entries self.old }
         ensures hasher { Self.hashes_by self.new ≡ Self.hashes_by self.old }

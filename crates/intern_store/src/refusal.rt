@@ -2,12 +2,13 @@
 ghost use Rattle.std.specs.Prelude.{◌≡◌};
 ghost use Rattle.intern_store.specs.Outcome.{refusal_number};
 
+use std::alloc::{AllocError, AllocFailed};
 use std::error::Error as StdError;
 use std::fmt;
 use thiserror::Error;
 
-/// Why a call was refused. A refused call leaves the storage as it was, but for that of many values,
-/// which keeps what it stored before.
+/// Why a call was refused. A refused call leaves the storage as it was, but for that of many
+/// values, which keeps what it stored before.
 ///
 /// Of a handle or a value the reasons are looked for in this order, and the first that holds is
 /// answered. A call on many asks of one after the other.
@@ -35,8 +36,8 @@ pub enum Refusal {
 
 /// A refusal, with what the call consumed.
 ///
-/// `?` turns it into the [`Refusal`] alone, and lets what comes back go: where that is a handle, its
-/// count stays. Take `back` out where it is still needed.
+/// `?` turns it into the [`Refusal`] alone, and lets what comes back go: where that is a handle,
+/// its count stays. Take `back` out where it is still needed.
 #[derive(Debug, Drop, PartialEq, Eq)]
 pub struct Refused<H> {
     /// The reason.
@@ -58,6 +59,27 @@ impl<H: Drop> From<Refused<H>> for Refusal {
 
     fn from(refused: Refused<H>) -> Refusal {
         refused.why
+    }
+}
+
+// So `?` serves for the storage and for the lists and maps beside it.
+impl From<AllocError> for Refusal {
+    ghost use Rattle.intern_store.specs.declared.refusal.Refusal.TheVariants.{OutOfMemory};
+
+    ghost from_gives = { λ _ why. why ≡ OutOfMemory };
+
+    fn from(_error: AllocError) -> Refusal {
+        Refusal::OutOfMemory
+    }
+}
+
+impl<Lost: Drop> From<AllocFailed<Lost>> for Refusal {
+    ghost use Rattle.intern_store.specs.declared.refusal.Refusal.TheVariants.{OutOfMemory};
+
+    ghost from_gives = { λ _ why. why ≡ OutOfMemory };
+
+    fn from(failed: AllocFailed<Lost>) -> Refusal {
+        Refusal::from(AllocError::from(failed))
     }
 }
 

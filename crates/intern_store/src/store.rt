@@ -29,8 +29,8 @@ pub struct Store<E: Entries> {
     table: E,
 }
 
-// Written out, so that a store is dropped by one call. A derived drop is checked anew at each way out
-// of each function that has one, down to the last part of the table.
+// Written out, so that a store is dropped by one call. A derived drop is checked anew at each way
+// out of each function that has one, down to the last part of the table.
 impl<E: Entries + Drop> Drop for Store<E> {
     fn drop(self) {
         let Store {
@@ -178,7 +178,7 @@ impl<E: Entries> Store<E> {
         }
     }
 
-    /// The key of the entry of a birth.
+    /// The key of the entry of a birth. Refused: `Gone`.
     pub fn entry(&self, birth: u64) -> Result<EntryKey, Refusal>
         ensures ok { IfOk result (λ k. key_name k ≡ name_in self.now.state birth) }
         ensures refused { Owes result (due_at (entry_at self.now.state birth) any_count) }
@@ -189,7 +189,7 @@ impl<E: Entries> Store<E> {
         }
     }
 
-    /// The key of the entry of a birth, where its count isn't zero.
+    /// The key of the entry of a birth, where its count isn't zero. Refused: `Gone`, `CountZero`.
     pub fn counted_entry(&self, birth: u64) -> Result<EntryKey, Refusal>
         ensures ok { IfOk result (λ k. key_name k ≡ name_in self.now.state birth) }
         ensures refused { Owes result (due_at (entry_at self.now.state birth) zero_count) }
@@ -306,6 +306,8 @@ impl<E: Entries> Store<E> {
     }
 
     /// Stores what is offered, with count zero, or hands it back where an equal value is stored.
+    /// Refused, with the offer handed back and only where none is: `NumbersUsedUp`, `OutOfMemory`.
+    /// It takes memory where the table has no room.
     pub fn intern<O>(&mut self, offer: O) -> Result<(EntryKey, Option<O>), Refused<O>>
     where
         E: Takes<O>,
@@ -390,7 +392,8 @@ impl<E: Entries> Store<E> {
     }
 
     /// Stores what is offered, or hands it back where an equal value is stored. The entry is
-    /// counted once more.
+    /// counted once more. Refused, with the offer handed back: `CountFull` where an equal value is
+    /// stored; else `NumbersUsedUp`, `OutOfMemory`. It takes memory where the table has no room.
     pub fn intern_counted<O>(&mut self, offer: O) -> Result<(EntryKey, Option<O>), Refused<O>>
     where
         E: Raises<O>,
@@ -419,7 +422,7 @@ impl<E: Entries> Store<E> {
         }
     }
 
-    /// Counts an entry once more.
+    /// Counts an entry once more. Refused: `Foreign`, `Gone`, `CountFull`.
     pub fn count_up(&mut self, key: EntryKey) -> Result<(), Refusal>
         ensures refused { Owes result
             (due self.old.state (key_name key) (full self.old.state.top)) }
@@ -431,7 +434,7 @@ impl<E: Entries> Store<E> {
         self.raise(spot)
     }
 
-    /// Counts an entry once less. It stays, also at zero.
+    /// Counts an entry once less. It stays, also at zero. Refused: `Foreign`, `Gone`, `CountZero`.
     pub fn count_down(&mut self, key: EntryKey) -> Result<(), Refusal>
         ensures refused { Owes result (due self.old.state (key_name key) zero_count) }
         ensures state { Becomes result self.old.state self.new.state

@@ -71,8 +71,8 @@ impl<S> NearItems<S> for FarItems {
     }
 }
 
-/// Up to `N` items, and at most 2³² - 1, or how many items lie in the vector. So it is with an empty
-/// slice, which has no item to fill an array with.
+/// Up to `N` items, and at most 2³² - 1, or how many items lie in the vector. So it is with an
+/// empty slice, which has no item to fill an array with.
 #[derive(Drop)]
 pub enum OwnItems<S, const N: usize> {
     /// The items.

@@ -28,9 +28,9 @@ use std::marker::Model;
 ///
 /// Interning takes expected constant time, unless the hash table is built anew. It compares the
 /// slices of one hash, and others only where a bucket with the same 16 bits leads to them, as one
-/// does whose place was given to another entry. Building the table anew hashes each slice. A call on
-/// a handle touches its entry, and a read its items too. Only an insertion and what reserves room
-/// take memory.
+/// does whose place was given to another entry. Building the table anew hashes each slice. A call
+/// on a handle touches its entry, and a read its items too. Only an insertion and what reserves
+/// room take memory.
 #[derive(Drop)]
 pub struct SliceTable<H: Hash + Eq, S: Hash + Eq + Copy, A: NearItems<S>, B: BuildHasher> {
     index: Index<SliceRow<H, A>, SlicePayload, BirthOrder>,

@@ -20,8 +20,8 @@ use std::marker::Model;
 ///
 /// Interning takes expected constant time, unless the hash tables are built anew. It compares the
 /// values of one hash, and others only where a bucket with the same 16 bits leads to them, as one
-/// does whose place was given to another entry. Building the table of hashes anew hashes each value.
-/// A call on a handle touches its entry alone. Only an insertion and `reserve` take memory.
+/// does whose place was given to another entry. Building the table of hashes anew hashes each
+/// value. A call on a handle touches its entry alone. Only an insertion and `reserve` take memory.
 #[derive(Drop)]
 pub struct Table<T: Hash + Eq, B: BuildHasher = FixedState> {
     index: Index<T, u64, BirthTable>,

@@ -9,8 +9,8 @@ use indexmap::IndexSet;
 use std::alloc::{AllocError, Global};
 use std::marker::Model;
 
-// The terms that a walk has found, each once. It is seen as the list of their names, in the order in
-// which they were found.
+// The terms that a walk has found, each once. It is seen as the list of their names, in the order
+// in which they were found.
 #[derive(Drop)]
 pub(crate) struct Found {
     alloc: Global,

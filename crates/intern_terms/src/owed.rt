@@ -12,7 +12,8 @@ use ra_ap_intern::{GarbageCollector, GcInternedVisit, Name, Refusal, Refused};
 use std::fmt;
 use std::hash::BuildHasher;
 
-/// A term that is kept and can't be dropped: a program that lets one go is refused as it is compiled.
+/// A term that is kept and can't be dropped: a program that lets one go is refused as it is
+/// compiled.
 ///
 /// It is made from a [`Term`], counts as that does, and is compared, ordered and hashed by its name
 /// alone. It ends in `release`, or in `into_term`, which says where a count stays. Where a call is

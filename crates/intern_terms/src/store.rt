@@ -78,8 +78,8 @@ impl TermStore {
 }
 
 impl<B: BuildHasher> TermStore<B> {
-    /// An empty store with limits of its own, which hashes terms by what `hasher` builds. It takes no
-    /// memory.
+    /// An empty store with limits of its own, which hashes terms by what `hasher` builds. It takes
+    /// no memory.
     ///
     /// The seed of [`FixedState`] is known, so that whoever chooses the terms can let all of them
     /// share a bucket. Give a store of such terms `RandomState::new(&rt)?`.
@@ -160,8 +160,9 @@ impl<B: BuildHasher> TermStore<B> {
     /// The term with a referenced head over these arguments. The head is counted once more in its
     /// table exactly where the term wasn't stored yet.
     ///
-    /// Refused: `Foreign`, `Gone` and `CountFull`, as [`SymbolRef::to_owned`] refuses the head, also
-    /// where the term is stored; then as [`TermStore::term`] is. After a refusal nothing has changed.
+    /// Refused: `Foreign`, `Gone` and `CountFull`, as [`SymbolRef::to_owned`] refuses the head,
+    /// also where the term is stored; then as [`TermStore::term`] is. After a refusal nothing has
+    /// changed.
     pub fn term_of<N: BuildHasher>(
         &mut self,
         head: SymbolRef,
@@ -188,7 +189,8 @@ impl<B: BuildHasher> TermStore<B> {
         self.term_or_give_up(owner, args, heads)
     }
 
-    // The term with this head over these arguments. A head that isn't stored is given up in its table.
+    // The term with this head over these arguments. A head that isn't stored is given up in its
+    // table.
     fn term_or_give_up<N: BuildHasher>(
         &mut self,
         head: Symbol,
@@ -232,8 +234,8 @@ impl<B: BuildHasher> TermStore<B> {
         Some(TermRef { reference })
     }
 
-    /// The term with a referenced head over these arguments, where it is stored. It takes no memory,
-    /// and counts nothing.
+    /// The term with a referenced head over these arguments, where it is stored. It takes no
+    /// memory, and counts nothing.
     pub fn get_of(&self, head: SymbolRef, args: &[TermRef]) -> Option<TermRef>
         ensures { (owner : Head) → symbol_name owner ≡ symbol_ref_name head →
             option_map term_name result
@@ -268,8 +270,8 @@ impl<B: BuildHasher> TermStore<B> {
         self.terms.count(term.reference)
     }
 
-    /// The terms, in no promised order. It takes no memory, and goes over as many places as there were
-    /// terms at one time.
+    /// The terms, in no promised order. It takes no memory, and goes over as many places as there
+    /// were terms at one time.
     pub fn iter(&self) -> TermIter<'_>
         ensures { IsPermutation result (names_in self.now) }
     {
@@ -303,8 +305,8 @@ impl<B: BuildHasher> TermStore<B> {
         Some(term.reference.get(&self.terms)?.slice)
     }
 
-    /// The term of a name, which may come from anywhere. It looks the birth up, and takes no memory.
-    /// Refused: `Foreign`, `Gone`.
+    /// The term of a name, which may come from anywhere. It looks the birth up, and takes no
+    /// memory. Refused: `Foreign`, `Gone`.
     pub fn named(&self, name: Name) -> Result<TermRef, Refusal>
         ensures ok { IfOk result (λ t. term_name t ≡ name) }
         ensures refused { Owes result (due self.now name any_count) }
@@ -327,9 +329,9 @@ impl<B: BuildHasher> TermStore<B> {
         Ok(Term { owned })
     }
 
-    /// Removes every term that is in no tree of a term that is kept. No birth is given again. The head
-    /// of a term that goes keeps its count in its table ([`TermStore::collect_releasing`] gives it up).
-    /// Where there is no memory, `AllocError`, and the store is as it was.
+    /// Removes every term that is in no tree of a term that is kept. No birth is given again. The
+    /// head of a term that goes keeps its count in its table ([`TermStore::collect_releasing`]
+    /// gives it up). Where there is no memory, `AllocError`, and the store is as it was.
     pub fn collect(&mut self) -> Result<Collected, AllocError>
         ensures ok { IfOk result (λ told. (names : List TermName)
             × IsCollection (starts (terms_of self.old)) (terms_of self.old) names told
@@ -341,10 +343,10 @@ impl<B: BuildHasher> TermStore<B> {
         GarbageCollector::new(self.alloc).collect(&mut self.terms)
     }
 
-    /// Does the same, and leaves the trees of what a visitor declares too: a [`TermRef`], or an option,
-    /// a pair, an array, a vector or a slice of such, or a value of a type with a visitor of its own.
-    /// A term of another store, one that is gone, or one that is declared twice, adds nothing. Refused as
-    /// [`TermStore::collect`].
+    /// Does the same, and leaves the trees of what a visitor declares too: a [`TermRef`], or an
+    /// option, a pair, an array, a vector or a slice of such, or a value of a type with a visitor
+    /// of its own. A term of another store, one that is gone, or one that is declared twice, adds
+    /// nothing. Refused as [`TermStore::collect`].
     pub fn collect_from<R: GcInternedVisit>(&mut self, roots: &R) -> Result<Collected, AllocError>
         ensures ok { IfOk result (λ told. (names : List TermName)
             × IsCollection (starts_with (R.children roots.now) (terms_of self.old))
@@ -357,7 +359,9 @@ impl<B: BuildHasher> TermStore<B> {
         GarbageCollector::new(self.alloc).collect_from(&mut self.terms, roots)
     }
 
-    /// Does the same with these terms. Refused as [`TermStore::collect`].
+    /// Removes what [`TermStore::collect`] does, and leaves the trees of these terms too. One of
+    /// another store, one that is gone, or one that is listed twice, adds nothing. Refused as
+    /// there.
     pub fn collect_keeping(&mut self, roots: &[TermRef]) -> Result<Collected, AllocError>
         ensures ok { IfOk result (λ told. (names : List TermName)
             × IsCollection (starts_with (list_map term_name roots.now) (terms_of self.old))
@@ -370,10 +374,10 @@ impl<B: BuildHasher> TermStore<B> {
         self.collect_from(&roots)
     }
 
-    /// Does what [`TermStore::collect_keeping`] does, and gives up what the heads of the terms that go
-    /// count in a table: a text that nothing else counts goes with them. A head that is a preset, or
-    /// that the table can't read, changes nothing there. Where there is no memory, `AllocError`, and
-    /// both are as they were.
+    /// Does what [`TermStore::collect_keeping`] does, and gives up what the heads of the terms that
+    /// go count in a table: a text that nothing else counts goes with them. A head that is a
+    /// preset, or that the table can't read, changes nothing there. Where there is no memory,
+    /// `AllocError`, and both are as they were.
     pub fn collect_releasing<N: BuildHasher>(
         &mut self,
         roots: &[TermRef],
@@ -413,8 +417,9 @@ impl<B: BuildHasher> TermStore<B> {
         self.alloc
     }
 
-    // Refused as the first argument that can't be read.
-    fn check_all(&self, args: &[TermRef]) -> Result<(), Refusal>
+    /// Whether terms can all be read, and why the first one that can't be can't: so a term of these
+    /// arguments is refused. Refused: `Foreign`, `Gone`.
+    pub fn check_all(&self, args: &[TermRef]) -> Result<(), Refusal>
         ensures refused { Owes result (due_each self.now (list_map term_name args.now)) }
         ensures state { IsTerms self.now }
     {

@@ -23,9 +23,9 @@ struct Open {
 }
 
 impl<B: BuildHasher> TermStore<B> {
-    /// Each term of the trees of the listed terms, once, and after its arguments: the order in which
-    /// terms can be evaluated, or copied. A listed term of another store, one that is gone, or one
-    /// that is listed twice, adds nothing. Where there is no memory, `AllocError`.
+    /// Each term of the trees of the listed terms, once, and after its arguments: the order in
+    /// which terms can be evaluated, or copied. A listed term of another store, one that is gone,
+    /// or one that is listed twice, adds nothing. Where there is no memory, `AllocError`.
     ///
     /// It takes expected time and memory linear in the terms that it answers and their arguments,
     /// whatever else the store holds, and it never recurses.

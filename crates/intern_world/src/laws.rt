@@ -85,7 +85,8 @@ pub fn collections_leave_what_is_reached<
 {}
 
 /// After a collection that begins also at handles in slots, a name reads what it read, or nothing,
-/// and what is gone stays gone; and each entry counts what it did: what was removed counted nothing.
+/// and what is gone stays gone; and each entry counts what it did: what was removed counted
+/// nothing.
 pub fn a_collection_keeps_names_and_counts<
     C: Internable,
     G: Internable + GcInternedVisit,

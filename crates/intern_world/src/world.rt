@@ -131,8 +131,8 @@ impl<C: Internable, G: Internable + GcInternedVisit + Drop, S: GcInternedSliceVi
 where
     S::Header: Drop,
 {
-    /// Collects, and begins also at the entries that the handles in these slots name. A handle whose
-    /// name is that of no entry adds nothing.
+    /// Collects, and begins also at the entries that the handles in these slots name. A handle
+    /// whose name is that of no entry adds nothing.
     ///
     /// It replies as a collection does: `Collected`, or `Refused` where there is no memory, also
     /// for the names. `WrongSlot` where a slot holds no handle of a collected value or of a slice.

@@ -112,7 +112,8 @@ fn intern(
     Ok(reference)
 }
 
-// What collectors of a family answer. Over any family, since what is known of one makes proofs long.
+// What collectors of a family answer. Over any family, since what is known of one makes proofs
+// long.
 fn check_collections<F: Family>(
     rt: &impl Eprint,
     alloc: Global,

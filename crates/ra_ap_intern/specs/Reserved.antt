@@ -4,28 +4,26 @@ use Rattle.std.specs.Borrow.{LendsIfOk, MutBor, Fml, RattleType}
 use Rattle.std.specs.declared.cmp.PartialEq as equal
 use Rattle.std.specs.declared.hash.BuildHasher as build
 use Rattle.std.specs.declared.hash.Hasher as hash
-use Rattle.intern_store.specs.State.{State}
+use Rattle.intern_store.specs.State.{State, Stocked}
 use Rattle.intern_store.specs.declared.entries.Entries as entries
 use Rattle.ra_ap_intern.specs.contracts.storage.Reserved as reserved
 use Rattle.ra_ap_intern.specs.contracts.storage.Storage as storage
 use Rattle.ra_ap_intern.specs.contracts.symbol.ReservedTexts as texts
 use Rattle.ra_ap_intern.specs.contracts.symbol.SymbolTable as table
 use Rattle.ra_ap_intern.specs.declared.kind.Kind as kind
-use Rattle.ra_ap_intern.specs.declared.storage.Reserved.{Reserved}
-use Rattle.ra_ap_intern.specs.declared.symbol.ReservedTexts.{ReservedTexts}
 
 module _ (K B T V : RattleType) (k : kind.Ghosts K.Denot B.Denot T.Denot V.Denot)
     (e : entries.Ghosts T.Denot V.Denot B.Denot) (q : equal.Ghosts V.Denot) where
   -- the storage ends with the entries that what it lent has at last, or as it was
   abbrev pub LendsEntries : {E : Type 0} → MutBor (State V.Denot)
-      → Result (MutBor (Reserved K.Denot B.Denot T.Denot V.Denot)) E → Fml
+      → Result (MutBor (Stocked V.Denot B.Denot)) E → Fml
   LendsEntries s r =
-      LendsIfOk (storage.the_row K B T V k e q) (reserved.the_row K B T V e q) s r
-      (λ x. x.store.state) s.now
+      LendsIfOk (storage.the_row K B T V k e q) (reserved.the_row K B T V k e q) s r
+      (λ x. x.state) s.now
 
 module _ (B H : RattleType) (b : build.Ghosts B.Denot H.Denot) (h : hash.Ghosts H.Denot) where
   -- the same of a table of symbols
   abbrev pub LendsTexts : {E : Type 0} → MutBor (State (List ℕ))
-      → Result (MutBor (ReservedTexts B.Denot H.Denot b h)) E → Fml
+      → Result (MutBor (Stocked (List ℕ) B.Denot)) E → Fml
   LendsTexts s r =
-      LendsIfOk (table.the_row B H b h) (texts.the_row B H b h) s r (λ x. x.store.state) s.now
+      LendsIfOk (table.the_row B H b h) (texts.the_row B H b h) s r (λ x. x.state) s.now

@@ -52,9 +52,9 @@ pub struct Collected {
 /// Collects families of storages.
 ///
 /// A collection takes time linear in the entries, the children that they declare, and the places of
-/// entries, vacant ones too, and never recurses. Beside the family it takes about 11 bytes an entry,
-/// or 28 where places were used again, and 3 or 20 a vacant place, all of it before the first mark
-/// call.
+/// entries, vacant ones too, and never recurses. Beside the family it takes about 11 bytes an
+/// entry, or 28 where places were used again, and 3 or 20 a vacant place, all of it before the
+/// first mark call.
 pub struct GarbageCollector {
     alloc: Global,
     marks: Marks,
@@ -208,8 +208,8 @@ impl GarbageCollector {
 
     /// Removes every entry of a family that no path of declared children reaches from a counted
     /// entry. Counts stay, births are not given again, and what was marked before is forgotten.
-    /// Where there is no memory, or the family has 2^48 places or more, `AllocError`, and the family is
-    /// as it was: all memory is asked for before the first mark call.
+    /// Where there is no memory, or the family has 2^48 places or more, `AllocError`, and the
+    /// family is as it was: all memory is asked for before the first mark call.
     ///
     /// No two storages of the family may have one number ([`GarbageCollector::distinct`]).
     pub fn collect<F: Family>(self, family: &mut F) -> Result<Collected, AllocError>
@@ -245,8 +245,9 @@ impl GarbageCollector {
     }
 
     /// Does the same, and begins paths also at what a visitor declares: a handle of any kind, or an
-    /// option, a pair, an array, a vector, a slice or a hash map of such. Paths begin at the entry of
-    /// an owned handle anyway, as long as it is counted. Refused as [`GarbageCollector::collect`].
+    /// option, a pair, an array, a vector, a slice or a hash map of such. Paths begin at the entry
+    /// of an owned handle anyway, as long as it is counted. Refused as
+    /// [`GarbageCollector::collect`].
     pub fn collect_from<F: Family, R: GcInternedVisit>(
         mut self,
         family: &mut F,
@@ -263,8 +264,8 @@ impl GarbageCollector {
         Ok(self.trace(family, roots)?.sweep(family))
     }
 
-    /// Finds what [`GarbageCollector::collect_from`] would leave, and removes nothing: what is to go
-    /// can be read, and what it owns be given up, before [`Trace::sweep`] removes it. Refused as
+    /// Finds what [`GarbageCollector::collect_from`] would leave, and removes nothing: what is to
+    /// go can be read, and what it owns be given up, before [`Trace::sweep`] removes it. Refused as
     /// [`GarbageCollector::collect`]; the sweep can't be refused.
     ///
     /// No two storages of the family may have one number ([`GarbageCollector::distinct`]).
@@ -297,8 +298,8 @@ impl GarbageCollector {
         Trace { collector: self }
     }
 
-    // Learns a family. With `roots`, the counted entries are marked at once. The table of names isn't
-    // filled, which a collection seldom asks.
+    // Learns a family. With `roots`, the counted entries are marked at once. The table of names
+    // isn't filled, which a collection seldom asks.
     fn learn<F: Family>(&mut self, family: &F, roots: bool) -> Result<(), AllocError>
         requires distinct { are_distinct (F.numbers family.now) ≡ true }
         ensures ok { OnOk result

@@ -50,8 +50,9 @@ impl<T: Internable, B: BuildHasher> InternStorage<T, B> {
         self.find(obj)
     }
 
-    /// A reference to the entry whose value this is equivalent to: a type of your own, that hashes as
-    /// the value does, looks it up with nothing built. None where there is none. It takes no memory.
+    /// A reference to the entry whose value this is equivalent to: a type of your own, that hashes
+    /// as the value does, looks it up with nothing built. None where there is none. It takes no
+    /// memory.
     pub fn find<Q: Equivalent<T>>(&self, query: Q) -> Option<InternedRef<T>>
         ensures { option_map ref_name result ≡ name_where (Q.equivalent query) self.now }
     {
@@ -71,8 +72,8 @@ impl<T: Internable, B: BuildHasher> InternStorage<T, B> {
 }
 
 impl<T: Internable + Drop, B: BuildHasher> InternStorage<T, B> {
-    /// Counted mode: the owned handle that [`Interned::new`] gives, and nothing beside it. The value
-    /// is dropped where an equal one is stored, and where the call is refused, as `new` is:
+    /// Counted mode: the owned handle that [`Interned::new`] gives, and nothing beside it. The
+    /// value is dropped where an equal one is stored, and where the call is refused, as `new` is:
     /// `CountFull`, `NumbersUsedUp`, `OutOfMemory`.
     pub fn get_or_intern(&mut self, obj: T) -> Result<Interned<T>, Refusal>
         requires { T.Internable.USE_GC ≡ false }
@@ -86,8 +87,8 @@ impl<T: Internable + Drop, B: BuildHasher> InternStorage<T, B> {
     }
 
     /// Collected mode: the reference that [`Interned::new_gc`] gives, and nothing beside it. The
-    /// value is dropped where an equal one is stored, and where the call is refused, as `new_gc` is:
-    /// `NumbersUsedUp`, `OutOfMemory`.
+    /// value is dropped where an equal one is stored, and where the call is refused, as `new_gc`
+    /// is: `NumbersUsedUp`, `OutOfMemory`.
     pub fn get_or_intern_gc(&mut self, obj: T) -> Result<InternedRef<T>, Refusal>
         requires { T.Internable.USE_GC ≡ true }
         ensures name { IfOk result (λ h. ref_name h ≡ interned_name T.eq self.old obj) }
@@ -106,17 +107,17 @@ impl<T: Internable, B: BuildHasher> Reserved<Values<T>, B> {
     pub fn intern(&mut self, obj: T) -> Result<(Interned<T>, Option<T>), Refused<T>>
         requires { T.Internable.USE_GC ≡ false }
         ensures name { IfOk result (λ r.
-            name_of r.0 ≡ interned_name T.eq self.old.store.state obj) }
-        ensures back { IfOk result (λ r. r.1 ≡ given_back T.eq self.old.store.state obj obj) }
+            name_of r.0 ≡ interned_name T.eq self.old.state obj) }
+        ensures back { IfOk result (λ r. r.1 ≡ given_back T.eq self.old.state obj obj) }
         ensures refused { MayWantBack result
-            (due_interning T.eq self.old.store.state obj (full self.old.store.state.top))
-            (is_new T.eq self.old.store.state obj) obj }
-        ensures roomy { 0 < self.old.store.room → OwesBack result
-            (due_interning T.eq self.old.store.state obj (full self.old.store.state.top)) obj }
-        ensures room { Spends result self.old.store.room self.new.store.room
-            (if is_new T.eq self.old.store.state obj then 1 else 0) }
-        ensures state { Becomes result self.old.store.state self.new.store.state
-            (interned_counted T.eq self.old.store.state obj) }
+            (due_interning T.eq self.old.state obj (full self.old.state.top))
+            (is_new T.eq self.old.state obj) obj }
+        ensures roomy { 0 < self.old.room → OwesBack result
+            (due_interning T.eq self.old.state obj (full self.old.state.top)) obj }
+        ensures room { Spends result self.old.room self.new.room
+            (if is_new T.eq self.old.state obj then 1 else 0) }
+        ensures state { Becomes result self.old.state self.new.state
+            (interned_counted T.eq self.old.state obj) }
     {
         let (key, back) = self.store.intern_counted(obj)?;
         let reference = Ref::new(key);
@@ -128,17 +129,17 @@ impl<T: Internable, B: BuildHasher> Reserved<Values<T>, B> {
     pub fn intern_gc(&mut self, obj: T) -> Result<(InternedRef<T>, Option<T>), Refused<T>>
         requires { T.Internable.USE_GC ≡ true }
         ensures name { IfOk result (λ r.
-            ref_name r.0 ≡ interned_name T.eq self.old.store.state obj) }
-        ensures back { IfOk result (λ r. r.1 ≡ given_back T.eq self.old.store.state obj obj) }
+            ref_name r.0 ≡ interned_name T.eq self.old.state obj) }
+        ensures back { IfOk result (λ r. r.1 ≡ given_back T.eq self.old.state obj obj) }
         ensures refused { MayWantBack result
-            (due_interning T.eq self.old.store.state obj any_count)
-            (is_new T.eq self.old.store.state obj) obj }
-        ensures roomy { 0 < self.old.store.room → OwesBack result
-            (due_interning T.eq self.old.store.state obj any_count) obj }
-        ensures room { Spends result self.old.store.room self.new.store.room
-            (if is_new T.eq self.old.store.state obj then 1 else 0) }
-        ensures state { Becomes result self.old.store.state self.new.store.state
-            (interned T.eq self.old.store.state obj).state }
+            (due_interning T.eq self.old.state obj any_count)
+            (is_new T.eq self.old.state obj) obj }
+        ensures roomy { 0 < self.old.room → OwesBack result
+            (due_interning T.eq self.old.state obj any_count) obj }
+        ensures room { Spends result self.old.room self.new.room
+            (if is_new T.eq self.old.state obj then 1 else 0) }
+        ensures state { Becomes result self.old.state self.new.state
+            (interned T.eq self.old.state obj).state }
     {
         let (key, back) = self.store.intern(obj)?;
         Ok((Ref::new(key), back))

@@ -49,9 +49,9 @@ pub type InternSliceStorage<T, B = FixedState, L = Far> = Storage<Slices<T, L>, 
 /// A storage of headers with items, which keeps up to `N` items of a list in its entry and longer
 /// lists in one vector. Its calls and its handles are those of every storage of slices.
 ///
-/// Each entry takes the room of `N` items, and of a mark whether they are there. In turn a list that
-/// lies in its entry is read and compared without a look at the vector, and a sweep moves the others
-/// alone. So it is for storages whose lists have mostly up to `N` items.
+/// Each entry takes the room of `N` items, and of a mark whether they are there. In turn a list
+/// that lies in its entry is read and compared without a look at the vector, and a sweep moves the
+/// others alone. So it is for storages whose lists have mostly up to `N` items.
 pub type NearSliceStorage<T, const N: usize, B = FixedState> = InternSliceStorage<T, B, Near<N>>;
 
 /// An owned handle of a header with items, which counts one.
@@ -99,9 +99,9 @@ impl<T: SliceInternable, L: Layout<T::SliceType>, B: BuildHasher> InternSliceSto
 where
     T::Header: Drop,
 {
-    /// The reference that [`InternedSlice::from_header_and_slice`] gives, and nothing beside it. The
-    /// header is dropped where an equal pair is stored, and where the call is refused, as that is:
-    /// `NumbersUsedUp`, `OutOfMemory`.
+    /// The reference that [`InternedSlice::from_header_and_slice`] gives, and nothing beside it.
+    /// The header is dropped where an equal pair is stored, and where the call is refused, as that
+    /// is: `NumbersUsedUp`, `OutOfMemory`.
     pub fn get_or_intern(
         &mut self,
         header: T::Header,
@@ -126,18 +126,18 @@ impl<T: SliceInternable, L: Layout<T::SliceType>, B: BuildHasher> Reserved<Slice
     /// none. Refused: `OutOfMemory`, where there isn't room for so many yet; what there was stays.
     pub fn reserve_items(&mut self, additional: usize) -> Result<(), Refusal>
         ensures refused { MayWant result None true }
-        ensures roomy { additional ≤ self.old.store.spare → IsOk result }
-        ensures state { self.new.store.state ≡ self.old.store.state }
-        ensures room { self.new.store.room ≡ self.old.store.room }
-        ensures items { OnOk result (additional ≤ self.new.store.spare) }
-        ensures stays { self.old.store.spare ≤ self.new.store.spare }
+        ensures roomy { additional ≤ self.old.spare → IsOk result }
+        ensures state { self.new.state ≡ self.old.state }
+        ensures room { self.new.room ≡ self.old.room }
+        ensures items { OnOk result (additional ≤ self.new.spare) }
+        ensures stays { self.old.spare ≤ self.new.spare }
     {
         self.store.reserve_outside(additional)
     }
 
     /// What [`InternedSlice::from_header_and_slice`] does. Where there is room for an entry and for
-    /// those of its items that don't lie in the entry, a slice that isn't stored takes of it. Refused
-    /// as there, but with `OutOfMemory` only where there is no such room.
+    /// those of its items that don't lie in the entry, a slice that isn't stored takes of it.
+    /// Refused as there, but with `OutOfMemory` only where there is no such room.
     pub fn intern(
         &mut self,
         header: T::Header,
@@ -145,25 +145,25 @@ impl<T: SliceInternable, L: Layout<T::SliceType>, B: BuildHasher> Reserved<Slice
     ) -> Result<(InternedSliceRef<T, L>, Option<T::Header>), Refused<T::Header>>
         requires { T.SliceInternable.USE_GC ≡ true }
         ensures name { let eq = sliced_eq T.Header.eq T.SliceType.eq in IfOk result (λ r.
-            ref_name r.0 ≡ slice_name_in eq self.old.store.state header slice.now) }
+            ref_name r.0 ≡ slice_name_in eq self.old.state header slice.now) }
         ensures back { let eq = sliced_eq T.Header.eq T.SliceType.eq in IfOk result (λ r.
-            r.1 ≡ slice_back eq self.old.store.state header slice.now) }
+            r.1 ≡ slice_back eq self.old.state header slice.now) }
         ensures refused { let eq = sliced_eq T.Header.eq T.SliceType.eq in
-            MayWantBack result (due_slice eq self.old.store.state header slice.now)
-            (is_new_slice eq self.old.store.state header slice.now) header }
+            MayWantBack result (due_slice eq self.old.state header slice.now)
+            (is_new_slice eq self.old.state header slice.now) header }
         ensures roomy { let eq = sliced_eq T.Header.eq T.SliceType.eq in
-            HasRoom self.old.store (L.Near.outside (length slice.now)) →
-            OwesBack result (due_slice eq self.old.store.state header slice.now) header }
+            HasRoom self.old (L.Near.outside (length slice.now)) →
+            OwesBack result (due_slice eq self.old.state header slice.now) header }
         ensures room { let eq = sliced_eq T.Header.eq T.SliceType.eq in
-            Spends result self.old.store.room self.new.store.room
-            (if is_new_slice eq self.old.store.state header slice.now then 1 else 0) }
+            Spends result self.old.room self.new.room
+            (if is_new_slice eq self.old.state header slice.now then 1 else 0) }
         ensures items { let eq = sliced_eq T.Header.eq T.SliceType.eq in
-            Spends result self.old.store.spare self.new.store.spare
-            (if is_new_slice eq self.old.store.state header slice.now
+            Spends result self.old.spare self.new.spare
+            (if is_new_slice eq self.old.state header slice.now
             then L.Near.outside (length slice.now) else 0) }
         ensures state { let eq = sliced_eq T.Header.eq T.SliceType.eq in
-            Becomes result self.old.store.state self.new.store.state
-            (slice_in eq self.old.store.state header slice.now).state }
+            Becomes result self.old.state self.new.state
+            (slice_in eq self.old.state header slice.now).state }
     {
         match self.store.intern((header, slice)) {
             Ok((key, back)) => Ok((Ref::new(key), back.map(|pair| pair.0))),

@@ -313,8 +313,8 @@ pub fn owed_symbols_are_what_they_name()
         ⟦<OwedSymbol as Hash>⟧.hash_input a ≡ ⟦<OwedSymbol as Hash>⟧.hash_input b }
 {}
 
-/// Symbols, references to them, and symbols that must be released, that read texts of one table, are
-/// equal exactly if the texts are.
+/// Symbols, references to them, and symbols that must be released, that read texts of one table,
+/// are equal exactly if the texts are.
 pub fn handles_tell_texts()
     ensures symbols { (s : State (List ℕ)) → IsState bytes_eq s → IsTable s →
         (a b : Sym) (t u : List ℕ) →
@@ -381,8 +381,8 @@ pub fn a_gone_text_stays_gone()
         IsGone s b → IsGone (at_entry (released false) s a) b }
 {}
 
-/// The birth of a new text is given once: it is the next one, which no change of a table lowers, and
-/// which is past it then.
+/// The birth of a new text is given once: it is the next one, which no change of a table lowers,
+/// and which is past it then.
 pub fn a_texts_birth_is_given_once()
     ensures fresh { (s : State (List ℕ)) (t : List ℕ) →
         place_of t ≡ None → birth_of bytes_eq s t ≡ None →

@@ -22,8 +22,8 @@ use std::marker::PhantomData;
 pub(crate) const NOWHERE: usize = usize::MAX;
 
 /// A reference, or none. It takes 24 bytes, as a reference does, where an `Option` of one takes 32:
-/// for the fields of values of which a storage keeps many. It is compared, ordered, hashed and shown by
-/// the name of the entry, if there is one; none comes first.
+/// for the fields of values of which a storage keeps many. It is compared, ordered, hashed and
+/// shown by the name of the entry, if there is one; none comes first.
 #[derive_where(Clone, Copy)]
 pub struct OptionalRef<K> {
     key: EntryKey,

@@ -14,7 +14,7 @@ ghost use Rattle.ra_ap_intern.specs.Order.{due_each};
 
 use crate::kind::Kind;
 use intern_store::{EntryKey, Limits, Name, Refusal, Store};
-use intern_table::FixedState;
+use intern_table::{Equivalent, FixedState};
 use std::alloc::Global;
 use std::fmt;
 use std::marker::{Model, PhantomData};
@@ -23,11 +23,11 @@ use std::marker::{Model, PhantomData};
 /// `InternSliceStorage`.
 ///
 /// Interning hashes what is offered and looks it up once, and compares it with the stored values of
-/// that hash, rarely with another. Only a value that isn't stored takes memory, where no room was
-/// reserved for it. Where storing it builds the tables anew, each stored value is hashed again, in
-/// time in proportion to the most entries that there were at once, which is constant time a call on
-/// average. Reads, counts and removals go straight to the entry; `from_raw` and `reference` look its
-/// birth up.
+/// that hash, rarely with another. A value that is stored takes no memory, and one that isn't takes
+/// none where room was reserved for it. Where storing it builds the tables anew, each stored value
+/// is hashed again, in time in proportion to the most entries that there were at once, which is
+/// constant time a call on average. Reads, counts and removals go straight to the entry; `from_raw`
+/// and `reference` look its birth up.
 #[derive(Drop)]
 pub struct Storage<K: Kind<B>, B = FixedState> {
     pub(crate) inner: Reserved<K, B>,
@@ -40,16 +40,28 @@ impl<K: Kind<B>, B> Model for Storage<K, B> {
 
     ghost coded = { state_code K.Table.Value.code };
 
-    ghost view = { λ a. a.inner.store.state };
+    ghost view = { λ a. a.inner.state };
 }
 
 /// The entries of a storage, and the room that is left for more: what [`Storage::reserve`] lends.
 ///
-/// While there is room, for slices also for those of their items that lie in no entry, interning takes
-/// no memory, and so is refused for no want of it.
+/// While there is room, for slices also for those of their items that lie in no entry, interning
+/// takes no memory, and so is refused for no want of it; but `intern_text` copies a text of more
+/// than 24 bytes. Contracts see the storage's state, its hasher, the room for entries, and that for
+/// items.
 #[derive(Drop)]
 pub struct Reserved<K: Kind<B>, B = FixedState> {
     pub(crate) store: Store<K::Table>,
+}
+
+impl<K: Kind<B>, B> Model for Reserved<K, B> {
+    ghost use Rattle.intern_store.specs.State.{Stocked, stocked_code};
+
+    ghost Value = { Stocked K.Table.Value B };
+
+    ghost coded = { stocked_code K.Table.Value.code B.code };
+
+    ghost view = { λ a. a.store };
 }
 
 /// An owned handle, which counts one: an `Interned` or an `InternedSlice`.
@@ -71,6 +83,23 @@ pub struct Ref<K> {
     // The pointer lets a type hold handles of itself.
     #[derive_where(skip)]
     marker: PhantomData<*const K>,
+}
+
+// A reference looks an owned handle up by what both name.
+impl<K> Equivalent<Owned<K>> for Ref<K> {
+    ghost use Rattle.std.proofs.Common.{rules};
+    ghost use Rattle.std.specs.Cmp.Rules.{comparing, hashing};
+    ghost use Rattle.intern_store.specs.Named.{same_name};
+
+    ghost equivalent = { λ r o. same_name (ref_name r) (name_of o) };
+
+    ghost respects_hash = { Prim.search (hashing, rules) };
+
+    ghost respects_eq = { Prim.search (comparing, rules) };
+
+    fn equivalent(&self, handle: &Owned<K>) -> bool {
+        *self == handle.reference
+    }
 }
 
 impl<K> fmt::Debug for Owned<K> {
@@ -111,8 +140,8 @@ impl<K: Kind<FixedState>> Storage<K> {
 impl<K: Kind<B>, B> Storage<K, B> {
     ghost use Rattle.ra_ap_intern.specs.Reserved.{LendsEntries};
 
-    /// An empty storage with limits of its own, which hashes values by what `hasher` builds. It takes
-    /// no memory.
+    /// An empty storage with limits of its own, which hashes values by what `hasher` builds. It
+    /// takes no memory.
     ///
     /// The seed of [`FixedState`] is known, so that whoever chooses the values can let all of them
     /// share a bucket. Give a storage of such values `RandomState::new(&rt)?`.
@@ -127,9 +156,10 @@ impl<K: Kind<B>, B> Storage<K, B> {
         }
     }
 
-    /// Lends the storage with room for this many more entries: until the loan ends, the next so many
-    /// values that aren't stored yet are refused for no want of memory. Slices want room too for those
-    /// of their items that lie in no entry (`reserve_items` of [`Reserved`]). Refused: `OutOfMemory`.
+    /// Lends the storage with room for this many more entries: until the loan ends, the next so
+    /// many values that aren't stored yet are refused for no want of memory, but for texts of more
+    /// than 24 bytes, which are copied. Slices want room too for those of their items that lie in
+    /// no entry (`reserve_items` of [`Reserved`]). Refused: `OutOfMemory`.
     ///
     /// The room stays when the loan ends. It takes what so many entries may need at most, whichever
     /// slots they use: more than interning them one by one does. Where the hash tables are built
@@ -138,8 +168,8 @@ impl<K: Kind<B>, B> Storage<K, B> {
         ensures* lends { sem 𝓛 (LendsEntries K.row B.row K.Table.row K.Table.Value.row
             K.Kind K.Table.Entries K.Table.Value.PartialEq self.entry result) }
         ensures refused { MayWant result None true }
-        ensures state { IfOk result (λ r. r.now.store.state ≡ self.old) }
-        ensures room { IfOk result (λ r. additional ≤ r.now.store.room) }
+        ensures state { IfOk result (λ r. r.now.state ≡ self.old) }
+        ensures room { IfOk result (λ r. additional ≤ r.now.room) }
     {
         self.inner.store.reserve(additional)?;
         Ok(&mut self.inner)
@@ -168,8 +198,8 @@ impl<K: Kind<B>, B> Storage<K, B> {
     }
 
     /// The bytes of memory that the storage holds: its slots, used or not, what finds them, and the
-    /// items of slices; eight for each entry at least. What values hold elsewhere, as a `String` its
-    /// text, is not counted, and neither is the storage itself.
+    /// items of slices; eight for each entry at least. What values hold elsewhere, as a `String`
+    /// its text, is not counted, and neither is the storage itself.
     pub fn memory(&self) -> usize
         ensures { least_memory (map.len self.now.map) ≤ result }
     {
@@ -217,9 +247,9 @@ impl<K: Kind<B>, B> Storage<K, B> {
         Ok(())
     }
 
-    /// Whether the entries that references name are all here, as those of a value's parts have to be
-    /// so that it can be read down to its last part. Refused as the first that isn't here: `Foreign`,
-    /// `Gone`.
+    /// Whether the entries that references name are all here, as those of a value's parts have to
+    /// be so that it can be read down to its last part. Refused as the first that isn't here:
+    /// `Foreign`, `Gone`.
     pub fn check_all(&self, references: &[Ref<K>]) -> Result<(), Refusal>
         ensures { Owes result (due_each self.now (list_map ref_name references.now)) }
     {

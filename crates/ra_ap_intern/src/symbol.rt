@@ -11,8 +11,8 @@ ghost use Rattle.std.specs.Option.{option_map};
 ghost use Rattle.std.specs.Str.{bytes_eq};
 ghost use Rattle.intern_store.specs.Memory.{least_memory};
 ghost use Rattle.intern_store.specs.Outcome.{Owes, OwesBack, MayWant, Becomes, Spends};
-ghost use Rattle.intern_store.specs.State.{IsState, new_state, counted_up, full, any_count, released};
-ghost use Rattle.ra_ap_intern.specs.Symbols.{IsTable, displayed, symbol_name, symbol_ref_name, named_in, named_texts, entry_name, own_text, text_of, count_of, symbol_in, due_of, due_symbol, is_new_text, at_entry};
+ghost use Rattle.intern_store.specs.State.{IsState, new_state, counted_up, due, full, any_count, released};
+ghost use Rattle.ra_ap_intern.specs.Symbols.{IsTable, displayed, entry, symbol_name, symbol_ref_name, named_in, named_texts, entry_name, own_text, text_of, count_of, symbol_in, due_of, due_symbol, is_new_text, at_entry};
 ghost use Rattle.ra_ap_intern.specs.declared.symbol.symbols.TheConstants as sym;
 
 mod display;
@@ -34,11 +34,11 @@ use std::cmp::Eq;
 use std::hash::{BuildHasher, Hash};
 use std::marker::Model;
 
-/// A table of texts, each kept once, and only while it is counted. The presets are in no table. Texts
-/// are hashed by a hasher that `B` builds.
+/// A table of texts, each kept once, and only while it is counted. The presets are in no table.
+/// Texts are hashed by a hasher that `B` builds.
 ///
-/// Only interning a text that is neither stored nor a preset takes memory, where no room was reserved
-/// for it.
+/// A text that is stored or a preset takes no memory. Any other is copied, which takes none where
+/// it has up to 24 bytes and room was reserved for it.
 #[derive(Drop)]
 pub struct SymbolTable<B: BuildHasher = FixedState> {
     inner: ReservedTexts<B>,
@@ -47,12 +47,26 @@ pub struct SymbolTable<B: BuildHasher = FixedState> {
 /// The texts of a symbol table, and the room that is left for more: what [`SymbolTable::reserve`]
 /// lends.
 ///
-/// While there is room, interning a text of up to 24 bytes takes no memory, and so is refused for no
-/// want of it.
+/// While there is room, interning a text of up to 24 bytes takes no memory, and so is refused for
+/// no want of it. Contracts see the table's state, its hasher, and the room.
 #[derive(Drop)]
 pub struct ReservedTexts<B: BuildHasher = FixedState> {
     store: Store<Table<Text, B>>,
-    ghost table: { IsTable store.state },
+}
+
+impl<B: BuildHasher> Model for ReservedTexts<B> {
+    ghost use Rattle.std.specs.Prelude.{List, ℕ};
+    ghost use Rattle.std.specs.Coded.{coded_list, coded_ℕ};
+    ghost use Rattle.intern_store.specs.State.{Stocked, stocked_code};
+    ghost use Rattle.ra_ap_intern.specs.Symbols.{IsTable};
+
+    ghost Value = { Stocked (List ℕ) B };
+
+    ghost coded = { stocked_code (coded_list coded_ℕ) B.code };
+
+    ghost view = { λ a. a.store };
+
+    ghost invariant = { λ a. IsTable a.store.state };
 }
 
 impl<B: BuildHasher> Model for SymbolTable<B> {
@@ -64,7 +78,7 @@ impl<B: BuildHasher> Model for SymbolTable<B> {
 
     ghost coded = { state_code (coded_list coded_ℕ) };
 
-    ghost view = { λ a. a.inner.store.state };
+    ghost view = { λ a. a.inner.state };
 }
 
 /// A symbol: a preset, or a handle of a text in a table, which counts one.
@@ -123,8 +137,8 @@ impl SymbolTable {
 impl<B: BuildHasher> SymbolTable<B> {
     ghost use Rattle.ra_ap_intern.specs.Reserved.{LendsTexts};
 
-    /// An empty table with limits of its own, which hashes texts by what `hasher` builds. It takes no
-    /// memory.
+    /// An empty table with limits of its own, which hashes texts by what `hasher` builds. It takes
+    /// no memory.
     ///
     /// The seed of [`FixedState`] is known, so that whoever chooses the texts can let all of them
     /// share a bucket. Give a table of such texts `RandomState::new(&rt)?`.
@@ -139,8 +153,9 @@ impl<B: BuildHasher> SymbolTable<B> {
         }
     }
 
-    /// Lends the table with room for this many more texts of up to 24 bytes: until the loan ends, the
-    /// next so many that aren't stored yet are refused for no want of memory. Refused: `OutOfMemory`.
+    /// Lends the table with room for this many more texts of up to 24 bytes: until the loan ends,
+    /// the next so many that aren't stored yet are refused for no want of memory. Refused:
+    /// `OutOfMemory`.
     ///
     /// The room stays when the loan ends. It takes what so many entries may need at most, whichever
     /// slots they use: more than interning them one by one does. Where the hash tables are built
@@ -149,8 +164,8 @@ impl<B: BuildHasher> SymbolTable<B> {
         ensures* lends { sem 𝓛 (LendsTexts B.row B.Hasher.row B.BuildHasher B.Hasher.Hasher
             self.entry result) }
         ensures refused { MayWant result None true }
-        ensures state { IfOk result (λ r. r.now.store.state ≡ self.old) }
-        ensures room { IfOk result (λ r. additional ≤ r.now.store.room) }
+        ensures state { IfOk result (λ r. r.now.state ≡ self.old) }
+        ensures room { IfOk result (λ r. additional ≤ r.now.room) }
     {
         self.inner.store.reserve(additional)?;
         Ok(&mut self.inner)
@@ -201,10 +216,10 @@ impl<B: BuildHasher> SymbolTable<B> {
         Some(SymbolRef(packed))
     }
 
-    /// A reference to the symbol of a text, which the table keeps: unless it is a preset, it is counted
-    /// once more, until [`SymbolRef::decrease_refcount`] gives that count up. For tables that only
-    /// grow, and for values that hold references.
-    /// Refused as [`Symbol::intern`]: `CountFull`, `NumbersUsedUp`, `OutOfMemory`.
+    /// A reference to the symbol of a text, which the table keeps: unless it is a preset, it is
+    /// counted once more, until [`SymbolRef::decrease_refcount`] gives that count up. For tables
+    /// that only grow, and for values that hold references. Refused as [`Symbol::intern`]:
+    /// `CountFull`, `NumbersUsedUp`, `OutOfMemory`.
     pub fn get_or_intern(&mut self, text: &str) -> Result<SymbolRef, Refusal>
         ensures ok { IfOk result (λ r.
             symbol_ref_name r ≡ (symbol_in self.old text.now).symbol) }
@@ -217,8 +232,8 @@ impl<B: BuildHasher> SymbolTable<B> {
     }
 
     /// The texts that the table keeps, each with a reference to its symbol, in no promised order.
-    /// Presets are none of them. It takes no memory, and goes over as many places as there were texts at
-    /// one time.
+    /// Presets are none of them. It takes no memory, and goes over as many places as there were
+    /// texts at one time.
     pub fn iter(&self) -> SymbolIter<'_>
         ensures { IsPermutation result (named_texts self.now) }
     {
@@ -226,6 +241,20 @@ impl<B: BuildHasher> SymbolTable<B> {
             number: self.inner.store.number(),
             entries: self.inner.store.table().iter(),
         }
+    }
+
+    /// The reference of the symbol of a name, which may come from anywhere. It looks the birth up,
+    /// and takes no memory. Refused: `Foreign`, `Gone`.
+    pub fn reference(&self, name: Name) -> Result<SymbolRef, Refusal>
+        ensures ok { IfOk result (λ r. symbol_ref_name r ≡ entry name) }
+        ensures refused { Owes result (due self.now name any_count) }
+    {
+        let Name { storage, birth } = name;
+        if storage != self.number() {
+            return Err(Refusal::Foreign);
+        }
+        let key = self.inner.store.entry(birth)?;
+        Ok(SymbolRef(Packed::runtime(key)))
     }
 
     /// The count of a symbol's text. None for a preset, for a symbol of another table, and for one
@@ -267,20 +296,20 @@ impl<'a, B: BuildHasher> IntoIterator for &'a SymbolTable<B> {
 }
 
 impl<B: BuildHasher> ReservedTexts<B> {
-    /// What [`Symbol::intern`] does. Where there is room, a text of up to 24 bytes that isn't stored
-    /// takes of it. Refused as there, but with `OutOfMemory` only where there is no room, or the text
-    /// is longer.
+    /// What [`Symbol::intern`] does. Where there is room, a text of up to 24 bytes that isn't
+    /// stored takes of it. Refused as there, but with `OutOfMemory` only where there is no room, or
+    /// the text is longer.
     pub fn intern(&mut self, text: &str) -> Result<Symbol, Refusal>
         ensures ok { IfOk result (λ s.
-            symbol_name s ≡ (symbol_in self.old.store.state text.now).symbol) }
-        ensures refused { MayWant result (due_symbol self.old.store.state text.now)
-            (is_new_text self.old.store.state text.now) }
-        ensures roomy { 0 < self.old.store.room → length text.now ≤ 24 →
-            Owes result (due_symbol self.old.store.state text.now) }
-        ensures room { Spends result self.old.store.room self.new.store.room
-            (if is_new_text self.old.store.state text.now then 1 else 0) }
-        ensures state { Becomes result self.old.store.state self.new.store.state
-            (symbol_in self.old.store.state text.now).table }
+            symbol_name s ≡ (symbol_in self.old.state text.now).symbol) }
+        ensures refused { MayWant result (due_symbol self.old.state text.now)
+            (is_new_text self.old.state text.now) }
+        ensures roomy { 0 < self.old.room → length text.now ≤ 24 →
+            Owes result (due_symbol self.old.state text.now) }
+        ensures room { Spends result self.old.room self.new.room
+            (if is_new_text self.old.state text.now then 1 else 0) }
+        ensures state { Becomes result self.old.state self.new.state
+            (symbol_in self.old.state text.now).table }
     {
         // No table keeps a preset's text, so the presets are looked at only for what isn't stored.
         let hash = match self.store.count_up_stored(&text) {
@@ -341,6 +370,13 @@ impl Symbol {
         ensures { option_map (λ t. t.now) result ≡ text_of table.now (symbol_name self.now) }
     {
         self.as_ref().as_str(table)
+    }
+
+    /// The text of a preset, for which no table is needed. None for a symbol of a table.
+    pub fn preset_text(&self) -> Option<&'static str>
+        ensures { option_map (λ t. t.now) result ≡ own_text (symbol_name self.now) }
+    {
+        self.as_ref().preset_text()
     }
 
     /// The symbol as it is written by `{}`: its text, or its name where that can't be read.
@@ -423,8 +459,8 @@ impl SymbolRef {
         }
     }
 
-    /// The count of the symbol's text. None for a preset, for a symbol of another table, and for one
-    /// whose text is gone.
+    /// The count of the symbol's text. None for a preset, for a symbol of another table, and for
+    /// one whose text is gone.
     pub fn count<B: BuildHasher>(self, table: &SymbolTable<B>) -> Option<u64>
         ensures { result ≡ count_of table.now (symbol_ref_name self) }
     {
@@ -463,8 +499,8 @@ impl SymbolRef {
     }
 
     /// Gives a count of the text up, which a symbol had that was dropped without `release`, also as
-    /// a part of a value that a collection removed. With the last count the text goes. A preset stays.
-    /// Refused, never for a preset: `Foreign`, `Gone`.
+    /// a part of a value that a collection removed. With the last count the text goes. A preset
+    /// stays. Refused, never for a preset: `Foreign`, `Gone`.
     pub fn decrease_refcount<B: BuildHasher>(
         self,
         table: &mut SymbolTable<B>,
@@ -484,8 +520,8 @@ impl SymbolRef {
 }
 
 impl SymbolRef {
-    // The text of a preset.
-    fn preset_text(self) -> Option<&'static str>
+    /// The text of a preset, for which no table is needed. None for a symbol of a table.
+    pub fn preset_text(self) -> Option<&'static str>
         ensures { option_map (λ t. t.now) result ≡ own_text (symbol_ref_name self) }
     {
         match self.0.source() {

@@ -29,9 +29,9 @@ impl<B: BuildHasher> InternStorage<Text, B> {
     }
 
     /// The owned handle of a text, which is counted once more: what [`Interned::new`] gives for it.
-    /// Only a text that isn't stored is copied, which may take memory. Refused: `CountFull` where the
-    /// text is stored and its count is at the limit; `NumbersUsedUp` and `OutOfMemory` where it isn't
-    /// stored.
+    /// Only a text that isn't stored is copied, which may take memory. Refused: `CountFull` where
+    /// the text is stored and its count is at the limit; `NumbersUsedUp` and `OutOfMemory` where it
+    /// isn't stored.
     pub fn intern_text(&mut self, text: &str) -> Result<Interned<Text>, Refusal>
         ensures name { IfOk result (λ h.
             name_of h ≡ interned_name bytes_eq self.old text.now) }
@@ -47,21 +47,21 @@ impl<B: BuildHasher> InternStorage<Text, B> {
 
 impl<B: BuildHasher> Reserved<Values<Text>, B> {
     /// What [`InternStorage::intern_text`] does. Where there is room, a text of up to 24 bytes that
-    /// isn't stored takes of it. Refused as there, but with `OutOfMemory` only where there is no room,
-    /// or the text is longer.
+    /// isn't stored takes of it. Refused as there, but with `OutOfMemory` only where there is no
+    /// room, or the text is longer.
     pub fn intern_text(&mut self, text: &str) -> Result<Interned<Text>, Refusal>
         ensures name { IfOk result (λ h.
-            name_of h ≡ interned_name bytes_eq self.old.store.state text.now) }
+            name_of h ≡ interned_name bytes_eq self.old.state text.now) }
         ensures refused { MayWant result
-            (due_interning bytes_eq self.old.store.state text.now (full self.old.store.state.top))
-            (is_new bytes_eq self.old.store.state text.now) }
-        ensures roomy { 0 < self.old.store.room → length text.now ≤ 24 → Owes result
-            (due_interning bytes_eq self.old.store.state text.now
-            (full self.old.store.state.top)) }
-        ensures room { Spends result self.old.store.room self.new.store.room
-            (if is_new bytes_eq self.old.store.state text.now then 1 else 0) }
-        ensures state { Becomes result self.old.store.state self.new.store.state
-            (interned_counted bytes_eq self.old.store.state text.now) }
+            (due_interning bytes_eq self.old.state text.now (full self.old.state.top))
+            (is_new bytes_eq self.old.state text.now) }
+        ensures roomy { 0 < self.old.room → length text.now ≤ 24 → Owes result
+            (due_interning bytes_eq self.old.state text.now
+            (full self.old.state.top)) }
+        ensures room { Spends result self.old.room self.new.room
+            (if is_new bytes_eq self.old.state text.now then 1 else 0) }
+        ensures state { Becomes result self.old.state self.new.state
+            (interned_counted bytes_eq self.old.state text.now) }
     {
         let (key, _stored) = self.store.intern_counted(text)?;
         let reference = Ref::new(key);

@@ -91,8 +91,8 @@ fn fill(
     filled
 }
 
-/// Collects a storage while the lists are owned whose numbers and the round have a multiple of three
-/// as their sum. The others are gone then.
+/// Collects a storage while the lists are owned whose numbers and the round have a multiple of
+/// three as their sum. The others are gone then.
 fn collect(
     rt: &impl Abort,
     alloc: Global,

@@ -2,7 +2,7 @@
 use crate::steps::{
     drop_table, integer, intern_new, is_equal, is_stored, keeps, new_table, release,
 };
-use ra_ap_intern::{Symbol, SymbolTable, sym};
+use ra_ap_intern::{Name, Refusal, Symbol, SymbolTable, sym};
 use std::process::Abort;
 
 #[test]
@@ -78,6 +78,25 @@ fn references(rt: HostRuntime) {
         .expect(&rt, "a preset");
     assert!(rt; clone == sym::Clone);
     keeps(&rt, &table, 1);
+    drop_table(table);
+}
+
+#[test]
+fn references_by_name(rt: HostRuntime) {
+    let mut table = new_table(rt.alloc(), 7);
+    let x = intern_new(&rt, &mut table, "x", 1);
+    let y = intern_new(&rt, &mut table, "y", 2);
+    let name = y.name().expect(&rt, "an entry");
+    assert!(rt; table.reference(name) == Ok(y.as_ref()));
+    release(&rt, &mut table, x, 1);
+    for (storage, birth, refusal) in [
+        (7, 0, Refusal::Gone),
+        (7, 2, Refusal::Gone),
+        (6, 1, Refusal::Foreign),
+        (8, 1, Refusal::Foreign),
+    ] {
+        assert!(rt; table.reference(Name { storage, birth }) == Err(refusal));
+    }
     drop_table(table);
 }
 

@@ -23,6 +23,7 @@ fn texts_that_are_presets(rt: HostRuntime) {
     assert!(rt; Symbol::empty() == sym::_empty_sym);
     for (text, preset) in &PRESETS {
         gives(&rt, &mut table, text, preset);
+        assert!(rt; preset.preset_text() == Some(text));
     }
     let zero = integer(&rt, &mut table, 0);
     gives(&rt, &mut table, "0", &zero);
@@ -48,7 +49,8 @@ fn texts_that_are_nearly_presets_are_stored(rt: HostRuntime) {
         (4, "256"),
         (5, "<ra@gennew>"),
     ] {
-        let _ = intern_new(&rt, &mut table, text, len);
+        let symbol = intern_new(&rt, &mut table, text, len);
+        assert!(rt; symbol.preset_text().is_none());
     }
     drop_table(table);
 }

@@ -23,8 +23,8 @@ pub enum Fault {
     TooLong,
 }
 
-/// A token that can't stand where it does, or the end of the tokens within an item, or a word that is
-/// no token: the last two without what was found.
+/// A token that can't stand where it does, or the end of the tokens within an item, or a word that
+/// is no token: the last two without what was found.
 #[derive(Clone, Copy)]
 pub struct Unexpected {
     pub place: Place,

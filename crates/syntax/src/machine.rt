@@ -109,7 +109,8 @@ impl Form {
         matches!((self, mark), (Form::Group | Form::Call(_), Mark::Close))
     }
 
-    /// Whether a mark behind so many parts and one more ends the form as an item: the outermost one.
+    /// Whether a mark behind so many parts and one more ends the form as an item: the outermost
+    /// one.
     pub fn closes_item(self, parts: usize, mark: Mark, is_outermost: bool) -> bool
         ensures { result ≡ (shape_closes_item (shape_of self) parts mark && is_outermost) }
     {

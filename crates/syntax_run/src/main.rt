@@ -1,5 +1,5 @@
-//! Reads versions of a program, a line `---` between two, and tells of each how large it is and what
-//! changed.
+//! Reads versions of a program, a line `---` between two, and tells of each how large it is and
+//! what changed.
 #![tactic(auto)]
 
 #[cfg(test)]

@@ -6,8 +6,8 @@ use std::alloc::{AllocError, Global};
 /// By how much bytes are multiplied that are told apart.
 pub(crate) const APART: usize = 1 << 32;
 
-/// Finds births as another does, and tells its bytes in the upper half of a word: an index tells the
-/// sum, in whose lower half are the bytes of its slots and of its table of hashes.
+/// Finds births as another does, and tells its bytes in the upper half of a word: an index tells
+/// the sum, in whose lower half are the bytes of its slots and of its table of hashes.
 #[derive(Drop)]
 pub(crate) struct Apart<B>(B);
 

@@ -11,8 +11,8 @@ use std::process::Abort;
 // What finds births by a table.
 type InTable = Apart<BirthTable>;
 
-// The bytes of a slot: of a birth, a number, a payload, and whether there is an entry. Then those of
-// a bucket, and of a place in a list.
+// The bytes of a slot: of a birth, a number, a payload, and whether there is an entry. Then those
+// of a bucket, and of a place in a list.
 const SLOT: usize = 32;
 
 const BUCKET: usize = 8;
@@ -78,8 +78,9 @@ fn an_index_of_a_million_births_stays_small(rt: HostRuntime) {
     is_equal(&rt, numbers.len(), 1_024);
 }
 
-// At most 128 entries at a time, so there is room for 512, in 585 homes. Where all begin at the last
-// home, all but one stand behind it, in 1,096 buckets, and the vector may have doubled for them.
+// At most 128 entries at a time, so there is room for 512, in 585 homes. Where all begin at the
+// last home, all but one stand behind it, in 1,096 buckets, and the vector may have doubled for
+// them.
 fn shares_a_hash(rt: &impl Abort, alloc: Global, hash: u64) {
     let mut numbers = Numbers::<InTable>::new(alloc, Sequence::of_one(hash));
     let bytes = Bytes {
@@ -154,7 +155,8 @@ fn add_and_take(rt: &impl Abort, numbers: &mut Numbers<InTable>, times: u64) {
 
 // Building the tables goes over all slots, vacant ones too. As many insertions as there are slots
 // come before the next time, or a storage that was large once would be slow ever after. Where one
-// entry stays, the table of hashes asks for one hash where it is built, beside that of the insertion.
+// entry stays, the table of hashes asks for one hash where it is built, beside that of the
+// insertion.
 #[test]
 fn tables_have_room_for_as_many_entries_as_there_are_slots(rt: HostRuntime) {
     let alloc = rt.alloc();

@@ -1,6 +1,6 @@
 //! Tests of the tables under a store: sweeps, also after churn; walks over counts; items that take
-//! no room; values that share a hash; and refused memory. And of the indexes under the tables, which
-//! stay small.
+//! no room; values that share a hash; and refused memory. And of the indexes under the tables,
+//! which stay small.
 #![tactic(auto)]
 
 #[cfg(test)]

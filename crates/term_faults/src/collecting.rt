@@ -110,8 +110,8 @@ const NOTHING: Held = Held {
     kept: None,
 };
 
-/// Collects four times: beside an owner and a root, beside the owner and what is declared, beside the
-/// owner, and beside nothing.
+/// Collects four times: beside an owner and a root, beside the owner and what is declared, beside
+/// the owner, and beside nothing.
 pub(crate) fn check_collections(
     rt: &(impl Print + Eprint),
     store: &mut TermStore,

@@ -1,8 +1,8 @@
 //! Makes each call of a store of terms, and checks its answer.
 //!
-//! It writes what requests for memory are for (`marks`). Where a call is refused for want of memory,
-//! it checks that nothing has changed, and makes the call once more. So its output is the same,
-//! whichever request is refused.
+//! It writes what requests for memory are for (`marks`). Where a call is refused for want of
+//! memory, it checks that nothing has changed, and makes the call once more. So its output is the
+//! same, whichever request is refused.
 #![tactic(auto)]
 
 mod collecting;

@@ -40,8 +40,8 @@ pub(crate) fn make(
     second.ok_or(Fault("a term was refused twice"))
 }
 
-/// Stores a term without arguments, with a head that is equal to another. None where that is refused
-/// for want of memory: then it isn't stored.
+/// Stores a term without arguments, with a head that is equal to another. None where that is
+/// refused for want of memory: then it isn't stored.
 pub(crate) fn try_leaf(
     rt: &impl Eprint,
     store: &mut TermStore,
@@ -63,8 +63,8 @@ pub(crate) fn try_leaf(
     Ok(None)
 }
 
-/// Makes the call for a head that is equal to another, where it is to store a term. None where it is
-/// refused for want of memory.
+/// Makes the call for a head that is equal to another, where it is to store a term. None where it
+/// is refused for want of memory.
 pub(crate) fn try_term(
     store: &mut TermStore,
     head: Symbol,

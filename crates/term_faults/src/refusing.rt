@@ -1,4 +1,5 @@
-//! The calls that are refused without a request for memory, and `TermStore::term` of what is stored.
+//! The calls that are refused without a request for memory, and `TermStore::term` of what is
+//! stored.
 use crate::collecting::{collect_keeping, tells};
 use crate::fault::{Fault, ensure};
 use crate::looking::check_unread;

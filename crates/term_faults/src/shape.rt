@@ -1,7 +1,7 @@
 //! The terms that are stored, and what a store has of them.
 //!
-//! The terms of even numbers are a chain, each over the one before, and so are those of odd numbers;
-//! the last is over both. A term's birth is its number.
+//! The terms of even numbers are a chain, each over the one before, and so are those of odd
+//! numbers; the last is over both. A term's birth is its number.
 use crate::fault::{Fault, ensure};
 use intern_terms::{TermRef, TermStore};
 use ra_ap_intern::{Name, Symbol, sym};

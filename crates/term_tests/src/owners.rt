@@ -93,6 +93,9 @@ fn a_refusal_gives_an_owed_term_back(rt: HostRuntime) {
     is_equal(&rt, other.check(x), Err(Refusal::Foreign));
     let owed = not_released(&rt, &mut other, owed, Refusal::Foreign);
     is_equal(&rt, store.check(x), Ok(()));
+    is_equal(&rt, store.check_all(&[x, x]), Ok(()));
+    is_equal(&rt, other.check_all(&[]), Ok(()));
+    is_equal(&rt, other.check_all(&[x]), Err(Refusal::Foreign));
     release(&rt, &mut store, owed);
     drop_store(store);
     drop_store(other);

@@ -2,8 +2,8 @@
 use intern_terms::{TermRef, TermStore};
 use ra_ap_intern::{Refusal, Symbol, SymbolTable};
 
-/// The term with the head of this text over these arguments, which counts it once. A head that comes
-/// back is released, so that it goes with its terms.
+/// The term with the head of this text over these arguments, which counts it once. A head that
+/// comes back is released, so that it goes with its terms.
 fn term(
     names: &mut SymbolTable,
     terms: &mut TermStore,

@@ -68,8 +68,8 @@ impl Environment {
         self.declared.get(&name).copied()
     }
 
-    /// Removes every type that neither a declared name nor a counted type needs; none is counted here.
-    /// Where there is no memory, `AllocError`, and nothing has changed.
+    /// Removes every type that neither a declared name nor a counted type needs; none is counted
+    /// here. Where there is no memory, `AllocError`, and nothing has changed.
     pub fn collect(&mut self, alloc: Global) -> Result<Collected, AllocError>
         ensures ok { let begins = starts_with (declared_types self.old.declared)
             (types_of self.old.types) in

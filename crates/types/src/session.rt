@@ -90,8 +90,8 @@ impl Session<'_> {
         Ok(true)
     }
 
-    /// Infers the type of the declaration that was read, declares its name with it, and tells it, or
-    /// tells why it has none. What the other names stand for stays.
+    /// Infers the type of the declaration that was read, declares its name with it, and tells it,
+    /// or tells why it has none. What the other names stand for stays.
     fn declare(&mut self, name: SymbolRef) -> Result<()>
         ensures { KeepsOthers (symbol_ref_name name)
             self.old.inference.environment self.new.inference.environment }

@@ -110,8 +110,8 @@ impl Types {
         self.types.len()
     }
 
-    /// Removes every type that is neither listed nor counted, nor a part of what stays. Where there is
-    /// no memory, `AllocError`, and the store is as it was.
+    /// Removes every type that is neither listed nor counted, nor a part of what stays. Where there
+    /// is no memory, `AllocError`, and the store is as it was.
     pub fn collect(&mut self, roots: &[TypeRef]) -> Result<Collected, AllocError>
         ensures ok { IfOk result (λ told. (names : List TypeName)
             × IsCollection (starts_with (list_map ref_name roots.now) (types_of self.old))

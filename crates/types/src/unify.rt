@@ -17,9 +17,9 @@ use std::collections::HashSet;
 use std::hash::BuildHasher;
 
 /// Makes two types equal by what it makes of the unknown types in them, and of nothing more: a most
-/// general unifier. Refused: `Clash` or `Infinite` where there is none, `OutOfMemory`, and `TooLarge`
-/// only where an unknown type was never added or is known to be itself for ever; some unknown types
-/// may have become others then. Pairs that were met are not looked into again.
+/// general unifier. Refused: `Clash` or `Infinite` where there is none, `OutOfMemory`, and
+/// `TooLarge` only where an unknown type was never added or is known to be itself for ever; some
+/// unknown types may have become others then. Pairs that were met are not looked into again.
 pub fn unify(types: &Types, unknowns: &mut Unknowns, left: TypeRef, right: TypeRef) -> Result<()>
     // What unknown types may be is what they could be, and by which the two types are one tree.
     ensures unifies { OnOk result (Unifies types.now unknowns.old unknowns.new

@@ -36,8 +36,8 @@ pub fn find_or_intern<T: Internable + Drop>(
     Ok(reference)
 }
 
-/// Adds the references of values to a list, in their order. Refused as `find_or_intern` is: the value
-/// comes back, and those behind it are left.
+/// Adds the references of values to a list, in their order. Refused as `find_or_intern` is: the
+/// value comes back, and those behind it are left.
 pub fn find_or_intern_all<T: Internable + Drop>(
     storage: &mut InternStorage<T>,
     values: &mut IntoIter<T>,

@@ -63,7 +63,7 @@ impl<T: Internable + GcInternedVisit + Drop, V: Drop> Memos<T, V> {
     {
         laws::references_are_names::<T>();
         let _number = self.arguments.number();
-        self.results.reserve(1).map_err(|_| Refusal::OutOfMemory)?;
+        self.results.reserve(1)?;
         let handle = self.arguments.get_or_intern_gc(argument)?;
         let stored: Result<_, _> = self.results.insert(handle, value);
         stored.unwrap();

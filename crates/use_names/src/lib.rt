@@ -70,7 +70,7 @@ impl<V: Drop> Scope<V> {
     {
         laws::symbol_references_are_what_they_name();
         let _number = self.names.number();
-        self.values.reserve(1).map_err(|_| Refusal::OutOfMemory)?;
+        self.values.reserve(1)?;
         let symbol = Symbol::intern(&mut self.names, name)?;
         let stored: Result<_, _> = self.values.insert(symbol.as_ref(), value);
         stored.unwrap();

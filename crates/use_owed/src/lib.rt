@@ -59,9 +59,7 @@ impl Scope {
         ensures state { let eq = ⟦<Text as PartialEq>⟧.eq in
             Becomes result texts.old texts.new (interned_counted eq texts.old name) }
     {
-        if self.names.reserve(1).is_err() {
-            return Err(Refusal::OutOfMemory);
-        }
+        self.names.reserve(1)?;
         let handle = texts.get_or_intern(name)?;
         let reference = handle.as_ref();
         self.names.push(Owed::from(handle)).unwrap();

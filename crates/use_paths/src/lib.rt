@@ -59,8 +59,8 @@ impl GcInternedVisit for Path {
     }
 }
 
-/// The names of a path, the last first. None where it isn't of this storage, or is gone. Where there
-/// is no memory, `AllocError`.
+/// The names of a path, the last first. None where it isn't of this storage, or is gone. Where
+/// there is no memory, `AllocError`.
 pub fn spell(
     alloc: Global,
     paths: &InternStorage<Path>,
@@ -83,8 +83,8 @@ pub fn spell(
     Ok(Some(names))
 }
 
-/// The first name of a path, that of the one above it without a parent. None where one of these isn't
-/// of this storage, or is gone.
+/// The first name of a path, that of the one above it without a parent. None where one of these
+/// isn't of this storage, or is gone.
 pub fn first_name(paths: &InternStorage<Path>, path: PathRef) -> Option<SymbolRef>
     requires { Falls declared_by paths.now }
     ensures { option_map symbol_ref_name result

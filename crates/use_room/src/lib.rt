@@ -47,14 +47,14 @@ pub fn intern_next<T: Internable + Drop>(
     value: T,
 ) -> Result<InternedRef<T>, Refused<T>>
     requires collected { T.Internable.USE_GC ≡ true }
-    requires room { 0 < room.old.store.room }
+    requires room { 0 < room.old.room }
     ensures name { IfOk result (λ r.
-        ref_name r ≡ interned_name T.eq room.old.store.state value) }
+        ref_name r ≡ interned_name T.eq room.old.state value) }
     ensures refused { OwesBack result
-        (due_interning T.eq room.old.store.state value any_count) value }
-    ensures left { Spends result room.old.store.room room.new.store.room 1 }
-    ensures state { Becomes result room.old.store.state room.new.store.state
-        (interned T.eq room.old.store.state value).state }
+        (due_interning T.eq room.old.state value any_count) value }
+    ensures left { Spends result room.old.room room.new.room 1 }
+    ensures state { Becomes result room.old.state room.new.state
+        (interned T.eq room.old.state value).state }
 {
     let (reference, _) = room.intern_gc(value)?;
     Ok(reference)

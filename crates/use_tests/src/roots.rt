@@ -76,7 +76,8 @@ fn what_the_roots_declare_stays(rt: HostRuntime) {
         of_gone: (gone, lost),
     } = fill(&rt, alloc, &mut code);
 
-    // Three classes of one name, and a method with its own; a class goes, its method and their name.
+    // Three classes of one name, and a method with its own; a class goes, its method and their
+    // name.
     assert!(rt; GarbageCollector::distinct(&code));
     let told = collect(alloc, &mut code, deque, size).expect(&rt, "memory");
     is_equal(&rt, (told.visits, told.mark_calls, told.removed), (6, 7, 3));

@@ -23,8 +23,8 @@ use std::cmp::PartialEq;
 use use_types::{TypeNode, TypeRef, Types, make, types_are_their_shapes};
 
 /// The type of the functions from a type to another, both of which have to be stored: so all that a
-/// store reads has its parts there, down to the leaves. Refused: `Foreign` and `Gone`, where one isn't
-/// stored; `NumbersUsedUp`, `OutOfMemory`.
+/// store reads has its parts there, down to the leaves. Refused: `Foreign` and `Gone`, where one
+/// isn't stored; `NumbersUsedUp`, `OutOfMemory`.
 pub fn whole_function(types: &mut Types, from: TypeRef, to: TypeRef) -> Result<TypeRef, Refusal>
     ensures name { let eq = ⟦<TypeNode as PartialEq>⟧.eq in
         IfOk result (λ r. ref_name r ≡ interned_name eq types.old (function_node from to)) }

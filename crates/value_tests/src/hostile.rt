@@ -72,8 +72,8 @@ fn foreign_comes_first_for_collected_values(rt: HostRuntime) {
     drop_values(second);
 }
 
-/// A handle of another storage is refused as such though the count at its birth is the greatest, and
-/// though it is zero. The handle comes back, and the count is left at zero.
+/// A handle of another storage is refused as such though the count at its birth is the greatest,
+/// and though it is zero. The handle comes back, and the count is left at zero.
 fn foreign_at_each_count<T: Internable + Drop>(
     rt: &impl Abort,
     storage: &mut InternStorage<T>,

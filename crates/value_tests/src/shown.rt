@@ -3,7 +3,9 @@ use crate::steps::is_equal;
 use crate::words::{Words, frees, intern_new};
 use anyhow::Error;
 use intern_fixtures::{Word, allowed, drop_values, limited_values, make_word, new_values};
-use ra_ap_intern::{InternStorage, Interned, InternedRef, Limits, Refusal, Refused, Text};
+use ra_ap_intern::{
+    Equivalent, InternStorage, Interned, InternedRef, Limits, Refusal, Refused, Text,
+};
 use std::alloc::Global;
 use std::process::Abort;
 
@@ -30,6 +32,8 @@ fn a_reference_is_made_from_a_handle(rt: HostRuntime) {
     let x = intern_new(&rt, alloc, &mut storage, "x", 0);
     let reference: InternedRef<Word> = InternedRef::from(&x);
     is_equal(&rt, reference.name(), x.name());
+    let y = intern_new(&rt, alloc, &mut storage, "y", 1);
+    assert!(rt; reference.equivalent(&x) && !reference.equivalent(&y));
     let other = new_values(alloc, 2);
     assert!(rt; storage.contains(reference) && !other.contains(reference));
     is_equal(&rt, storage.check(reference), Ok(()));

@@ -100,8 +100,8 @@ pub fn intern_new<T: Internable + Drop>(
     handle
 }
 
-/// Interns a value that is counted and is stored under this birth: its entry has this count then, and
-/// the value comes back.
+/// Interns a value that is counted and is stored under this birth: its entry has this count then,
+/// and the value comes back.
 pub fn intern_again<T: Internable + Drop>(
     rt: &impl Abort,
     storage: &mut InternStorage<T>,

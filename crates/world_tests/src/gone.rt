@@ -1,5 +1,5 @@
-//! Handles of entries that are gone: what would change a count is refused, and the run goes on. After
-//! each refusal a call shows that nothing has changed.
+//! Handles of entries that are gone: what would change a count is refused, and the run goes on.
+//! After each refusal a call shows that nothing has changed.
 use crate::rows::{Ask, Row, Tell, tells_anew};
 use intern_world::{Kind, Which};
 use ra_ap_intern::Refusal;

@@ -1,5 +1,6 @@
-//! Tests of runs over lists of calls: worked examples with their expected replies, each call, also on
-//! each kind of slot, foreign handles, refusals, a chain of nodes, and many calls beside a model.
+//! Tests of runs over lists of calls: worked examples with their expected replies, each call, also
+//! on each kind of slot, foreign handles, refusals, a chain of nodes, and many calls beside a
+//! model.
 #![tactic(auto)]
 
 #[cfg(test)]

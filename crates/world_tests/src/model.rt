@@ -430,7 +430,8 @@ impl Model {
     }
 }
 
-/// The reply of an interning that put a handle into a slot: what it took comes back if it was there.
+/// The reply of an interning that put a handle into a slot: what it took comes back if it was
+/// there.
 fn made_of(made: Tell<u64>, which: Which, key: u64, was_there: bool) -> Tell<u64> {
     match made {
         Tell::Made(slot) if was_there => Tell::MadeAgain(slot, which, key),

@@ -170,7 +170,8 @@ impl Grove {
         Node::new(number, child)
     }
 
-    // Interns a node, at the second try where the first is refused, and tells whether it was stored.
+    // Interns a node, at the second try where the first is refused, and tells whether it was
+    // stored.
     fn store_node(&mut self, number: usize) -> Result<(InternedRef<Node>, bool), Fault> {
         let node = self.node(number);
         let nodes = &mut self.storages.first.second;

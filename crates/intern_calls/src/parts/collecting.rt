@@ -61,7 +61,8 @@ where
         slots.iter().all(|n| self.root(*n).is_some())
     }
 
-    /// The names of these handles.
+    /// The names of the handles in these slots; other slots are left out. Where there is no memory,
+    /// `AllocError`.
     pub fn roots(&self, slots: &[usize]) -> Result<Vec<Name>, AllocError>
         ensures { IfOk result (λ names.
             names.items ≡ filter_map (root_at self.now.slots.held) slots.now) }

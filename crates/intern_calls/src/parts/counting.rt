@@ -85,8 +85,8 @@ impl<C: Internable, G: Internable, S: SliceInternable> Parts<C, G, S> {
         self.slots.place(owned, Back::Nothing)
     }
 
-    /// Gives an owned handle or a symbol up, and leaves its slot empty. Where it is refused, the handle
-    /// stays in its slot.
+    /// Gives an owned handle or a symbol up, and leaves its slot empty. Where it is refused, the
+    /// handle stays in its slot.
     #[tactic(auto, using(crate::proofs::Lists::restored))]
     pub fn release(&mut self, n: usize) -> Reply<C, G, S::Header>
         requires counted { C.Internable.USE_GC ≡ false }

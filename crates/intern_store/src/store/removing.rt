@@ -21,7 +21,7 @@ impl<E: Removes> Store<E> {
     }
 
     /// Counts an entry once less. With the last count the entry is removed and its value comes
-    /// back, unless entries stay.
+    /// back, unless entries stay. Refused: `Foreign`, `Gone`, `CountZero`.
     pub fn release(&mut self, key: EntryKey, stays: bool) -> Result<Option<E::Value>, Refusal>
         ensures value { IfOk result (λ v. v ≡ freed stays self.old.state key.spot.birth) }
         ensures refused { Owes result (due self.old.state (key_name key) zero_count) }

@@ -14,14 +14,14 @@ impl<E: Entries> Store<E> {
         ensures hasher { self.new.hasher ≡ self.old.hasher }
         ensures room { OnOk result (additional ≤ self.new.room) }
     {
-        let reserved = self.table.reserve(additional);
-        reserved.map_err(|_| Refusal::OutOfMemory)
+        self.table.reserve(additional)?;
+        Ok(())
     }
 }
 
 impl<E: Pools> Store<E> {
-    /// Makes room for this much more outside of the entries. Refused: `OutOfMemory`, where there isn't
-    /// so much yet.
+    /// Makes room for this much more outside of the entries. Refused: `OutOfMemory`, where there
+    /// isn't so much yet.
     pub fn reserve_outside(&mut self, additional: usize) -> Result<(), Refusal>
         ensures refused { MayWant result None true }
         ensures roomy { additional ≤ self.old.spare → IsOk result }
@@ -31,7 +31,7 @@ impl<E: Pools> Store<E> {
         ensures spare { OnOk result (additional ≤ self.new.spare) }
         ensures stays { self.old.spare ≤ self.new.spare }
     {
-        let reserved = self.table.reserve_outside(additional);
-        reserved.map_err(|_| Refusal::OutOfMemory)
+        self.table.reserve_outside(additional)?;
+        Ok(())
     }
 }

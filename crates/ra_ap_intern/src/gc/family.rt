@@ -57,8 +57,8 @@ pub trait Family: Numbered {
     fn is_distinct(&self) -> bool
         ensures { result ≡ are_distinct (Self.numbers self.now) };
 
-    /// Registers the entries of all storages. With `roots`, the counted ones are marked at once. Where
-    /// there is no memory for that, `AllocError`, and some of them may be registered.
+    /// Registers the entries of all storages. With `roots`, the counted ones are marked at once.
+    /// Where there is no memory for that, `AllocError`, and some of them may be registered.
     fn learn(&self, marks: &mut Marks, roots: bool) -> Result<(), AllocError>
         requires distinct { are_distinct (Self.numbers self.now) ≡ true }
         requires new { (x : EntryName) → has_number (Self.numbers self.now) x.storage ≡ true →

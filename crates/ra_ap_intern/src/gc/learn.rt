@@ -13,8 +13,8 @@ use intern_table::{Counted, Counts};
 use std::alloc::AllocError;
 
 /// Registers the entries of the storage of a number, none of which is registered. With `roots`, the
-/// counted ones are marked at once. Where there is no memory for that, `AllocError`, and some of them
-/// may be registered.
+/// counted ones are marked at once. Where there is no memory for that, `AllocError`, and some of
+/// them may be registered.
 pub(super) fn learn_counts<T, N: Counted>(
     number: u64,
     counts: Counts<'_, T, N>,

@@ -34,7 +34,8 @@ impl Trace {
     }
 
     /// Removes every entry that doesn't stay. Counts stay, and births are not given again. It takes
-    /// no memory. The family is the one that was traced, with the same entries.
+    /// no memory. The family is the one that was traced, with the same entries; one that was
+    /// counted only after the trace goes all the same.
     pub fn sweep<F: Family>(self, family: &mut F) -> Collected
         requires { IsTraceOf (F.entries family.old) self }
         ensures family { family.new ≡ F.kept family.old (has self.marked) }

@@ -30,7 +30,8 @@ pub trait InternHandle<T: Internable>: Sized {
     // Why a value of this count is refused.
     ghost owed: { State T → ℕ → Option Why };
 
-    /// The handle of a value, as [`Interned::new`] and [`Interned::new_gc`] give it.
+    /// The handle of a value, as [`Interned::new`] and [`Interned::new_gc`] give it. Refused as
+    /// these, with the value back. It takes memory where the value isn't stored.
     fn intern<B: BuildHasher>(
         storage: &mut InternStorage<T, B>,
         value: T,
@@ -91,7 +92,7 @@ impl<T: Internable + Drop, B: BuildHasher> InternStorage<T, B> {
     /// references in collected mode. A value is dropped where an equal one is stored.
     ///
     /// It asks for room in the list first, for all handles at once: where there is none, the first
-    /// value comes back with `OutOfMemory`, and nothing has changed. A value is refused as
+    /// value comes back with `OutOfMemory`, and nothing else has changed. A value is refused as
     /// [`Interned::new`] (`CountFull`, `NumbersUsedUp`, `OutOfMemory`) and [`Interned::new_gc`]
     /// (`NumbersUsedUp`, `OutOfMemory`) refuse it. It comes back then: the handles of those
     /// before it are in the list, and those behind it are left in the iterator.
@@ -111,7 +112,9 @@ impl<T: Internable + Drop, B: BuildHasher> InternStorage<T, B> {
             (list_map H.name handles.old.items) (list_map H.name handles.new.items)) }
         ensures why { IfErr result (λ r. IsOwed T.eq self.new (H.owed self.new)
             ((vec_capacity handles.old < vec_len handles.old + into_iter_len values.old)
-            × (self.new ≡ self.old)) r) }
+            × (self.new ≡ self.old)
+            × (into_iter_items values.old ≡ r.back ∷ into_iter_items values.new)
+            × (list_map H.name handles.new.items ≡ list_map H.name handles.old.items)) r) }
     {
         if handles.reserve(values.len()).is_err() {
             return match values.next() {

@@ -42,7 +42,8 @@ impl Integer {
 }
 
 impl SymbolRef {
-    /// The number that the symbol's text writes, as [`Integer::as_uint`] reads it. It takes no memory.
+    /// The number that the symbol's text writes, as [`Integer::as_uint`] reads it. It takes no
+    /// memory.
     pub fn as_uint<B: BuildHasher>(self, table: &SymbolTable<B>) -> Option<usize>
         ensures { result ≡ option_and_then number_value (text_of table.now (symbol_ref_name self)) }
     {

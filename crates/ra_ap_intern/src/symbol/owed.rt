@@ -12,9 +12,9 @@ use std::hash::BuildHasher;
 
 /// A symbol that can't be dropped: a program that lets one go is refused as it is compiled.
 ///
-/// It is made from a [`Symbol`], counts as that does, and is compared, ordered and hashed by what it
-/// names alone. It ends in `release`, or in `into_symbol`, which says where a count
-/// stays. Where a call is refused and `?` would let one go, take `into_symbol` first.
+/// It is made from a [`Symbol`], counts as that does, and is compared, ordered and hashed by what
+/// it names alone. It ends in `release`, or in `into_symbol`, which says where a count stays. Where
+/// a call is refused and `?` would let one go, take `into_symbol` first.
 #[derive(PartialEq, Eq, PartialOrd, Ord, Hash)]
 pub struct OwedSymbol {
     symbol: Symbol,

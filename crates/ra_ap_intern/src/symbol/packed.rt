@@ -22,8 +22,8 @@ pub(super) enum Source {
 }
 
 // A source in 24 bytes, where the enum takes 32: the number of a table, and the birth and the place
-// of an entry. A preset stands as the birth of what lies nowhere. It is compared, ordered and hashed
-// as the source is.
+// of an entry. A preset stands as the birth of what lies nowhere. It is compared, ordered and
+// hashed as the source is.
 #[derive_where(Clone, Copy)]
 pub(super) struct Packed(pub(super) u64, pub(super) u64, pub(super) usize);
 
