@@ -2,6 +2,8 @@
 #![tactic(auto)]
 
 mod place;
+#[cfg(test)]
+mod tests;
 mod words;
 
 pub use place::Place;
@@ -57,7 +59,8 @@ pub fn run<P: Program>(rt: &HostRuntime) -> ExitCode {
     }
 }
 
-// Reads all input, answers it in memory, and then writes the answers.
+// Reads all input, answers it in memory, and then writes the answers. A byte order mark at its
+// beginning is no part of the text.
 fn serve<P: Program, R: Read + Drop, W: Write>(
     alloc: Global,
     input: R,
@@ -68,7 +71,9 @@ fn serve<P: Program, R: Read + Drop, W: Write>(
         ErrorKind::OutOfMemory => RunError::OutOfMemory(AllocError),
         _ => RunError::Input,
     })?;
-    let answers = P::answers(alloc, text.as_str()).map_err(RunError::Answers)?;
+    let text = text.as_str();
+    let text = text.strip_prefix('\u{FEFF}').unwrap_or(text);
+    let answers = P::answers(alloc, text).map_err(RunError::Answers)?;
     output
         .write_all(answers.as_bytes())
         .map_err(|_| RunError::Output)
