@@ -1,20 +1,24 @@
 -- What leads from a tree to another, part by part.
-use Rattle.std.proofs.Common.{◌≡◌, ℕ, ◌+◌, ◌≤◌, List, [], ◌∷◌, ◌++◌, length, map, reverse, Bool, true, false, rules, Some, refl, sym, ap, subst, ◌∙◌, append_assoc, inl, inr, add-one, arith}
-use Rattle.std.specs.Prelude.{◌↔◌, IsTrue}
+use Rattle.std.proofs.Common.{◌≡◌, ℕ, ◌+◌, ◌≤◌, List, [], ◌∷◌, ◌++◌, length, map, reverse, Bool, true, false, rules, Option, Some, refl, sym, ap, subst, ◌∙◌, append_assoc, inl, inr, add-one, arith}
+use Rattle.std.specs.Prelude.{◌↔◌, IsTrue, IfNone}
+use Rattle.std.specs.Bool.{then_some}
 use Rattle.std.proofs.lemmas.List.{append-nil, reverse-append, map-append}
 use Rattle.std.specs.Option.{option_map}
 use Rattle.intern_terms.specs.Handle.{term_name}
 use Rattle.intern_terms.specs.Tree.{Tree, Trees, tree, no_more, one_more, UnfoldsTo}
 use Rattle.intern_terms.specs.declared.handle.TermRef.{TermRef}
 use Rattle.ra_ap_intern.specs.Name.{Name}
+use Rattle.ra_ap_intern.specs.Sliced.{Sliced}
 use Rattle.ra_ap_intern.specs.State.{reads}
+use Rattle.ra_ap_intern.specs.Symbols.{symbol_name}
+use Rattle.ra_ap_intern.specs.declared.symbol.Symbol.{Symbol}
 use Rattle.syntax.specs.Changes.{Swap, swap, Alike, HaveParts, Changed, AllChanged, olds_of, news_of, size, sizes}
 use Rattle.syntax.specs.Parsing.{Store, Stand}
 use Rattle.syntax.specs.declared.change.Change.{Change}
-use Rattle.intern_terms.proofs.CallerTerms.{joined, forest_length, forest_append, tree_arguments}
+use Rattle.intern_terms.proofs.CallerTerms.{joined, forest_length, forest_append, tree_head, tree_arguments}
 
--- after so many looks: what was told, and what is told of these pairs, leads from a tree to another,
--- and the looks and the terms that are left are no more than the tree has terms in it
+-- after so many looks: what was told, and what is told of these pairs, leads from a tree to
+-- another, and the looks and the terms that are left are no more than the tree has terms in it
 pub record Leads (s : Store) (looks : ℕ) (olds news : List TermRef) (told : List Swap) (t u : Tree)
     : Type 0
   where
@@ -214,14 +218,25 @@ leads_inside s looks a b olds news xs ys told t u is have same =
           let whole : size (tree head ts) ≡ sizes ts + 1 = sym (add-one (sizes ts)) in omega arith;
     }
 
--- trees with other numbers of parts aren't alike
-pub not_alike : (s : Store) (n m : Name) (t u : Tree) (olds news : List TermRef)
-    → UnfoldsTo s n t → UnfoldsTo s m u → Some olds ≡ option_map (λ v. v.items) (reads s n)
-    → Some news ≡ option_map (λ v. v.items) (reads s m) → ¬ (length olds ≡ length news)
-    → ¬ (Alike t u)
-not_alike s n m (tree head ts) (tree other us) olds news old new read_old read_new not alike =
-    not (sym (forest_length s ts olds (tree_arguments s n head ts old olds read_old)) ∙ alike.1
-    ∙ forest_length s us news (tree_arguments s m other us new news read_new))
+-- terms that stand for trees that are alike have one head, and as many arguments
+pub alike_terms : (s : Store) (n m : Name) (t u : Tree) (a b : Sliced Symbol TermRef)
+    → UnfoldsTo s n t → UnfoldsTo s m u → Some a ≡ reads s n → Some b ≡ reads s m → Alike t u
+    → (symbol_name a.header ≡ symbol_name b.header) × (length a.items ≡ length b.items)
+alike_terms s n m (tree head ts) (tree other us) a b old new read_a read_b alike = (
+  tree_head s n head ts old a.header (ap (option_map (λ v. v.header)) read_a) ∙ alike.0
+      ∙ sym (tree_head s m other us new b.header (ap (option_map (λ v. v.header)) read_b)),
+  sym (forest_length s ts a.items
+      (tree_arguments s n head ts old a.items (ap (option_map (λ v. v.items)) read_a))) ∙ alike.1
+      ∙ forest_length s us b.items
+      (tree_arguments s m other us new b.items (ap (option_map (λ v. v.items)) read_b)),
+)
+
+-- what is given where a test holds is lacking only where it doesn't
+pub none_where : {T : Type 0} (r : Option T) (b : Bool) (x : T) (P : Type 0) → r ≡ then_some b x
+    → (P → b ≡ true) → IfNone r (P → ⊥)
+none_where r true x P is holds = subst (λ o. IfNone o (P → ⊥)) (sym is) tt
+none_where r false x P is holds =
+    subst (λ o. IfNone o (P → ⊥)) (sym is) (λ p. let so = holds p in absurd (cc))
 
 -- more pairs on the stack
 pub olds_more : (pairs others : List Change) (olds : List TermRef)

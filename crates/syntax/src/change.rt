@@ -85,16 +85,9 @@ impl Syntax {
             IfNone result (Alike t u → ⊥) }
     {
         names::symbols_are_what_they_name();
-        if self.terms.head(pair.old.tree)? != self.terms.head(pair.new.tree)? {
-            return None;
-        }
-        let olds = self.terms.args(pair.old.tree)?;
-        let news = self.terms.args(pair.new.tree)?;
-        if olds.len() == news.len() {
-            Some((olds, news))
-        } else {
-            None
-        }
+        let (head, olds) = self.terms.node(pair.old.tree)?;
+        let (other, news) = self.terms.node(pair.new.tree)?;
+        (head == other && olds.len() == news.len()).then_some((olds, news))
     }
 }
 

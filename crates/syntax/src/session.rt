@@ -3,6 +3,7 @@ use crate::fault::{Fault, Stop, Unexpected};
 use crate::lexer::Lexer;
 use crate::report::Report;
 use crate::syntax::{Program, Syntax};
+use intern_terms::TermRef;
 use std::alloc::Global;
 use std::cmp::min_by_key;
 use text_run::Place;
@@ -10,11 +11,14 @@ use text_run::Place;
 /// What stands between two versions.
 const RULE: &str = "---";
 
-// What was told so far, and the version before.
+// What was told so far, and the version before: its program, how many terms that has, and the newest
+// of them.
 #[derive(Drop)]
 struct Session {
     syntax: Syntax,
     before: Program,
+    kept: usize,
+    newest: Option<TermRef>,
     number: usize,
     out: String,
 }
@@ -25,6 +29,8 @@ pub fn answer_all(alloc: Global, text: &str) -> Result<String, Fault> {
     let mut session = Session {
         syntax: Syntax::new(alloc),
         before: Program::new(alloc),
+        kept: 0,
+        newest: None,
         number: 0,
         out: String::new(alloc),
     };
@@ -42,9 +48,8 @@ impl Session {
     // passed over with its trees, and the next is compared with the one before it.
     fn tell(&mut self, lines: &[&str], first: u64) -> Result<(), Fault> {
         self.number = self.number.saturating_add(1);
-        let stored = self.syntax.terms.len();
         match self.program(lines, first) {
-            Ok(program) => self.tell_program(program, stored),
+            Ok(program) => self.tell_program(program),
             Err(Stop::Unexpected(error)) => self.tell_error(error),
             Err(Stop::Fault(fault)) => Err(fault),
         }
@@ -53,14 +58,8 @@ impl Session {
     // The program of these lines. Of several errors in them the first is told.
     fn program(&mut self, lines: &[&str], first: u64) -> Result<Program, Stop> {
         let mut lexer = Lexer::new(self.syntax.alloc);
-        let read = lines.iter().zip(first..u64::MAX).try_for_each(|(line, number)| lexer.read(
-            line,
-            number,
-            &mut self.syntax.names,
-        ));
-        let line = first.saturating_add(lines.len() as u64);
-        let end = Place { line, column: 1 };
-        match (read, self.syntax.parse(lexer.tokens.as_slice(), end)) {
+        let read = lexer.read(lines, first, &mut self.syntax.names);
+        match (read, self.syntax.parse(lexer.tokens.as_slice(), lexer.end)) {
             (Ok(()), parsed) => parsed,
             (Err(stop), Ok(_)) => Err(stop),
             (Err(stop), Err(other)) => Err(min_by_key(stop, other, Stop::position)),
@@ -68,11 +67,13 @@ impl Session {
     }
 
     // Tells how large a program is and what changed, and keeps no other trees than its own.
-    fn tell_program(&mut self, program: Program, stored: usize) -> Result<(), Fault> {
+    fn tell_program(&mut self, program: Program) -> Result<(), Fault> {
         let number = self.number;
         let all = program.spots.len();
-        let distinct = self.syntax.terms.walk(program.items.as_slice())?.len();
-        let new = self.syntax.terms.len().saturating_sub(stored);
+        let terms = self.syntax.terms.walk(program.items.as_slice())?;
+        let distinct = terms.len();
+        let new = terms.iter().filter(|t| Some(**t) > self.newest).count();
+        let gone = self.kept.saturating_add(new).saturating_sub(distinct);
         write!(
             self.out,
             "version {number}: {all} terms, {distinct} distinct, {new} new\n"
@@ -85,8 +86,10 @@ impl Session {
             report.tell_changes(&self.before, &program)?;
         }
         self.before = program;
-        let removed = self.collect()?;
-        write!(self.out, "  {removed} terms are gone\n")?;
+        self.kept = distinct;
+        self.newest = terms.iter().copied().max();
+        self.collect()?;
+        write!(self.out, "  {gone} terms are gone\n")?;
         Ok(())
     }
 
@@ -104,13 +107,17 @@ impl Session {
             self.out.push('`')?;
         }
         self.out.push('\n')?;
-        self.collect()?;
+        // So no more kept terms are looked at than terms were made in vain.
+        if self.syntax.terms.len() / 2 > self.kept {
+            self.collect()?;
+        }
         Ok(())
     }
 
-    // Keeps no other trees than those of the version before, and counts those that are gone.
-    fn collect(&mut self) -> Result<usize, Fault> {
+    // Keeps no other trees than those of the version before.
+    fn collect(&mut self) -> Result<(), Fault> {
         let roots = self.before.items.as_slice();
-        Ok(self.syntax.terms.collect_keeping(roots)?.removed)
+        self.syntax.terms.collect_keeping(roots)?;
+        Ok(())
     }
 }

@@ -87,25 +87,12 @@ impl Syntax {
             program_of (lexemes tokens.now) ≡ None)) }
         ensures keeps { Keeps self.old.terms self.new.terms }
     {
-        let parsed = self.run(tokens, end);
-        // What `number` says of the state is said here too.
-        let _number = self.terms.number();
-        parsed
-    }
-
-    // The program that the machine reads.
-    fn run(&mut self, tokens: &[PlacedToken], end: Place) -> Result<Program, Stop>
-        ensures program { IfOk result (λ p. (items : Trees)
-            × (program_of (lexemes tokens.now) ≡ Some items)
-            × Stand self.new.terms p.items.items items) }
-        ensures unexpected { IfErr result (λ stop. OnUnexpected stop (
-            program_of (lexemes tokens.now) ≡ None)) }
-        ensures keeps { Keeps self.old.terms self.new.terms }
-    {
         let mut machine = Machine::new(self.alloc);
         for placed in tokens {
             self.step(&mut machine, *placed)?;
         }
+        // What `number` says of the state is said here too.
+        let _number = self.terms.number();
         if machine.is_whole() {
             let Machine { items, spots, .. } = machine;
             Ok(Program { items, spots })
@@ -140,13 +127,11 @@ impl Syntax {
         ensures keeps { Keeps self.old.terms self.new.terms }
     {
         let in_item = !machine.is_between_items();
+        let opened = Form::opened(placed.token, in_item);
         match placed.token {
             Token::Atom(name) if in_item => Ok(self.begin_atom(machine, name, placed.place)?),
             Token::Atom(_) => Err(machine.refuse(placed)),
-            Token::Call(_) | Token::Infix(_) | Token::Mark(_) => match Form::opened(
-                placed.token,
-                in_item,
-            ) {
+            Token::Call(_) | Token::Infix(_) | Token::Mark(_) => match opened {
                 Some(form) => Ok(machine.open(self.alloc, form, placed.place)?),
                 None => Err(machine.refuse(placed)),
             },

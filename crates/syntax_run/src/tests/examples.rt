@@ -4,17 +4,15 @@ use std::process::Abort;
 use syntax::lexer::Lexer;
 use syntax::session::answer_all;
 use syntax::syntax::{Program, Syntax};
-use text_run::Place;
 
 const MOST: usize = 1 << 40;
 
 /// The program of a line.
 pub fn parsed(rt: &impl Abort, syntax: &mut Syntax, line: &str) -> Program {
     let mut lexer = Lexer::new(syntax.alloc);
-    let read = lexer.read(line, 1, &mut syntax.names);
+    let read = lexer.read(&[line], 1, &mut syntax.names);
     assert!(rt; read.is_ok(), "tokens");
-    let end = Place { line: 2, column: 1 };
-    let Ok(program) = syntax.parse(lexer.tokens.as_slice(), end) else {
+    let Ok(program) = syntax.parse(lexer.tokens.as_slice(), lexer.end) else {
         panic!(rt; "a program")
     };
     program
@@ -223,15 +221,15 @@ fn what_is_expected_goes_on_in_an_open_form(rt: HostRuntime) {
     let texts = [
         (
             "let x = (1 + 2",
-            "version 1: line 2, column 1: expected an operator or `)`\n",
+            "version 1: line 1, column 15: expected an operator or `)`\n",
         ),
         (
             "let x = if a then b else c",
-            "version 1: line 2, column 1: expected an operator or `;`\n",
+            "version 1: line 1, column 27: expected an operator or `;`\n",
         ),
         (
             "let x = f(if a then b else c",
-            "version 1: line 2, column 1: expected an operator, `,` or `)`\n",
+            "version 1: line 1, column 29: expected an operator, `,` or `)`\n",
         ),
         (
             "let x = (let y = 1;",
@@ -240,6 +238,76 @@ fn what_is_expected_goes_on_in_an_open_form(rt: HostRuntime) {
         (
             "let x = let y = 1 2",
             "version 1: line 1, column 19: expected an operator or `in`, and found `2`\n",
+        ),
+    ];
+    for (text, expected) in texts.iter() {
+        check_told(&rt, rt.alloc(), text, expected);
+    }
+}
+
+#[test]
+fn what_is_expected_at_an_end_within_what_is_defined_is_told(rt: HostRuntime) {
+    let texts = [
+        (
+            "fn",
+            "version 1: line 1, column 3: expected a name and its parameters\n",
+        ),
+        ("fn f(", "version 1: line 1, column 6: expected a name\n"),
+        (
+            "fn f(a",
+            "version 1: line 1, column 7: expected `,` or `)`\n",
+        ),
+        ("fn f(a,", "version 1: line 1, column 8: expected a name\n"),
+        ("fn f(a)", "version 1: line 1, column 8: expected `=`\n"),
+        (
+            "fn f(a) =",
+            "version 1: line 1, column 10: expected an expression\n",
+        ),
+        ("let", "version 1: line 1, column 4: expected a name\n"),
+        (
+            "let x = let",
+            "version 1: line 1, column 12: expected a name\n",
+        ),
+        (
+            "let x = f(let",
+            "version 1: line 1, column 14: expected a name\n",
+        ),
+        (
+            "let = let",
+            "version 1: line 1, column 5: expected a name, and found `=`\n",
+        ),
+    ];
+    for (text, expected) in texts.iter() {
+        check_told(&rt, rt.alloc(), text, expected);
+    }
+}
+
+#[test]
+fn a_version_ends_behind_its_last_line(rt: HostRuntime) {
+    let texts = [
+        (
+            "let x = 4",
+            "version 1: line 1, column 10: expected an operator or `;`\n",
+        ),
+        (
+            "let x = 4 # ü\n",
+            "version 1: line 1, column 14: expected an operator or `;`\n",
+        ),
+        (
+            "let x = a+b\n\n  ",
+            "version 1: line 3, column 3: expected an operator or `;`\n",
+        ),
+        (
+            "let x = 4\n---\nlet\n---\n",
+            "version 1: line 1, column 10: expected an operator or `;`
+version 2: line 3, column 4: expected a name
+version 3: 0 terms, 0 distinct, 0 new
+  0 terms are gone
+",
+        ),
+        (
+            "let x =\n1",
+            "version 1: line 2, column 2: expected an operator or `;`\n",
         ),
     ];
     for (text, expected) in texts.iter() {

@@ -15,8 +15,8 @@ pub returns-in_ok-open-in-Some-clause-ok : goal.returns-in_ok-open-in-Some-claus
 returns-in_ok-open-in-Some-clause-ok c =
     let other : IsOther c.args.placed.token = search rules in
     begun_opened c.args.self.now.terms c.args.machine.now c.open.new.self c.args.placed.token other
-    c.opened.result c.in-Some.form
-    (c.opened.ensures
+    c.opened-opened.result c.in-Some.form
+    (c.opened-opened.ensures
     ∙ ap (λ b. opened (lexeme c.args.placed.token) (not b)) c.is_between_items-in_item.ensures)
     c.in-Some.is c.requires c.in_ok-open-in-Some.ensures.items
     c.in_ok-open-in-Some.ensures.value c.in_ok-open-in-Some.ensures.frames
@@ -25,7 +25,7 @@ pub returns-in-None-clause-unexpected : goal.returns-in-None-clause-unexpected
 returns-in-None-clause-unexpected c =
     let other : IsOther c.args.placed.token = search rules in
     on_unexpected c.refuse-in-None.result _ c.refuse-in-None.ensures (λ items os before.
-    begun_none c.args.self.now.terms c.args.machine.now c.args.placed.token other c.opened.result
-    (c.opened.ensures
+    begun_none c.args.self.now.terms c.args.machine.now c.args.placed.token other c.opened-opened.result
+    (c.opened-opened.ensures
     ∙ ap (λ b. opened (lexeme c.args.placed.token) (not b)) c.is_between_items-in_item.ensures)
     c.in-None.is items os before)

@@ -2,7 +2,7 @@ use Rattle.std.proofs.Common.{drop}
 use Rattle.syntax.specs.Lexeme.{lexemes}
 use Rattle.syntax.specs.Parsing.{Keeps}
 use Rattle.syntax.proofs.Parsed.{RunsOn}
-use Rattle.syntax.proofs.syntax.Syntax.run.Given as goal
+use Rattle.syntax.proofs.syntax.Syntax.parse.Given as goal
 
 -- the tokens that are left make of what was read what all of them make of nothing
 abbrev pub invariant-loop-placed : goal.invariant-loop-placed
