@@ -11,8 +11,8 @@ use text_run::Place;
 /// What stands between two versions.
 const RULE: &str = "---";
 
-// What was told so far, and the version before: its program, how many terms that has, and the newest
-// of them.
+// What was told so far, and the version before: its program, how many terms that has, and which of
+// them is the newest.
 #[derive(Drop)]
 struct Session {
     syntax: Syntax,
@@ -107,7 +107,7 @@ impl Session {
             self.out.push('`')?;
         }
         self.out.push('\n')?;
-        // So no more kept terms are looked at than terms were made in vain.
+        // Only then, so that no more terms are kept by this than were made for nothing.
         if self.syntax.terms.len() / 2 > self.kept {
             self.collect()?;
         }

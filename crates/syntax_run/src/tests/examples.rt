@@ -201,17 +201,33 @@ version 4: 3 terms, 3 distinct, 0 new
 
 #[test]
 fn trees_of_a_version_with_an_error_are_not_counted(rt: HostRuntime) {
+    // Those of the third version outnumber what is kept, and are collected.
     check_told(
         &rt,
         rt.alloc(),
-        "let a = 1;\n---\nlet b = 2 + ;\n---\nlet b = 2;",
+        "let a = 1;\n---\nlet b = 2 + ;\n---\nlet b = 3 + 4 + 5 + ;\n---\nlet b = 2;",
         "version 1: 3 terms, 3 distinct, 3 new
   0 terms are gone
 version 2: line 3, column 13: expected an expression, and found `;`
-version 3: 3 terms, 3 distinct, 3 new
+version 3: line 5, column 21: expected an expression, and found `;`
+version 4: 3 terms, 3 distinct, 3 new
   removed at 1:1: let a = 1;
-  added at 5:1: let b = 2;
+  added at 7:1: let b = 2;
   3 terms are gone
+",
+    );
+    // Here its trees are still there in the next version, which has them as new ones.
+    check_told(
+        &rt,
+        rt.alloc(),
+        "let a = 1;\n---\nlet b = a + ;\n---\nlet b = a;",
+        "version 1: 3 terms, 3 distinct, 3 new
+  0 terms are gone
+version 2: line 3, column 13: expected an expression, and found `;`
+version 3: 3 terms, 3 distinct, 2 new
+  removed at 1:1: let a = 1;
+  added at 5:1: let b = a;
+  2 terms are gone
 ",
     );
 }

@@ -41,7 +41,8 @@ pub returns-in_err-step-clause-refused : goal.returns-in_err-step-clause-refused
 returns-in_err-step-clause-refused c =
     let ls = lexemes c.args.tokens.now in
     let refused : IfErr c.step.result (λ stop. OnUnexpected stop ((items : Trees) →
-    AreItems items → ls ≡ program_tokens items → ⊥)) = if_unexpected_more c.step.result _ _ (λ none items are same.
+    AreItems items → ls ≡ program_tokens items → ⊥)) =
+    if_unexpected_more c.step.result _ _ (λ none items are same.
     not_refused ls items (run_stuck c.loop-placed.self.terms c.loop-placed.machine ls _ _ _
     (drop_next c.args.tokens.now c.loop-placed.placed-index _ c.loop-placed-test.true)
     c.loop-placed.invariant.runs none) are same) c.step.ensures.unexpected in
