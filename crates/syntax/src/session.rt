@@ -107,7 +107,7 @@ impl Session {
             self.out.push('`')?;
         }
         self.out.push('\n')?;
-        // Only then, so that no more terms are kept by this than were made for nothing.
+        // A collection looks at each kept term, so it waits until more others were made.
         if self.syntax.terms.len() / 2 > self.kept {
             self.collect()?;
         }
