@@ -16,8 +16,6 @@ use Rattle.ra_ap_intern.proofs.CallerLemmas.{equality_tested, found_itself, foun
 use Rattle.ra_ap_intern.specs.Interning.{ReadsOn}
 use Rattle.queries.specs.declared.cache.Cache.{Cache}
 use Rattle.queries.specs.declared.cache.Memo.{Memo}
-use Rattle.queries.specs.declared.cache.Progress.{Progress}
-use Rattle.queries.specs.declared.cache.Progress.TheVariants.{At, Done}
 use Rattle.queries.specs.declared.key.Function.{Function}
 use Rattle.queries.specs.declared.key.Function.TheVariants as function
 use Rattle.queries.specs.declared.key.Key.{Key}
@@ -29,7 +27,7 @@ use Rattle.queries.specs.declared.value.Value.{Value}
 use Rattle.queries.specs.Cache.{memo_at, current_answer}
 use Rattle.queries.specs.Path.{Chain, IsFrame, IsPath, IsWaiting, WaitsFor}
 use Rattle.queries.specs.Sheet.{Formulas, column_cells, formula_reads, reads_of, same_place}
-use Rattle.queries.specs.Steps.{function_number, same_block, same_key, cells_in, read_by, reachable, is_begun, steps_ahead, steps_within, steps_left, KeepsBegun, IsSettled, IsNearer}
+use Rattle.queries.specs.Steps.{function_number, same_block, same_key, cells_in, read_by, reachable, is_begun, steps_ahead, steps_within, steps_left, KeepsBegun, IsSettled}
 
 -- ---- queries that are found to be one are
 
@@ -440,12 +438,6 @@ module _ (sheet : Formulas) (root : Key) where
               λ i. is_some (current_answer (settled.others n apart i) (settled.revision i)) in
               (λ i. old i || rest i)
               ∙ first _ (p top) (list_any p frames) is (turn (p top) apart refl)
-
-  -- fewer than fewer steps
-  pub nearer_still : (c : Cache) (fs : List Frame) (n m : ℕ) → n ≤ m → (p : Progress)
-      → IsNearer sheet root c fs n p → IsNearer sheet root c fs m p
-  nearer_still c fs n m less (At top) is = omega arith
-  nearer_still c fs n m less (Done given) is = tt
 
   -- more queries are stored
   pub nearer_stored : (c d : Cache) (fs : List Frame) → KeepsBegun c fs d fs

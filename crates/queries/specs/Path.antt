@@ -1,12 +1,11 @@
 -- The path of an evaluation.
-use Rattle.std.specs.Prelude.{◌≡◌, ◌⊎◌, List, [], ◌∷◌, length, slice_get, Some, All, Any}
+use Rattle.std.specs.Prelude.{◌≡◌, ◌⊎◌, List, [], ◌∷◌, length, slice_get, Option, None, Some, All, Any}
 use Rattle.ra_ap_intern.specs.Handle.{ref_name}
 use Rattle.ra_ap_intern.specs.Name.{Name}
 use Rattle.ra_ap_intern.specs.State.{State, reads}
-use Rattle.queries.specs.declared.cache.Progress.{Progress}
-use Rattle.queries.specs.declared.cache.Progress.TheVariants.{At, Done}
 use Rattle.queries.specs.declared.key.Key.{Key}
 use Rattle.queries.specs.declared.path.Frame.{Frame}
+use Rattle.queries.specs.declared.value.Answer.{Answer}
 use Rattle.queries.specs.declared.value.Value.{Value}
 use Rattle.queries.specs.Evaluation.{Evaluates, IsRight, LeadsToCycle}
 use Rattle.queries.specs.Sheet.{Formulas, reads_of}
@@ -44,10 +43,10 @@ module _ (sheet : Formulas) where
     pub chain : Chain first frames last
     pub each : All (IsFrame keys) frames
 
-  -- how an evaluation goes on
-  abbrev pub GoesOn : State Key → Key → List Frame → Progress → Type 0
-  GoesOn keys first frames (At frame) = IsFrame keys frame × IsPath keys first frames frame.key
-  GoesOn keys first frames (Done answer) = IsRight sheet first answer
+  -- how an evaluation goes on: with this query, or by the answer to the first
+  abbrev pub GoesOn : State Key → Key → Frame → List Frame → Option Answer → Type 0
+  GoesOn keys first top frames None = IsFrame keys top × IsPath keys first frames top.key
+  GoesOn keys first top frames (Some answer) = IsRight sheet first answer
 
   -- a query that leads to this cycle
   pub record IsStuck (keys : State Key) (through : Key) (frame : Frame) : Type 0 where

@@ -6,14 +6,13 @@ use Rattle.ra_ap_intern.specs.Name.{Name}
 use Rattle.ra_ap_intern.specs.Named.{same_name}
 use Rattle.ra_ap_intern.specs.State.{name_of_value}
 use Rattle.queries.specs.declared.cache.Cache.{Cache}
-use Rattle.queries.specs.declared.cache.Progress.{Progress}
-use Rattle.queries.specs.declared.cache.Progress.TheVariants.{At, Done}
 use Rattle.queries.specs.declared.key.Function.{Function}
 use Rattle.queries.specs.declared.key.Function.TheVariants as function
 use Rattle.queries.specs.declared.key.Key.{Key}
 use Rattle.queries.specs.declared.key.Key.TheVariants.{Cell, Total}
 use Rattle.queries.specs.declared.path.Frame.{Frame}
 use Rattle.queries.specs.declared.place.Block.{Block}
+use Rattle.queries.specs.declared.value.Answer.{Answer}
 use Rattle.queries.specs.Cache.{memo_at, current_answer}
 use Rattle.queries.specs.Sheet.{Formulas, block_cells, reads_of, same_place}
 
@@ -85,7 +84,7 @@ pub record IsSettled (old : Cache) (name : Name) (new : Cache) : Type 0 where
   pub current : is_some (current_answer (memo_at new name) new.revision) ≡ true
   pub others : (other : Name) → same_name name other ≡ false → memo_at new other ≡ memo_at old other
 
--- an evaluation goes on with fewer steps than so many
-abbrev pub IsNearer : Formulas → Key → Cache → List Frame → ℕ → Progress → Type 0
-IsNearer sheet root cache frames n (At top) = steps_left sheet root cache (top ∷ frames) + 1 ≤ n
-IsNearer sheet root cache frames n (Done answer) = Unit {0}
+-- an evaluation without an answer goes on with fewer steps than so many
+abbrev pub IsNearer : Formulas → Key → Cache → List Frame → ℕ → Option Answer → Type 0
+IsNearer sheet root cache frames n None = steps_left sheet root cache frames + 1 ≤ n
+IsNearer sheet root cache frames n (Some answer) = Unit {0}

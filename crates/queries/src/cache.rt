@@ -24,6 +24,7 @@ use crate::value::{Answer, Value};
 use ra_ap_intern::{GarbageCollector, Interned, Refusal, laws};
 use std::alloc::{AllocError, Global};
 use std::collections::HashMap;
+use std::mem;
 
 /// What a query came to.
 #[derive(Drop)]
@@ -59,14 +60,6 @@ pub struct Cache {
     pub revision: u64,
     /// How queries were answered.
     pub counts: Counts,
-}
-
-// How an evaluation goes on.
-enum Progress {
-    // With this query.
-    At(Frame),
-    // The first query is answered.
-    Done(Answer),
 }
 
 impl Cache {
@@ -123,9 +116,8 @@ impl Cache {
         let mut top = self.open(sheet, root, handle)?;
         // Each step leaves fewer, so this ends.
         'steps: loop {
-            match self.advance(sheet, &mut path, top)? {
-                Progress::At(frame) => top = frame,
-                Progress::Done(answer) => return Ok(answer),
+            if let Some(answer) = self.advance(sheet, &mut path, &mut top)? {
+                return Ok(answer);
             }
         }
     }
@@ -205,40 +197,47 @@ impl Cache {
         })
     }
 
-    // One step of an evaluation: the query at the end of the path reads a value, or is settled.
-    fn advance(&mut self, sheet: &Sheet, path: &mut Path, mut top: Frame) -> Result<Progress, Fault>
+    // One step of an evaluation: the query at the end of the path reads a value, or is settled. The
+    // answer to the first query, where that was the last step.
+    fn advance(
+        &mut self,
+        sheet: &Sheet,
+        path: &mut Path,
+        top: &mut Frame,
+    ) -> Result<Option<Answer>, Fault>
         requires cache { IsCache sheet.now self.old }
-        requires frame { IsFrame sheet.now self.old.keys top }
+        requires frame { IsFrame sheet.now self.old.keys top.old }
         requires path { (first : KeyType)
-            × IsPath sheet.now self.old.keys first path.old.frames.items top.key }
+            × IsPath sheet.now self.old.keys first path.old.frames.items top.old.key }
         ensures on { ReadsOn self.old.keys self.new.keys }
         ensures counts { CountsOn self.old.counts self.new.counts }
         ensures cache { IsCache sheet.now self.new }
         ensures goes_on { (root : KeyType) →
-            IsPath sheet.now self.old.keys root path.old.frames.items top.key →
-            IfOk result (GoesOn sheet.now self.new.keys root path.new.frames.items) }
+            IsPath sheet.now self.old.keys root path.old.frames.items top.old.key →
+            IfOk result (GoesOn sheet.now self.new.keys root top.new path.new.frames.items) }
         ensures nearer { (root : KeyType) →
-            IsPath sheet.now self.old.keys root path.old.frames.items top.key →
-            IfOk result (IsNearer sheet.now root self.new path.new.frames.items
-            (steps_left sheet.now root self.old (top ∷ path.old.frames.items))) }
+            IsPath sheet.now self.old.keys root path.old.frames.items top.old.key →
+            IfOk result (IsNearer sheet.now root self.new (top.new ∷ path.new.frames.items)
+            (steps_left sheet.now root self.old (top.old ∷ path.old.frames.items))) }
     {
         let Some(key) = top.next() else {
             return self.finish(sheet, path, top);
         };
         let handle = self.handle(key)?;
-        match self.known(path, &top, key, handle) {
+        match self.known(path, top, key, handle) {
             Some(Answer::Value(value)) => {
                 self.counts.reused = self.counts.reused.saturating_add(1);
                 top.values.push(value)?;
-                Ok(Progress::At(top))
+                Ok(None)
             }
             Some(Answer::Cycle(through)) => {
                 self.give_up(path, top, through)?;
-                Ok(Progress::Done(Answer::Cycle(through)))
+                Ok(Some(Answer::Cycle(through)))
             }
             None => {
-                path.push(top)?;
-                Ok(Progress::At(self.open(sheet, key, handle)?))
+                let opened = self.open(sheet, key, handle)?;
+                path.push(mem::replace(top, opened))?;
+                Ok(None)
             }
         }
     }
@@ -264,50 +263,55 @@ impl Cache {
     }
 
     // The query has read all its values, and the one that waits for it goes on.
-    fn finish(&mut self, sheet: &Sheet, path: &mut Path, top: Frame) -> Result<Progress, Fault>
+    fn finish(
+        &mut self,
+        sheet: &Sheet,
+        path: &mut Path,
+        top: &mut Frame,
+    ) -> Result<Option<Answer>, Fault>
         requires cache { IsCache sheet.now self.old }
-        requires frame { IsFrame sheet.now self.old.keys top }
-        requires complete { slice_get top.wants.items (length top.values.items) ≡ None }
+        requires frame { IsFrame sheet.now self.old.keys top.old }
+        requires complete { slice_get top.old.wants.items (length top.old.values.items) ≡ None }
         ensures keys { self.new.keys ≡ self.old.keys }
         ensures counts { CountsOn self.old.counts self.new.counts }
         ensures cache { IsCache sheet.now self.new }
         ensures goes_on { (root : KeyType) →
-            IsPath sheet.now self.old.keys root path.old.frames.items top.key →
-            IfOk result (GoesOn sheet.now self.new.keys root path.new.frames.items) }
+            IsPath sheet.now self.old.keys root path.old.frames.items top.old.key →
+            IfOk result (GoesOn sheet.now self.new.keys root top.new path.new.frames.items) }
         ensures nearer { (root : KeyType) →
-            IsPath sheet.now self.old.keys root path.old.frames.items top.key →
-            IfOk result (IsNearer sheet.now root self.new path.new.frames.items
-            (steps_left sheet.now root self.old (top ∷ path.old.frames.items))) }
+            IsPath sheet.now self.old.keys root path.old.frames.items top.old.key →
+            IfOk result (IsNearer sheet.now root self.new (top.new ∷ path.new.frames.items)
+            (steps_left sheet.now root self.old (top.old ∷ path.old.frames.items))) }
     {
         let _number = self.keys.number();
         let value = self.settle(sheet, top)?;
-        match path.pop() {
-            Some(mut waiting) => {
-                waiting.values.push(value)?;
-                Ok(Progress::At(waiting))
-            }
-            None => Ok(Progress::Done(Answer::Value(value))),
-        }
+        let Some(waiting) = path.pop() else {
+            return Ok(Some(Answer::Value(value)));
+        };
+        *top = waiting;
+        top.values.push(value)?;
+        Ok(None)
     }
 
     // The value of a query that has read all its values.
-    fn settle(&mut self, sheet: &Sheet, frame: Frame) -> Result<Value, Fault>
+    fn settle(&mut self, sheet: &Sheet, frame: &mut Frame) -> Result<Value, Fault>
         requires cache { IsCache sheet.now self.old }
-        requires frame { IsFrame sheet.now self.old.keys frame }
-        requires complete { slice_get frame.wants.items (length frame.values.items) ≡ None }
-        ensures value { IfOk result (λ value. Evaluates sheet.now frame.key value) }
-        ensures verified { OnOk result (HasGiven self.old (ref_name frame.handle) frame.values.items
+        requires frame { IsFrame sheet.now self.old.keys frame.old }
+        requires complete { slice_get frame.old.wants.items (length frame.old.values.items) ≡ None }
+        ensures value { IfOk result (λ value. Evaluates sheet.now frame.old.key value) }
+        ensures verified { OnOk result (HasGiven self.old (ref_name frame.old.handle) frame.old.values.items
             → self.new.counts ≡ one_verified self.old.counts) }
         ensures computed { OnOk result
-            ((HasGiven self.old (ref_name frame.handle) frame.values.items → ⊥) →
+            ((HasGiven self.old (ref_name frame.old.handle) frame.old.values.items → ⊥) →
             self.new.counts ≡ one_computed self.old.counts) }
         ensures counts { CountsOn self.old.counts self.new.counts }
         ensures keys { self.new.keys ≡ self.old.keys }
-        ensures settled { OnOk result (IsSettled self.old (ref_name frame.handle) self.new) }
+        ensures settled { OnOk result (IsSettled self.old (ref_name frame.old.handle) self.new) }
         ensures cache { IsCache sheet.now self.new }
     {
-        let value = self.given(sheet, &frame)?;
-        self.put(frame.handle, Answer::Value(value), frame.values)?;
+        let value = self.given(sheet, frame)?;
+        let values = mem::replace(&mut frame.values, Vec::new(self.alloc));
+        self.put(frame.handle, Answer::Value(value), values)?;
         Ok(value)
     }
 
@@ -353,11 +357,11 @@ impl Cache {
     }
 
     // None of the queries on the path has a value.
-    fn give_up(&mut self, path: &Path, top: Frame, through: Key) -> Result<(), AllocError>
+    fn give_up(&mut self, path: &Path, top: &Frame, through: Key) -> Result<(), AllocError>
         ensures keys { self.new.keys ≡ self.old.keys }
         ensures counts { self.new.counts ≡ self.old.counts }
         ensures cache { (sheet : Formulas) → IsCache sheet self.old →
-            IsStuck sheet self.old.keys through top →
+            IsStuck sheet self.old.keys through top.now →
             All (IsStuck sheet self.old.keys through) path.now.frames.items →
             IsCache sheet self.new }
     {
