@@ -62,6 +62,9 @@ pub struct Cache {
     pub counts: Counts,
 }
 
+// The answer to the first query of an evaluation, where that was its last step.
+type Found = Option<Answer>;
+
 impl Cache {
     /// Nothing is known.
     pub fn new(alloc: Global) -> Cache
@@ -197,14 +200,8 @@ impl Cache {
         })
     }
 
-    // One step of an evaluation: the query at the end of the path reads a value, or is settled. The
-    // answer to the first query, where that was the last step.
-    fn advance(
-        &mut self,
-        sheet: &Sheet,
-        path: &mut Path,
-        top: &mut Frame,
-    ) -> Result<Option<Answer>, Fault>
+    // One step of an evaluation: the query at the end of the path reads a value, or is settled.
+    fn advance(&mut self, sheet: &Sheet, path: &mut Path, top: &mut Frame) -> Result<Found, Fault>
         requires cache { IsCache sheet.now self.old }
         requires frame { IsFrame sheet.now self.old.keys top.old }
         requires path { (first : KeyType)
@@ -263,12 +260,7 @@ impl Cache {
     }
 
     // The query has read all its values, and the one that waits for it goes on.
-    fn finish(
-        &mut self,
-        sheet: &Sheet,
-        path: &mut Path,
-        top: &mut Frame,
-    ) -> Result<Option<Answer>, Fault>
+    fn finish(&mut self, sheet: &Sheet, path: &mut Path, top: &mut Frame) -> Result<Found, Fault>
         requires cache { IsCache sheet.now self.old }
         requires frame { IsFrame sheet.now self.old.keys top.old }
         requires complete { slice_get top.old.wants.items (length top.old.values.items) ≡ None }
@@ -299,8 +291,9 @@ impl Cache {
         requires frame { IsFrame sheet.now self.old.keys frame.old }
         requires complete { slice_get frame.old.wants.items (length frame.old.values.items) ≡ None }
         ensures value { IfOk result (λ value. Evaluates sheet.now frame.old.key value) }
-        ensures verified { OnOk result (HasGiven self.old (ref_name frame.old.handle) frame.old.values.items
-            → self.new.counts ≡ one_verified self.old.counts) }
+        ensures verified { OnOk result
+            (HasGiven self.old (ref_name frame.old.handle) frame.old.values.items →
+            self.new.counts ≡ one_verified self.old.counts) }
         ensures computed { OnOk result
             ((HasGiven self.old (ref_name frame.old.handle) frame.old.values.items → ⊥) →
             self.new.counts ≡ one_computed self.old.counts) }
