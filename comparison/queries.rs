@@ -133,18 +133,18 @@ impl Formula {
 
 /// What a function makes of values: empty ones are passed over, and without any number it is zero.
 fn total(function: Function, values: &[Value]) -> Result<i64, CellError> {
-    let mut so_far: Option<i64> = None;
+    let mut so_far: Option<i128> = None;
     for value in values.iter().filter(|value| **value != Value::Empty) {
-        let number = value.number()?;
+        let number = i128::from(value.number()?);
         so_far = Some(match (function, so_far) {
             (Function::Count, count) => count.unwrap_or(0) + 1,
             (_, None) => number,
-            (Function::Sum, Some(sum)) => sum.checked_add(number).ok_or(CellError::Overflow)?,
+            (Function::Sum, Some(sum)) => sum + number,
             (Function::Min, Some(least)) => least.min(number),
             (Function::Max, Some(greatest)) => greatest.max(number),
         });
     }
-    Ok(so_far.unwrap_or(0))
+    i64::try_from(so_far.unwrap_or(0)).map_err(|_| CellError::Overflow)
 }
 
 /// What a query came to, the values that it read, and when it was last right.

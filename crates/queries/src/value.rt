@@ -1,8 +1,8 @@
 //! Values of cells, and what functions make of them.
-ghost use Rattle.std.specs.Prelude.{◌≡◌, ℤ, FitsSigned};
+ghost use Rattle.std.specs.Prelude.{◌≡◌, ◌-◌, ◌^◌, ℤ, FitsSigned, IfSome};
 ghost use Rattle.std.specs.Int.{w64};
 ghost use Rattle.std.specs.Option.{SomeIff};
-ghost use Rattle.queries.specs.Value.{exact_number, number_of, value_of, included, total_of};
+ghost use Rattle.queries.specs.Value.{exact_number, number_of, value_of, IsWithin, included, total_of};
 
 use crate::key::{Function, Key};
 use std::fmt;
@@ -69,21 +69,24 @@ pub fn exact(number: Option<i64>) -> Result<i64, CellError>
     number.ok_or(CellError::Overflow)
 }
 
-// One more number.
-fn include(function: Function, so_far: Option<i64>, number: i64) -> Result<i64, CellError>
+// One more number. What fewer than 2^63 come to fits.
+fn include(function: Function, so_far: Option<i128>, number: i64) -> i128
+    requires { IfSome so_far (IsWithin (2 ^ 63 - 1)) }
     ensures { result ≡ included function so_far number }
 {
+    let number = i128::from(number);
     match (function, so_far) {
-        (Function::Count, None) => Ok(1),
-        (Function::Count, Some(count)) => exact(count.checked_add(1)),
-        (_, None) => Ok(number),
-        (Function::Sum, Some(sum)) => exact(sum.checked_add(number)),
-        (Function::Min, Some(least)) => Ok(least.min(number)),
-        (Function::Max, Some(greatest)) => Ok(greatest.max(number)),
+        (Function::Count, None) => 1,
+        (Function::Count, Some(count)) => count + 1,
+        (_, None) => number,
+        (Function::Sum, Some(sum)) => sum + number,
+        (Function::Min, Some(least)) => least.min(number),
+        (Function::Max, Some(greatest)) => greatest.max(number),
     }
 }
 
 /// What a function makes of values: empty ones are passed over, and without any number it is zero.
+/// The first error among them passes on; else it is `Overflow` where the number doesn't fit.
 pub fn total(function: Function, values: &[Value]) -> Result<i64, CellError>
     ensures { result ≡ total_of function values.now }
 {
@@ -91,11 +94,11 @@ pub fn total(function: Function, values: &[Value]) -> Result<i64, CellError>
     for value in values {
         match value {
             Value::Empty => {}
-            Value::Number(number) => so_far = Some(include(function, so_far, *number)?),
+            Value::Number(number) => so_far = Some(include(function, so_far, *number)),
             Value::Error(error) => return Err(*error),
         }
     }
-    Ok(so_far.unwrap_or(0))
+    exact(i64::try_from(so_far.unwrap_or(0)).ok())
 }
 
 impl fmt::Display for Value {
