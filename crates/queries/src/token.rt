@@ -101,9 +101,12 @@ impl Language for Formulas {
 pub struct Tokens<'a>(Words<'a>);
 
 impl<'a> Tokens<'a> {
-    /// All of a line.
+    /// All of a line. It ends where its last token does.
     pub fn new(line: &'a str) -> Tokens<'a> {
-        Tokens(Words::new(line, text_run::Place::START))
+        let read = line
+            .split_once(Formulas::COMMENT)
+            .map_or(line, |(read, _)| read);
+        Tokens(Words::new(read.trim_end(), text_run::Place::START))
     }
 
     /// The next token. Behind the last it is `End` for ever.
@@ -126,38 +129,32 @@ impl<'a> Tokens<'a> {
 
 // The token that a word is, or what is wrong with it.
 fn token_kind(word: &str) -> Result<TokenKind, &'static str> {
-    if let Some(spelling) = SPELLINGS.iter().find(|spelling| spelling.0 == word) {
-        Ok(spelling.1)
-    } else if word.starts_with(|c: char| c.is_ascii_digit()) {
-        Ok(TokenKind::Number(decimal(word, "this number doesn't fit 64 bits")?))
-    } else if word.starts_with(|c: char| c.is_ascii_alphabetic()) {
-        Ok(TokenKind::Cell(cell(word)?))
-    } else {
-        Err("this character stands nowhere")
-    }
+    Ok(match word {
+        "" => TokenKind::End,
+        "+" => TokenKind::Operator(Operator::Add),
+        "-" => TokenKind::Operator(Operator::Subtract),
+        "*" => TokenKind::Operator(Operator::Multiply),
+        "/" => TokenKind::Operator(Operator::Divide),
+        "(" => TokenKind::Opening,
+        ")" => TokenKind::Closing,
+        ":" => TokenKind::Colon,
+        "=" => TokenKind::Equals,
+        "SUM" => TokenKind::Function(Function::Sum),
+        "MIN" => TokenKind::Function(Function::Min),
+        "MAX" => TokenKind::Function(Function::Max),
+        "COUNT" => TokenKind::Function(Function::Count),
+        "clear" => TokenKind::Clear,
+        "show" => TokenKind::Show,
+        "all" => TokenKind::All,
+        "stats" => TokenKind::Stats,
+        "collect" => TokenKind::Collect,
+        _ if word.starts_with(|c: char| c.is_ascii_digit()) => {
+            TokenKind::Number(decimal(word, "this number is above 9223372036854775807")?)
+        }
+        _ if word.starts_with(|c: char| c.is_ascii_alphabetic()) => TokenKind::Cell(cell(word)?),
+        _ => return Err("this character stands nowhere"),
+    })
 }
-
-// The signs and the words that are no cells, as they are written.
-const SPELLINGS: [(&str, TokenKind); 18] = [
-    ("", TokenKind::End),
-    ("+", TokenKind::Operator(Operator::Add)),
-    ("-", TokenKind::Operator(Operator::Subtract)),
-    ("*", TokenKind::Operator(Operator::Multiply)),
-    ("/", TokenKind::Operator(Operator::Divide)),
-    ("(", TokenKind::Opening),
-    (")", TokenKind::Closing),
-    (":", TokenKind::Colon),
-    ("=", TokenKind::Equals),
-    ("SUM", TokenKind::Function(Function::Sum)),
-    ("MIN", TokenKind::Function(Function::Min)),
-    ("MAX", TokenKind::Function(Function::Max)),
-    ("COUNT", TokenKind::Function(Function::Count)),
-    ("clear", TokenKind::Clear),
-    ("show", TokenKind::Show),
-    ("all", TokenKind::All),
-    ("stats", TokenKind::Stats),
-    ("collect", TokenKind::Collect),
-];
 
 // A number in decimal digits, or what is wrong with it.
 fn decimal(digits: &str, too_large: &'static str) -> Result<i64, &'static str> {

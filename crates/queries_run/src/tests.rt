@@ -12,7 +12,7 @@ use std::fmt;
 use std::process::Abort;
 
 // Lines, and what they are answered.
-const WORKED: [(&str, &str); 12] = [
+const WORKED: [(&str, &str); 15] = [
     ("show A1", "A1 = empty\n"),
     ("A1 = 1 - 2 - 3\nshow A1", "A1 = -4\n"),
     ("A1 = 2 + 3 * 4 - -1\nshow A1", "A1 = 15\n"),
@@ -36,6 +36,20 @@ const WORKED: [(&str, &str); 12] = [
         "A3 = cycle through A1\n",
     ),
     ("A1 = SUM(A1:A2)\nshow A1", "A1 = cycle through A1\n"),
+    // A sum is exact, whichever numbers come first, and only what it comes to has to fit.
+    (
+        "A1 = 9223372036854775807\nA2 = 1\nA3 = -1\nB1 = SUM(A1:A3)\nB2 = SUM(A1:A2)\nshow all",
+        "A1 = 9223372036854775807\nA2 = 1\nA3 = -1\nB1 = 9223372036854775807\nB2 = overflow\n",
+    ),
+    (
+        "A1 = -9223372036854775808",
+        "line 1, column 7: this number is above 9223372036854775807\n",
+    ),
+    // What lacks is told where it could stand, and not behind a comment.
+    (
+        "A1 = 1 + # comment\nshow # comment",
+        "line 1, column 9: a number, a cell, a function or '(' should stand here\nline 2, column 5: a cell should stand here\n",
+    ),
     (
         "A1 = 1 +\nshow A1 2",
         "line 1, column 9: a number, a cell, a function or '(' should stand here\nline 2, column 9: the line should end here\n",
@@ -216,20 +230,18 @@ fn both(outcomes: &Outcomes, one: usize, other: usize, plain: Plain) -> Option<V
 
 // The sum of the cells from one to another, where all are known.
 fn total(outcomes: &Outcomes, first: usize, last: usize) -> Option<Value> {
-    let mut so_far = Some(Value::Number(0));
+    let mut sum = 0i128;
+    let mut wrong = None;
     for (cell, outcome) in outcomes.iter().enumerate() {
         if first <= cell && cell <= last {
-            let value = (*outcome)?;
-            so_far = match (so_far, value) {
-                (Some(Value::Number(sum)), Value::Number(number)) => {
-                    Some(narrowed(i128::from(sum).wrapping_add(i128::from(number))))
-                }
-                (Some(Value::Number(_)), Value::Error(error)) => Some(Value::Error(error)),
-                (so_far, _) => so_far,
-            };
+            match (*outcome)? {
+                Value::Empty => {}
+                Value::Number(number) => sum = sum.wrapping_add(i128::from(number)),
+                Value::Error(error) => wrong = wrong.or(Some(error)),
+            }
         }
     }
-    so_far
+    Some(wrong.map_or_else(|| narrowed(sum), Value::Error))
 }
 
 // The value of a cell, where all that it reads is known.
