@@ -8,7 +8,7 @@ use std::fmt;
 /// What is made of the values of a block.
 #[derive(Clone, Copy, PartialEq, Eq, Hash, Debug)]
 pub enum Function {
-    /// Their sum. It has to fit, and no sum on the way.
+    /// Their sum. It alone has to fit, and no sum on the way.
     Sum,
     /// The least number.
     Min,
