@@ -1,3 +1,4 @@
+pub mod Closed
 pub mod Environments
 pub mod Founded
 pub mod Occurring

@@ -232,8 +232,8 @@ module _ (st : State TypeNode) (old : Unknowns) (left right : Name) where
 
 -- ---- what else is carried on
 
--- what holds of unknown types at first, and of the two types, holds of them on, and of each pair that
--- is left
+-- what holds of unknown types at first, and of the two types, holds of them on, and of each pair
+-- that is left
 abbrev pub Carried : (Unknowns → Type 0) → (Name → Type 0) → (old : Unknowns) → (left right : Name) → Unknowns
     → List Both → Type 0
 Carried I Q old left right u xs = I old → Q left → Q right

@@ -1,9 +1,9 @@
 -- Types unfolded into trees: a kind over the trees of its parts.
-use Rattle.std.specs.Prelude.{◌≡◌, ◌⊎◌, ℕ}
+use Rattle.std.specs.Prelude.{◌≡◌, ◌⊎◌, ⊤, ℕ}
 use Rattle.ra_ap_intern.specs.Name.{Name}
 use Rattle.ra_ap_intern.specs.State.{State}
 use Rattle.ra_ap_intern.specs.Tree.{Tree as TreeOver, Trees, tree, no_more, one_more, UnfoldsTo as UnfoldsInto}
-use Rattle.types.specs.Types.{Kind, unknown, declared_by, kind_of}
+use Rattle.types.specs.Types.{Kind, unknown, any, declared_by, kind_of}
 use Rattle.types.specs.declared.value.TypeNode.{TypeNode}
 
 -- a type down to its leaves
@@ -30,3 +30,22 @@ abbrev mutual
   pub OccursAmong : ℕ → Trees Kind → Type 0
   OccursAmong k no_more = ⊥
   OccursAmong k (one_more t ts) = Occurs k t ⊎ OccursAmong k ts
+
+-- neither an unknown type nor any type
+abbrev pub IsNoVariable : Kind → Type 0
+IsNoVariable (unknown n) = ⊥
+IsNoVariable (any n) = ⊥
+IsNoVariable kind = ⊤
+
+-- no part of a tree is a variable
+abbrev mutual
+  pub IsClosed : Tree → Type 0
+  IsClosed (tree kind ts) = IsNoVariable kind × AreClosed ts
+
+  pub AreClosed : Trees Kind → Type 0
+  AreClosed no_more = ⊤
+  AreClosed (one_more t ts) = IsClosed t × AreClosed ts
+
+-- a name stands for a type without variables
+abbrev pub StandsClosed : State TypeNode → Name → Type 0
+StandsClosed s n = (t : Tree) × UnfoldsTo s n t × IsClosed t

@@ -1,4 +1,4 @@
-//! Copies of types with other leaves, each part copied once.
+//! Copies of types with other leaves, each part copied once. One without variables is its own copy.
 ghost use Rattle.ra_ap_intern.specs.Interning.{ReadsOn};
 
 use crate::error::{Result, TypeError};
@@ -85,6 +85,10 @@ impl Copies {
         let first = self.source(types, unknowns, first);
         let second = self.source(types, unknowns, second);
         let (Some(a), Some(b)) = (self.copy_of(first), self.copy_of(second)) else {
+            if types.is_closed(handle) {
+                self.made.insert(handle, handle)?;
+                return Ok(());
+            }
             return Ok(self.open.extend_from_slice(&[handle, second, first])?);
         };
         let copy = types.make(if is_function {
@@ -114,7 +118,8 @@ impl Copies {
                 let number = unknowns.add(level)?;
                 Ok(types.make(TypeNode::Unknown(number))?)
             }
-            _ => Ok(leaf),
+            // Made again, since a collection forgets that it has no variables.
+            _ => Ok(types.make(node)?),
         }
     }
 }

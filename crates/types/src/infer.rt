@@ -226,7 +226,9 @@ impl Inference {
     fn unify(&mut self, left: TypeRef, right: TypeRef) -> Result<TypeRef>
         ensures { self.new.environment ≡ self.old.environment }
     {
-        unify(&self.environment.types, &mut self.unknowns, left, right)?;
+        if left != right {
+            unify(&self.environment.types, &mut self.unknowns, left, right)?;
+        }
         Ok(left)
     }
 

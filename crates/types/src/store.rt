@@ -1,5 +1,5 @@
 //! The store of types.
-ghost use Rattle.std.specs.Prelude.{◌≡◌, List, map as list_map, IfOk, OnErr, option_copied};
+ghost use Rattle.std.specs.Prelude.{◌≡◌, IsTrue, List, Some, map as list_map, IfOk, OnErr, option_copied};
 ghost use Rattle.std.specs.FinMap as map;
 ghost use Rattle.ra_ap_intern.specs.Families.{IsCollection, kept_named};
 ghost use Rattle.ra_ap_intern.specs.Handle.{ref_name};
@@ -8,15 +8,17 @@ ghost use Rattle.ra_ap_intern.specs.Name.{Name as TypeName};
 ghost use Rattle.ra_ap_intern.specs.Names.{has};
 ghost use Rattle.ra_ap_intern.specs.Reach.{Reached, starts_with};
 ghost use Rattle.ra_ap_intern.specs.State.{IsState, new_state, reads};
-ghost use Rattle.types.specs.Types.{shape, types_of};
+ghost use Rattle.types.specs.Tree.{StandsClosed};
+ghost use Rattle.types.specs.Types.{shape, shape_at, types_of};
 ghost use Rattle.types.specs.declared.value.TypeNode.TheVariants.{Function as function_node, Pair as pair_node};
 
-use crate::laws;
+use crate::laws::types_are_their_shapes;
 use crate::value::{TypeNode, TypeRef};
 use crate::written::Written;
-use ra_ap_intern::{Collected, GarbageCollector, InternStorage, Refusal};
+use ra_ap_intern::{Collected, GarbageCollector, InternStorage, Refusal, laws};
 use std::alloc::{AllocError, Global};
 use std::cmp::PartialEq;
+use std::collections::HashSet;
 use std::marker::Model;
 
 /// A store of types, each kept once.
@@ -24,11 +26,18 @@ use std::marker::Model;
 pub struct Types {
     alloc: Global,
     types: InternStorage<TypeNode>,
+    // Those that are known to have no variables.
+    closed: HashSet<TypeRef>,
 }
 
 impl Model for Types {
+    ghost use Rattle.std.specs.Prelude.{Contains};
+    ghost use Rattle.ra_ap_intern.specs.Handle.{ref_name};
     ghost use Rattle.ra_ap_intern.specs.State.{State, state_code};
+    ghost use Rattle.types.specs.Tree.{StandsClosed};
     ghost use Rattle.types.specs.contracts.value.TypeNode as value;
+    ghost use Rattle.ra_ap_intern.specs.declared.kind.Values.{Values as ValueKind};
+    ghost use Rattle.ra_ap_intern.specs.declared.storage.Ref.{Ref as Reference};
     ghost use Rattle.types.specs.declared.value.TypeNode.{TypeNode};
 
     ghost Value = { State TypeNode };
@@ -36,6 +45,9 @@ impl Model for Types {
     ghost coded = { state_code value.the_row.coded };
 
     ghost view = { λ a. a.types };
+
+    ghost invariant = { λ a. (handle : Reference (ValueKind TypeNode)) →
+        Contains a.closed.keys handle → StandsClosed a.types (ref_name handle) };
 }
 
 impl Types {
@@ -46,6 +58,7 @@ impl Types {
         Types {
             alloc,
             types: InternStorage::new(alloc, number),
+            closed: HashSet::new(alloc),
         }
     }
 
@@ -82,10 +95,44 @@ impl Types {
     pub fn make(&mut self, node: TypeNode) -> Result<TypeRef, Refusal>
         ensures { Makes ⟦<TypeNode as PartialEq>⟧.eq shape result self.old self.new node }
     {
+        let handle = self.intern(node)?;
+        if self.is_over_closed(node) {
+            // Where there is no memory to note it, it isn't known.
+            let _ = self.closed.insert(handle);
+        }
+        Ok(handle)
+    }
+
+    fn intern(&mut self, node: TypeNode) -> Result<TypeRef, Refusal>
+        ensures { Makes ⟦<TypeNode as PartialEq>⟧.eq shape result self.old self.new node }
+    {
         // What these say is used here: that no two types are equal, and what types are.
-        laws::types_are_their_shapes();
+        types_are_their_shapes();
         let _number = self.types.number();
         self.types.get_or_intern_gc(node)
+    }
+
+    /// Whether a type is known to have no variables. Each that was made of such ones is, unless
+    /// memory was wanting, or a collection left it since.
+    pub fn is_closed(&self, handle: TypeRef) -> bool
+        ensures { IsTrue result → StandsClosed self.now (ref_name handle) }
+    {
+        laws::references_are_names::<TypeNode>();
+        self.closed.contains(&handle)
+    }
+
+    // Whether a type has no variables, by its parts.
+    fn is_over_closed(&self, node: TypeNode) -> bool
+        ensures { IsTrue result → (n : TypeName) → shape_at self.now n ≡ Some (shape node) →
+            StandsClosed self.now n }
+    {
+        match node {
+            TypeNode::Integer | TypeNode::Boolean => true,
+            TypeNode::Unknown(_) | TypeNode::Any(_) => false,
+            TypeNode::Function(first, second) | TypeNode::Pair(first, second) => {
+                self.is_closed(first) && self.is_closed(second)
+            }
+        }
     }
 
     /// The type that a handle stands for. None for one of another store, or one that is gone.
@@ -122,6 +169,8 @@ impl Types {
             Reached (starts_with (list_map ref_name roots.now) (types_of self.old))
             (types_of self.old) n → reads self.new n ≡ reads self.old n }
     {
+        // What stays is known again when it is made again.
+        self.closed = HashSet::new(self.alloc);
         GarbageCollector::new(self.alloc).collect_from(&mut self.types, &roots)
     }
 }

@@ -205,6 +205,32 @@ fn a_collection_keeps_what_is_declared(rt: HostRuntime) {
 }
 
 #[test]
+fn types_without_variables_are_known(rt: HostRuntime) {
+    let types = &mut Types::new(rt.alloc(), 1);
+    let [_, pair, kept, _] = make_types(&rt, types);
+    let any = types.make(TypeNode::Any(0)).expect(&rt, "memory");
+    let open = types.pair(pair, any).expect(&rt, "memory");
+    assert!(rt; types.is_closed(kept) && !types.is_closed(open));
+    types.collect(&[kept]).expect(&rt, "memory");
+    assert!(rt; make_types(&rt, types)[2] == kept && types.is_closed(kept));
+}
+
+// Each type is over the one before it, so that to copy them would take the square of the time.
+#[test]
+fn types_without_variables_are_not_copied(rt: HostRuntime) {
+    let mut text = String::new(rt.alloc());
+    put(&rt, &mut text, "a = 1; b = ");
+    put_often(&rt, &mut text, "let a = (a, 1) in ", 40_000);
+    put(&rt, &mut text, "a;");
+    let told = answers(&rt, rt.alloc(), text.as_str());
+    // The pairs and int, with 'a, 'b, their pair, and the types of fst and snd.
+    assert!(rt;
+        told.as_str()
+            .ends_with("\n4 names, 40006 types, 0 types removed\n")
+    );
+}
+
+#[test]
 fn equal_schemes_are_one(rt: HostRuntime) {
     let text = "f x y = x; g = fun first -> (fun second -> let same = first in same);";
     let told = answers(&rt, rt.alloc(), text);
