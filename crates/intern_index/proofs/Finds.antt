@@ -1,4 +1,5 @@
--- What the table of buckets leads to, on the slots and under the births of the entries, and what a search finds.
+-- What the table of buckets leads to, on the slots and under the births of the entries, and what a
+-- search finds.
 use Rattle.std.proofs.Common.{◌≡◌, ◌⊎◌, inl, inr, ℕ, ◌+◌, ◌<◌, ◌^◌, Bool, true, false, Option, Some, sym, ap, subst, ◌∙◌, zero-add}
 use Rattle.std.specs.Option.{option_map, option_map_or}
 use Rattle.std.specs.Ordering.{nat_cmp}

@@ -1,4 +1,5 @@
--- The places that have an entry are in the order of births where these are in row, and the next of them is found from the one before.
+-- The places that have an entry are in the order of births where these are in row, and the next of
+-- them is found from the one before.
 use Rattle.std.proofs.Common.{◌≡◌, ◌⊎◌, inl, inr, ℕ, zero, suc, ◌+◌, ◌^◌, ◌<◌, ◌≤◌, true, List, [], ◌∷◌, length, get_or, Option, Some, None, IsSome, is_some, IfSome, IfNone, nat_eq, refl, sym, ap, subst, ◌∙◌, arith, add-zero}
 use Rattle.std.specs.Prelude.{slice_index, map as list_map}
 use Rattle.std.specs.List.{list_any, slice_get}

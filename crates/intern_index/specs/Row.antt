@@ -4,7 +4,8 @@ use Rattle.intern_buckets.specs.Leading.{leads}
 use Rattle.intern_buckets.specs.Mixed.{mixed}
 use Rattle.intern_buckets.specs.declared.buckets.Buckets.{Buckets}
 
--- the hash under which a birth at a place is entered: none where the birth is the place and the shift
+-- the hash under which a birth at a place is entered: none where the birth is the place and the
+-- shift
 abbrev pub row_key : ℕ → ℕ → ℕ → Option ℕ
 row_key shift p b = if p + shift == b then None else Some (mixed b)
 

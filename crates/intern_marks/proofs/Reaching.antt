@@ -7,7 +7,8 @@ use Rattle.intern_store.specs.Named.{same_name}
 use Rattle.intern_marks.specs.Names.{has}
 use Rattle.intern_marks.specs.Reach.{Entry, entry_of, is_entry, counted_entry, children_of, children_in, starts_with, IsPath, Reached, IsReachedSet, kept_entries, IsClosed}
 
--- each set that has the names at which paths begin, and with a name its children that are entries, has all that is reached
+-- each set that has the names at which paths begin, and with a name its children that are entries,
+-- has all that is reached
 pub least : (begins : Name → Bool) (family : List Entry) (set : Name → Bool) → ((x : Name) → begins x ≡ true → set x ≡ true)
     → ((parent x : Name) → set parent ≡ true → has (children_in family parent) x ≡ true → is_entry family x ≡ true → set x ≡ true)
     → (before : List Name) (x : Name) → IsPath begins family before x → set x ≡ true

@@ -219,7 +219,8 @@ module _ {H S A : Type 0} (near : A → Result (List S) ℕ) where
       (ap (λ ys. option_map (read_entry near ys) (find nat_cmp b (moved (length es) (lo + n) es))) (sym (append_assoc before first rest))
       ∙ read_moved xs (before ++ first) (lo + n) (end_of near e.1) es (omega (arith, length-append before first, begins, long)) lies.1 b)
 
-  -- what the loop keeps: the first n slices lie one behind the other, and what is behind them is as it was
+  -- what the loop keeps: the first n slices lie one behind the other, and what is behind them is as
+  -- it was
   pub record IsMoved (m : FinMap nat_cmp (Row H A)) (xs : List S) (now : FinMap nat_cmp (Row H A)) (ys : List S) (n end : ℕ) : Type 0 where
     pub rows : entries now ≡ moved n 0 (entries m)
     pub items : ys ≡ gathered xs n (entries m) ++ drop end xs

@@ -1,5 +1,5 @@
--- What is known of values that are equal exactly if they are seen as the same, and what a collection
--- leaves of them.
+-- What is known of values that are equal exactly if they are seen as the same, and what a
+-- collection leaves of them.
 use Rattle.std.proofs.Common.{rules, ◌≡◌, ◌↔◌, Bool, true, ◌&&◌, List, [], ◌∷◌, map, Option, Some, None, IsSome, Result, Ok, Err, IfOk, OnErr, refl, sym, ap, subst, ◌∙◌, arith}
 use Rattle.std.specs.Cmp.{IsEquivalence}
 use Rattle.std.specs.List.{flat_map}

@@ -40,7 +40,8 @@ module _ {S V N : Type 0} (after : S → V → S) (gives : S → V → N) where
     }
 
 module _ {V : Type 0} (after : State V → V → State V) (eq : V → V → Bool) where
-  -- a step that interns a value: what it names reads an equal value, and what was given reads what it read
+  -- a step that interns a value: what it names reads an equal value, and what was given reads what
+  -- it read
   pub record IsInterning : Type 0 where
     pub named : (s : State V) (v : V) → ReadsEqual eq (after s v) (interned_name eq s v) v
     pub given : (s : State V) (v : V) (name : Name) → name.birth < s.next → reads (after s v) name ≡ reads s name

@@ -11,6 +11,7 @@ pub mod CallerStates
 pub mod CallerSymbols
 pub mod CallerTrees
 pub mod CallerViews
+pub mod CallerWalks
 mod Collections
 mod Entries
 mod Following

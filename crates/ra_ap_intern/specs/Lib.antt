@@ -11,6 +11,7 @@ pub mod Symbols
 pub mod Tree
 pub mod Under
 pub mod Visitors
+pub mod Walks
 pub use Rattle.intern_marks.specs.Learning
 pub use Rattle.intern_marks.specs.Marks
 pub use Rattle.intern_marks.specs.Names

@@ -158,8 +158,8 @@ is_new_text s t = is_none (place_of t) && is_new bytes_eq s t
 abbrev pub AddsTexts : State (List ℕ) → State (List ℕ) → List (List ℕ) → List Named → List Named → Type 0
 AddsTexts = AddsInTurn (λ s t. (symbol_in s t).table) (λ s t. (symbol_in s t).symbol) due_symbol
 
--- of texts that were to be interned in turn one was refused, as it is alone, or the first, with none
--- done, for want of room for their symbols
+-- of texts that were to be interned in turn one was refused, as it is alone, or the first, with
+-- none done, for want of room for their symbols
 pub record IsRefusedText (old new : State (List ℕ)) (all : List (List ℕ)) (listed names : List Named)
     (no_room : Type 0) (reason : Refusal) : Type 0
   where

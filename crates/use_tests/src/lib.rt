@@ -38,4 +38,6 @@ mod unwraps;
 #[cfg(test)]
 mod visitors;
 #[cfg(test)]
+mod walks;
+#[cfg(test)]
 mod words;

@@ -7,7 +7,7 @@ use use_trees::whole_function;
 use use_types::{TypeNode, TypeRef, Types, collect, find_function, function, make};
 
 // A store in which the types of two names were made.
-fn scene(rt: &impl Abort, alloc: Global) -> (Types, TypeRef, TypeRef) {
+pub(crate) fn scene(rt: &impl Abort, alloc: Global) -> (Types, TypeRef, TypeRef) {
     let names = SymbolTable::new(alloc, 1);
     let mut types = InternStorage::new(alloc, 2);
     let int = named(rt, &mut types, &names, "i32");
@@ -27,7 +27,7 @@ fn is_function(types: &Types, handle: TypeRef, from: TypeRef, to: TypeRef) -> bo
 }
 
 // The type of the functions from a type to another.
-fn made(rt: &impl Abort, types: &mut Types, from: TypeRef, to: TypeRef) -> TypeRef {
+pub(crate) fn made(rt: &impl Abort, types: &mut Types, from: TypeRef, to: TypeRef) -> TypeRef {
     function(types, from, to).expect(rt, "memory")
 }
 

@@ -3,7 +3,8 @@ use Rattle.std.specs.Vec.Iter.{into_iter_items, into_iter_len}
 use Rattle.ra_ap_intern.specs.Interning.{Interns}
 use Rattle.ra_ap_intern.proofs.intern.each.InternStorage+T+B.extend.Given as goal
 
--- the values before those that are left were interned in turn, and there is room for the others' handles
+-- the values before those that are left were interned in turn, and there is room for the others'
+-- handles
 abbrev pub invariant-loop-value : goal.invariant-loop-value
 invariant-loop-value g l = record {
   done : List g.row.T.Denot;
