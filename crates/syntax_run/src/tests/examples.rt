@@ -79,6 +79,12 @@ fn check_told(rt: &impl Abort, alloc: Global, text: &str, expected: &str) {
     assert_eq!(rt; told.as_str(), expected);
 }
 
+fn check_each_told(rt: &impl Abort, alloc: Global, texts: &[(&'static str, &'static str)]) {
+    for (text, expected) in texts {
+        check_told(rt, alloc, text, expected);
+    }
+}
+
 #[test]
 fn errors_are_told_with_their_places(rt: HostRuntime) {
     let texts = [
@@ -107,9 +113,7 @@ fn errors_are_told_with_their_places(rt: HostRuntime) {
             "version 1: line 1, column 1: expected `fn` or `let`, and found `1`\n",
         ),
     ];
-    for (text, expected) in texts.iter() {
-        check_told(&rt, rt.alloc(), text, expected);
-    }
+    check_each_told(&rt, rt.alloc(), &texts);
 }
 
 #[test]
@@ -256,9 +260,7 @@ fn what_is_expected_goes_on_in_an_open_form(rt: HostRuntime) {
             "version 1: line 1, column 19: expected an operator or `in`, and found `2`\n",
         ),
     ];
-    for (text, expected) in texts.iter() {
-        check_told(&rt, rt.alloc(), text, expected);
-    }
+    check_each_told(&rt, rt.alloc(), &texts);
 }
 
 #[test]
@@ -293,9 +295,7 @@ fn what_is_expected_at_an_end_within_what_is_defined_is_told(rt: HostRuntime) {
             "version 1: line 1, column 5: expected a name, and found `=`\n",
         ),
     ];
-    for (text, expected) in texts.iter() {
-        check_told(&rt, rt.alloc(), text, expected);
-    }
+    check_each_told(&rt, rt.alloc(), &texts);
 }
 
 #[test]
@@ -326,9 +326,7 @@ version 3: 0 terms, 0 distinct, 0 new
             "version 1: line 2, column 2: expected an operator or `;`\n",
         ),
     ];
-    for (text, expected) in texts.iter() {
-        check_told(&rt, rt.alloc(), text, expected);
-    }
+    check_each_told(&rt, rt.alloc(), &texts);
 }
 
 #[test]
@@ -351,9 +349,7 @@ fn the_first_of_several_errors_is_told(rt: HostRuntime) {
             "version 1: line 1, column 9: expected a token\n",
         ),
     ];
-    for (text, expected) in texts.iter() {
-        check_told(&rt, rt.alloc(), text, expected);
-    }
+    check_each_told(&rt, rt.alloc(), &texts);
 }
 
 /// How deep the parentheses are nested.
