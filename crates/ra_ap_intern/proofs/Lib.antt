@@ -1,6 +1,7 @@
 mod Answered
 mod Births
 pub mod CallerCollections
+pub mod CallerCounts
 pub mod CallerInterning
 pub mod CallerLemmas
 pub mod CallerMaps

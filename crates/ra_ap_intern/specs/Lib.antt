@@ -1,6 +1,7 @@
 pub mod Constants
 pub mod Families
 pub mod Handle
+pub mod Held
 pub mod Interning
 pub mod Order
 pub mod PairLaws

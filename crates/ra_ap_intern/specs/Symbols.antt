@@ -1,6 +1,7 @@
 -- What symbols are, and what a table of texts holds.
-use Rattle.std.specs.Prelude.{◌≡◌, ◌⊎◌, ℕ, ◌<◌, ◌==◌, Bool, false, ◌&&◌, List, [], ◌∷◌, ◌++◌, Option, Some, None, is_none, map as list_map, ◌-◌, ◌^◌, if◌then◌else◌}
+use Rattle.std.specs.Prelude.{◌≡◌, ◌⊎◌, ℕ, ◌==◌, Bool, false, ◌&&◌, List, [], ◌∷◌, ◌++◌, Option, Some, None, is_none, map as list_map, ◌-◌, ◌^◌, if◌then◌else◌}
 use Rattle.std.specs.FinMap as map
+use Rattle.std.specs.List.{filter_map}
 use Rattle.std.specs.Option.{option_eq, option_map}
 use Rattle.std.specs.Ordering.{nat_cmp}
 use Rattle.std.specs.Str.{bytes_eq}
@@ -15,6 +16,7 @@ use Rattle.intern_store.specs.declared.names.Name.{Name}
 use Rattle.intern_store.specs.declared.refusal.Refusal.{Refusal}
 use Rattle.intern_store.specs.declared.refusal.Refusal.TheVariants.{OutOfMemory}
 use Rattle.ra_ap_intern.specs.Handle.{name_cmp}
+use Rattle.ra_ap_intern.specs.Held.{IsCounted}
 use Rattle.ra_ap_intern.specs.Interning.{AddsInTurn}
 use Rattle.ra_ap_intern.specs.declared.symbol.Symbol.{Symbol}
 use Rattle.ra_ap_intern.specs.declared.symbol.SymbolRef.{SymbolRef}
@@ -26,7 +28,7 @@ use Rattle.ra_ap_intern.specs.declared.symbol.packed.Source.TheVariants.{Preset,
 
 -- every text is counted, and none is a preset
 pub record IsTable (s : State (List ℕ)) : Type 0 where
-  pub positive : (b : ℕ) (k : Kept (List ℕ)) → entry_at s b ≡ Some k → 0 < k.count
+  pub positive : IsCounted s
   pub others : (b : ℕ) (k : Kept (List ℕ)) → entry_at s b ≡ Some k → place_of k.value ≡ None
 
 -- what a symbol names: the preset of a place, or an entry of a table
@@ -76,6 +78,10 @@ displayed d = (symbol_ref_name d.symbol, d.table.now)
 abbrev pub entry_name : Named → Option Name
 entry_name (preset place) = None
 entry_name (entry name) = Some name
+
+-- the names of the entries of symbols
+abbrev pub entry_names : List Named → List Name
+entry_names symbols = filter_map entry_name symbols
 
 -- the text of a symbol, while it can be read
 abbrev pub text_of : State (List ℕ) → Named → Option (List ℕ)
