@@ -1,34 +1,46 @@
 -- What each change does to counts, and handles that are held.
-use Rattle.std.proofs.Common.{◌≡◌, ℕ, zero, suc, ◌+◌, ◌-◌, ◌<◌, Bool, true, false, cond, ◌&&◌, List, [], ◌∷◌, ◌++◌, append-nil, Option, Some, None, IsSome, refl, sym, ap, ◌∙◌, arith}
-use Rattle.std.specs.FinMap.{get-empty}
+use Rattle.std.proofs.Common.{◌≡◌, ℕ, zero, suc, ◌+◌, ◌-◌, ◌<◌, Bool, true, false, cond, ◌&&◌, List, [], ◌∷◌, ◌++◌, map as list_map, append-nil, Option, Some, None, IsSome, Result, Ok, Err, refl, sym, ap, ◌∙◌, arith}
+use Rattle.std.specs.Cmp.{nat_cmp_total}
+use Rattle.std.specs.FinMap as map
+use Rattle.std.specs.FinMap.{get-empty, same_map, nat_cmp-IsAntisymmetric}
 use Rattle.std.specs.List.Sorted.{IsPermutation}
 use Rattle.std.specs.Option.{option_map, unwrap_or}
 use Rattle.std.specs.Ordering.{nat_cmp}
+use Rattle.std.specs.Result.{IsOk}
 use Rattle.std.specs.Str.{bytes_eq}
 use Rattle.std.proofs.lemmas.Bool.Decides.{nat_tests}
+use Rattle.std.proofs.lemmas.List.{map-append}
 use Rattle.std.proofs.lemmas.List.Elements.{filter_map-append}
 use Rattle.std.proofs.lemmas.List.Sorted.{sum_by-IsPermutation}
 use Rattle.std.proofs.lemmas.List.Sums.{sum_by-cons, sum_by_push}
 use Rattle.intern_store.proofs.Births.{is_stored}
 use Rattle.intern_store.proofs.Compared.{get-inserted, get-removed, get-modified, get-retained}
 use Rattle.ra_ap_intern.specs.Families.{kept_named}
-use Rattle.ra_ap_intern.specs.Held.{times_held, times_counted, IsBalanced, IsCounted}
+use Rattle.ra_ap_intern.specs.Held.{times_held, times_counted, IsBalanced, IsCounted, emptied}
 use Rattle.ra_ap_intern.specs.Kept.{Kept, recount}
 use Rattle.ra_ap_intern.specs.Name.{Name}
 use Rattle.ra_ap_intern.specs.Named.{same_name}
 use Rattle.ra_ap_intern.specs.Names.{has}
+use Rattle.ra_ap_intern.specs.Outcome.{OwesBack, Becomes}
 use Rattle.ra_ap_intern.specs.Presets.{place_of}
 use Rattle.ra_ap_intern.specs.Refusal.{Refusal}
-use Rattle.ra_ap_intern.specs.State.{State, IsState, new_state, name_in, counts, reads, counted_up, counted_down, taken, added, or_added, is_new, birth_of, interned, interned_name, interned_counted, due, zero_count, is_last, released}
+use Rattle.ra_ap_intern.specs.Refused.{Refused}
+use Rattle.ra_ap_intern.specs.State.{State, IsState, new_state, name_in, entry_at, counts, reads, with_count, counted_up, counted_down, taken, added, or_added, is_new, birth_of, interned, interned_name, interned_counted, due, zero_count, is_last, released}
 use Rattle.ra_ap_intern.specs.Symbols.{Named, entry_name, entry_names, symbol_at, symbol_in, due_of, at_entry}
 use Rattle.ra_ap_intern.specs.Symbols.Named.{preset, entry}
 use Rattle.ra_ap_intern.proofs.CallerCollections.{counts-kept_named}
-use Rattle.ra_ap_intern.proofs.CallerReads.{read_at, is_there, counts-recounted, due_counted}
+use Rattle.ra_ap_intern.proofs.CallerReads.{read_at, is_there, counts-recounted, due_counted, released_either}
 
 -- the last of a list is in it
 pub has_last : (held : List Name) (n : Name) → has (held ++ n ∷ []) n ≡ true
 has_last [] n = grind (arith, nat_tests)
 has_last (m ∷ held) n = grind (arith, has_last held n)
+
+-- the names of handles, where one more is behind them
+pub names_pushed : {H : Type 0} (name : H → Name) (before now : List H) (handle : H)
+    → now ≡ before ++ handle ∷ [] → list_map name now ≡ list_map name before ++ name handle ∷ []
+names_pushed name before now handle is =
+    ap (list_map name) is ∙ map-append name before (handle ∷ [])
 
 -- what is in a list stands there once or more
 some_held : (held : List Name) (n : Name) → has held n ≡ true → 0 < times_held held n
@@ -255,6 +267,51 @@ module _ {V : Type 0} where
       → IsBalanced (kept_named s set) held
   balanced_kept s set held all is = λ n. times_kept s set n (all n) ∙ is n
 
+  -- ---- the same of calls with these clauses, where handles of any type are held in a list
+
+  -- the last handle that was interned
+  pub handle_pushed : {H : Type 0} (name : H → Name) (eq : V → V → Bool) (s t : State V) (v : V)
+      (before now : List H) (handle : H) → now ≡ before ++ handle ∷ []
+      → name handle ≡ interned_name eq s v → t ≡ interned_counted eq s v → IsState eq s
+      → IsBalanced s (list_map name before) → IsBalanced t (list_map name now)
+  handle_pushed name eq s t v before now handle pushed named counted ok is =
+      rw (counted, names_pushed name before now handle pushed, named)
+      (balanced_interned_counted eq s v (list_map name before) ok is)
+
+  -- a release that isn't refused, and what it leaves
+  pub record IsReleased {A E : Type 0} (stays : Bool) (s t : State V) (m : Name)
+      (held : List Name) (r : Result A E) : Type 0
+    where
+      pub ok : IsOk r
+      pub state : t ≡ released stays s m.birth
+      pub balanced : IsBalanced t held
+
+  -- the last handle of the list
+  pub handle_popped : {H : Type 0} (name : H → Name) (stays : Bool) (s t : State V)
+      (before now : List H) (handle : H) → before ≡ now ++ handle ∷ []
+      → IsBalanced s (list_map name before)
+      → {A O : Type 0} (r : Result A (Refused O)) (given : O)
+      → OwesBack r (due s (name handle) zero_count) given
+      → Becomes r s t (released stays s (name handle).birth)
+      → IsReleased stays s t (name handle) (list_map name now) r
+  handle_popped {H} name stays s t before now handle popped is {A} {O} r given = go r
+    where
+      held : IsBalanced s (list_map name now ++ name handle ∷ [])
+      held = rw (names_pushed name now before handle popped) at is
+
+      go : (r : Result A (Refused O)) → OwesBack r (due s (name handle) zero_count) given
+          → Becomes r s t (released stays s (name handle).birth)
+          → IsReleased stays s t (name handle) (list_map name now) r
+      go (Ok a) owes becomes = record {
+        ok = refl;
+        state = becomes;
+        balanced = rw becomes (balanced_released stays s (name handle) (list_map name now) held);
+      }
+      go (Err refused) owes becomes =
+          let free = held_due s (list_map name now ++ name handle ∷ []) (name handle) held
+          (has_last (list_map name now) (name handle)) in
+          let owed = owes.0 in absurd (cc)
+
   -- ---- counts above zero
 
   -- where no count is zero, what is there can be released
@@ -311,6 +368,24 @@ module _ {V : Type 0} where
           let r = read_at s n v at in
           let some = counted n.birth r.kept r.at in
           let none = balanced n in grind (arith, nat_tests, r.home, r.at, some, none)
+
+  -- a release changes nothing beside the entries
+  pub emptied_released : (stays : Bool) (s : State V) (b : ℕ)
+      → emptied (released stays s b) ≡ emptied s
+  emptied_released stays s b =
+      released_either (λ t. emptied t ≡ emptied s) stays s b refl (go (entry_at s b))
+    where
+      go : (o : Option (Kept V)) → emptied (with_count (λ n. n - 1) s b o) ≡ emptied s
+      go o = refl
+
+  -- so a storage whose handles are all released is empty
+  pub all_released : (s t : State V) → emptied t ≡ emptied s → IsBalanced t [] → IsCounted t
+      → t ≡ emptied s
+  all_released s t same balanced counted =
+      let none = none_held t balanced counted in
+      ap (λ m. record t { map = m }) (same_map nat_cmp_total nat_cmp-IsAntisymmetric t.map map.empty
+      (λ q. let gone = none (name_in t q) in
+      grind (arith, nat_tests, gone, get-empty {X = Kept V} nat_cmp q))) ∙ same
 
 -- ---- symbols that are held
 

@@ -1,5 +1,6 @@
 -- How often entries are counted, and how often their names are held.
 use Rattle.std.specs.Prelude.{◌≡◌, ◌<◌, ℕ, List, Some}
+use Rattle.std.specs.FinMap as map
 use Rattle.std.specs.List.{count_by}
 use Rattle.std.specs.Option.{unwrap_or}
 use Rattle.intern_store.specs.Kept.{Kept}
@@ -24,3 +25,7 @@ module _ {V : Type 0} where
   -- no entry has count zero, as where entries go with their last handle
   abbrev pub IsCounted : State V → Type 0
   IsCounted s = (b : ℕ) (k : Kept V) → entry_at s b ≡ Some k → 0 < k.count
+
+  -- with no entry, where the next birth stays
+  abbrev pub emptied : State V → State V
+  emptied s = record s { map = map.empty }
