@@ -30,9 +30,15 @@ use Rattle.intern_calls.specs.declared.reply.Reply.{Reply}
 use Rattle.intern_calls.specs.declared.reply.Reply.TheVariants.{Refused}
 use Rattle.intern_world.specs.Ledger.{is_part, names_entry, count_in_part, counts_handle, made, added, taken_by, taken, Balances}
 use Rattle.intern_world.specs.Run.{Turn, IsWorld, IsRun}
-use Rattle.ra_ap_intern.proofs.CallerLemmas.{is_there}
+use Rattle.ra_ap_intern.proofs.CallerLemmas.{times_counted_up, times_counted_down, times_released, times_interned, times_interned_counted, counted_due}
 use Rattle.intern_world.proofs.Swept.{swept_counts}
-use Rattle.intern_world.proofs.Counts.{flag, released_at, up_counts, down_counts, released_counts, interned_counts, interned_counted_counts}
+
+-- one where it is true
+abbrev flag : Bool → ℕ
+flag b = cond b 1 0
+
+plus_none : (n : ℕ) → n + 0 ≡ n
+plus_none n = omega arith
 
 held_last : (l : List Held) (h : Held) → held_at (l ++ h ∷ []) (length l) ≡ h
 held_last l h = get_or_push l h nothing (length l) refl
@@ -52,9 +58,9 @@ module _ {C G H I : Type 0} where
       → due_up w h m ≡ None
       → count_in_part (up w h m) part n + 0
       ≡ count_in_part w part n + flag (is_part h part && same_name n m)
-  up_adds which.Counted n w counted m free = up_counts w.counted m n _ free
-  up_adds which.Values n w values m free = up_counts w.values m n _ free
-  up_adds which.Slices n w slices m free = up_counts w.slices m n _ free
+  up_adds which.Counted n w counted m free = plus_none _ ∙ times_counted_up w.counted m n _ free
+  up_adds which.Values n w values m free = plus_none _ ∙ times_counted_up w.values m n _ free
+  up_adds which.Slices n w slices m free = plus_none _ ∙ times_counted_up w.slices m n _ free
   up_adds _ n w counted m free = refl
   up_adds _ n w values m free = refl
   up_adds _ n w slices m free = refl
@@ -63,9 +69,12 @@ module _ {C G H I : Type 0} where
       → due_down w h m ≡ None
       → count_in_part (down w h m) part n + flag (is_part h part && same_name n m)
       ≡ count_in_part w part n + 0
-  down_takes which.Counted n w counted m free = down_counts w.counted m n free
-  down_takes which.Values n w values m free = down_counts w.values m n free
-  down_takes which.Slices n w slices m free = down_counts w.slices m n free
+  down_takes which.Counted n w counted m free =
+      times_counted_down w.counted m n free ∙ sym (plus_none _)
+  down_takes which.Values n w values m free =
+      times_counted_down w.values m n free ∙ sym (plus_none _)
+  down_takes which.Slices n w slices m free =
+      times_counted_down w.slices m n free ∙ sym (plus_none _)
   down_takes _ n w counted m free = refl
   down_takes _ n w values m free = refl
   down_takes _ n w slices m free = refl
@@ -74,9 +83,12 @@ module _ {C G H I : Type 0} where
       → due_down w h m ≡ None
       → count_in_part (given_up w h m) part n + flag (is_part h part && same_name n m)
       ≡ count_in_part w part n + 0
-  give_up_takes which.Counted n w counted m free = released_counts false w.counted m n free
-  give_up_takes which.Values n w values m free = released_counts true w.values m n free
-  give_up_takes which.Slices n w slices m free = down_counts w.slices m n free
+  give_up_takes which.Counted n w counted m free =
+      times_released false w.counted m n free ∙ sym (plus_none _)
+  give_up_takes which.Values n w values m free =
+      times_released true w.values m n free ∙ sym (plus_none _)
+  give_up_takes which.Slices n w slices m free =
+      times_counted_down w.slices m n free ∙ sym (plus_none _)
   give_up_takes _ n w counted m free = refl
   give_up_takes _ n w values m free = refl
   give_up_takes _ n w slices m free = refl
@@ -86,7 +98,8 @@ module _ {C G H I : Type 0} where
       → due_of w.table s (full w.table.top) ≡ None
       → count_in_part (at_text counted_up w s) part n + 0
       ≡ count_in_part w part n + flag (names_entry part n (symbol s))
-  text_up_adds which.Symbols n w (entry m) free = up_counts w.table m n _ free
+  text_up_adds which.Symbols n w (entry m) free =
+      plus_none _ ∙ times_counted_up w.table m n _ free
   text_up_adds _ n w (entry m) free = refl
   text_up_adds _ n w (preset p) free = refl
 
@@ -96,8 +109,8 @@ module _ {C G H I : Type 0} where
       + flag (names_entry part n (symbol s))
       ≡ count_in_part w part n + 0
   text_down_takes which.Symbols n w (entry m) ok free =
-      let t = is_there w.table m any_count free in
-      released_at false w.table m n t.kept t.home t.at (ok.positive m.birth t.kept t.at)
+      times_released false w.table m n (counted_due w.table m any_count ok.positive free)
+      ∙ sym (plus_none _)
   text_down_takes _ n w (entry m) ok free = refl
   text_down_takes _ n w (preset p) ok free = refl
 
@@ -147,7 +160,7 @@ module _ {C G H I : Type 0} (part : Which) (n : Name) where
           → count_in_part (record w { counted = interned_counted eq w.counted v }) p n + 0
           ≡ count_in_part w p n
           + flag (names_entry p n (owned counted (interned_name eq w.counted v)))
-      sums which.Counted = interned_counted_counts eq w.counted v n ok
+      sums which.Counted = plus_none _ ∙ times_interned_counted eq w.counted v n ok
       sums _ = refl
 
   of_value : (eq : G → G → Bool) (w : WorldState C G H I) (v : G) → IsState eq w.values
@@ -160,7 +173,7 @@ module _ {C G H I : Type 0} (part : Which) (n : Name) where
       same : (p : Which)
           → count_in_part (record w { values = (interned eq w.values v).state }) p n
           ≡ count_in_part w p n
-      same which.Values = interned_counts eq w.values v n ok
+      same which.Values = times_interned eq w.values v n ok
       same _ = refl
 
   of_slice : (eq : Sliced H I → Sliced H I → Bool) (w : WorldState C G H I) (h : H) (l : List I)
@@ -173,7 +186,7 @@ module _ {C G H I : Type 0} (part : Which) (n : Name) where
       same : (p : Which)
           → count_in_part (record w { slices = (slice_in eq w.slices h l).state }) p n
           ≡ count_in_part w p n
-      same which.Slices = interned_counts eq w.slices (slice_of h l) n ok
+      same which.Slices = times_interned eq w.slices (slice_of h l) n ok
       same _ = refl
 
   of_text : (w : WorldState C G H I) (t : List ℕ) → IsState bytes_eq w.table
@@ -185,7 +198,7 @@ module _ {C G H I : Type 0} (part : Which) (n : Name) where
       sums : (p : Which) (o : Option ℕ)
           → count_in_part (record w { table = (symbol_at o w.table t).table }) p n + 0
           ≡ count_in_part w p n + flag (names_entry p n (symbol (symbol_at o w.table t).symbol))
-      sums which.Symbols None = interned_counted_counts bytes_eq w.table t n ok
+      sums which.Symbols None = plus_none _ ∙ times_interned_counted bytes_eq w.table t n ok
       sums _ None = refl
       sums _ (Some place) = refl
 

@@ -1,5 +1,4 @@
 pub mod Along
-pub mod Counts
 pub mod Ledger
 pub mod Runs
 pub mod Steps

@@ -1,13 +1,14 @@
 -- A collection leaves each counted entry.
-use Rattle.std.proofs.Common.{◌≡◌, inl, inr, Bool, true, false, not, ◌==◌, ◌&&◌, ◌||◌, List, [], ◌∷◌, ◌++◌, Option, Some, None, refl, sym, ap, ◌∙◌}
+use Rattle.std.proofs.Common.{◌≡◌, ◌+◌, inl, inr, Bool, true, false, not, ◌==◌, ◌&&◌, ◌||◌, List, [], ◌∷◌, ◌++◌, Option, Some, None, refl, sym, ap, ◌∙◌, arith}
 use Rattle.std.specs.Option.{option_or}
 use Rattle.std.proofs.lemmas.Bool.{and_parts, eq-eqb, eqb-true}
-use Rattle.ra_ap_intern.proofs.CallerLemmas.{is_more, seen_there, seen_elsewhere}
+use Rattle.ra_ap_intern.proofs.CallerLemmas.{is_there, due_counted, counted_first, counted_starts, seen_elsewhere, times_kept}
 use Rattle.ra_ap_intern.specs.Names.{has}
 use Rattle.ra_ap_intern.specs.Families.{has_number}
 use Rattle.ra_ap_intern.specs.Name.{Name}
 use Rattle.ra_ap_intern.specs.PairLaws.{entry_either}
-use Rattle.ra_ap_intern.specs.Reach.{Entry, entry_of, is_entry, is_counted, counted_entry, starts, starts_with, IsReachedSet}
+use Rattle.ra_ap_intern.specs.Reach.{Entry, entry_of, is_entry, counted_entry, starts, starts_with, IsReachedSet}
+use Rattle.ra_ap_intern.specs.State.{zero_count}
 use Rattle.intern_calls.specs.Step.{Keeps}
 use Rattle.intern_calls.specs.World.{Kinds, WorldState, entries, swept}
 use Rattle.intern_calls.specs.declared.call.Which.{Which}
@@ -15,19 +16,12 @@ use Rattle.intern_calls.specs.declared.call.Which.TheVariants as which
 use Rattle.intern_calls.specs.declared.reply.Reply.{Reply}
 use Rattle.intern_world.specs.Ledger.{count_in_part}
 use Rattle.intern_world.specs.Run.{IsWorld}
-use Rattle.intern_world.proofs.Counts.{kept_counts}
 
--- the entry of a name is the first list's, or the second's
-in_first : (xs ys : List Entry) (n : Name) (e : Entry) → entry_of xs n ≡ Some e
-    → is_counted e.count ≡ true → starts (xs ++ ys) n ≡ true
-in_first xs ys n e there some =
-    ap counted_entry (entry_either xs ys n ∙ ap (λ o. option_or o (entry_of ys n)) there) ∙ some
-
-in_second : (xs ys : List Entry) (n : Name) (e : Entry) → entry_of xs n ≡ None
-    → entry_of ys n ≡ Some e → is_counted e.count ≡ true → starts (xs ++ ys) n ≡ true
-in_second xs ys n e none there some =
-    ap counted_entry (entry_either xs ys n ∙ ap (λ o. option_or o (entry_of ys n)) none ∙ there)
-    ∙ some
+-- a counted entry of the second list, whose name has none in the first
+in_second : (xs ys : List Entry) (n : Name) → entry_of xs n ≡ None → starts ys n ≡ true
+    → starts (xs ++ ys) n ≡ true
+in_second xs ys n none counted =
+    ap counted_entry (entry_either xs ys n ∙ ap (λ o. option_or o (entry_of ys n)) none) ∙ counted
 
 module _ {C G H I : Type 0} where
   pub swept_counts : (kinds : Kinds C G H I) (w : WorldState C G H I) (begins : Name → Bool)
@@ -53,13 +47,14 @@ module _ {C G H I : Type 0} where
 
       go : (p : Which) → count_in_part (swept w names) p n ≡ count_in_part w p n
       go which.Counted = refl
-      go which.Values = kept_counts w.values (has names) n
-          (λ k home at some. listed (in_first _ _ n _
-          (seen_there kinds.value_children w.values n k home at) (is_more k.count some)))
-      go which.Slices = kept_counts w.slices (has names) n
-          (λ k home at some. listed (in_second _ _ n _
-          (seen_elsewhere kinds.value_children w.values n (foreign home _ refl))
-          (seen_there kinds.slice_children w.slices n k home at) (is_more k.count some)))
+      go which.Values = times_kept w.values (has names) n
+          (λ c at. listed (counted_first _ _ n
+          (counted_starts kinds.value_children w.values n (c + 1) at (omega arith))))
+      go which.Slices = times_kept w.slices (has names) n
+          (λ c at. let there = is_there w.slices n zero_count (due_counted w.slices n c at) in
+          listed (in_second _ _ n
+          (seen_elsewhere kinds.value_children w.values n (foreign there.home _ refl))
+          (counted_starts kinds.slice_children w.slices n (c + 1) at (omega arith))))
       go which.Symbols = refl
 
   -- also one that begins at further entries

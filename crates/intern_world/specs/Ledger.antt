@@ -1,10 +1,9 @@
 -- What the turns of a run add to counts, and what they take from them.
 use Rattle.std.specs.Prelude.{◌≡◌, ℕ, ◌+◌, Bool, true, false, ◌&&◌, if◌then◌else◌, List, [], ◌∷◌, length}
 use Rattle.std.specs.List.{filter}
-use Rattle.std.specs.Option.{unwrap_or}
+use Rattle.ra_ap_intern.specs.Held.{times_counted}
 use Rattle.ra_ap_intern.specs.Name.{Name}
 use Rattle.ra_ap_intern.specs.Named.{same_name}
-use Rattle.ra_ap_intern.specs.State.{counts}
 use Rattle.ra_ap_intern.specs.Symbols.Named.{preset, entry}
 use Rattle.intern_calls.specs.Held.{Home, Held, held_at}
 use Rattle.intern_calls.specs.Held.Home.{counted, values, slices}
@@ -39,12 +38,12 @@ names_entry part n (symbol (preset p)) = false
 names_entry part n (symbol (entry m)) = is_table part && same_name n m
 
 module _ {C G H I : Type 0} where
-  -- the count of an entry; none counts zero
+  -- how often an entry is counted
   abbrev pub count_in_part : WorldState C G H I → Which → Name → ℕ
-  count_in_part w which.Counted n = unwrap_or (counts w.counted n) 0
-  count_in_part w which.Values n = unwrap_or (counts w.values n) 0
-  count_in_part w which.Slices n = unwrap_or (counts w.slices n) 0
-  count_in_part w which.Symbols n = unwrap_or (counts w.table n) 0
+  count_in_part w which.Counted n = times_counted w.counted n
+  count_in_part w which.Values n = times_counted w.values n
+  count_in_part w which.Slices n = times_counted w.slices n
+  count_in_part w which.Symbols n = times_counted w.table n
 
 -- the handle in the slot that a call has made
 abbrev pub made : {C G H : Type 0} → Reply C G H → List Held → Held

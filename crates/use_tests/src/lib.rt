@@ -20,6 +20,8 @@ mod owed;
 #[cfg(test)]
 mod paths;
 #[cfg(test)]
+mod pools;
+#[cfg(test)]
 mod refusals;
 #[cfg(test)]
 mod removed;
