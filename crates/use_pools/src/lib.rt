@@ -88,13 +88,21 @@ impl Pool {
         Some(handle.release(&mut self.words).unwrap())
     }
 
+    /// Releases every handle; no word is left.
+    pub fn clear(&mut self)
+        ensures held { self.new.held.items ≡ [] }
+        ensures words { self.new.words ≡ emptied self.old.words }
+    {
+        while let Some(_) = self.forget() {}
+    }
+
     /// Releases every handle, and gives the storage back, in which no word is left.
     pub fn close(self) -> InternStorage<Text>
         ensures none { (n : Name) → reads result n ≡ None }
         ensures state { result ≡ emptied self.words }
     {
         let mut pool = self;
-        while let Some(_) = pool.forget() {}
+        pool.clear();
         pool.words
     }
 }

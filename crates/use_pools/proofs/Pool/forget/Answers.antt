@@ -6,22 +6,21 @@ use Rattle.use_pools.proofs.Pool.forget.Goals as goal
 pub invariant_of-self-2 : goal.invariant_of-self-2
 invariant_of-self-2 c =
     let pool = c.args.self.now in
-    let handle = c.in_ok-handle.handle in
-    let is = handle_popped name_of false pool.words c.release.new.storage pool.held.items
-    c.pop.new.self.items handle c.in_ok-handle.ensures.items pool.balanced c.release.result handle
-    c.release.ensures.refused c.release.ensures.state in
+    let is = handle_popped name_of false pool.words _ pool.held.items _ c.in_ok-handle.handle
+    c.in_ok-handle.ensures.items pool.balanced c.release.result _ c.release.ensures.refused
+    c.release.ensures.state in
     record {
       balanced = is.balanced;
-      counted = rw is.state (counted_released pool.words (name_of handle).birth pool.counted);
+      counted = rw is.state
+          (counted_released pool.words (name_of c.in_ok-handle.handle).birth pool.counted);
     }
 
 pub unwrap-requires : goal.unwrap-requires
 unwrap-requires c =
     let pool = c.args.self.now in
-    let handle = c.in_ok-handle.handle in
-    (handle_popped name_of false pool.words c.release.new.storage pool.held.items
-    c.pop.new.self.items handle c.in_ok-handle.ensures.items pool.balanced c.release.result handle
-    c.release.ensures.refused c.release.ensures.state).ok
+    (handle_popped name_of false pool.words _ pool.held.items _ c.in_ok-handle.handle
+    c.in_ok-handle.ensures.items pool.balanced c.release.result _ c.release.ensures.refused
+    c.release.ensures.state).ok
 
 pub returns-clause-last : goal.returns-clause-last
 returns-clause-last c =
