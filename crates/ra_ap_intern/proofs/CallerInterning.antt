@@ -1,5 +1,5 @@
 -- What interning gives, what look-ups answer, and whether two names are one.
-use Rattle.std.proofs.Common.{◌≡◌, ℕ, ◌+◌, ◌<◌, Bool, true, false, ◌≢◌, ◌-◌, Option, Some, None, IsSome, is_some, Result, Ok, Err, ◌⊎◌, refl, sym, ap, subst, ◌∙◌, arith}
+use Rattle.std.proofs.Common.{◌≡◌, ℕ, ◌+◌, ◌<◌, Bool, true, false, ◌≢◌, ◌-◌, Option, Some, None, IsSome, is_some, Result, Ok, Err, ◌⊎◌, inl, refl, sym, ap, subst, ◌∙◌, arith}
 use Rattle.std.specs.Prelude.{◌↔◌}
 use Rattle.std.specs.Option.{option_map}
 use Rattle.std.specs.Cmp.{IsEquivalence}
@@ -146,15 +146,21 @@ module _ {V : Type 0} (eq : V → V → Bool) where
       let other = not_stored eq s v stored name.birth in
       let r = read_at s name w read in grind (arith, r.at, r.same, other)
 
-  -- the look-up of what is read answers its name
-  pub read_found : IsEquivalence eq → (s : State V) → IsState eq s → (v : V) (name : Name) (w : V)
-      → reads s name ≡ Some w → eq v w ≡ true → name_of_value eq s v ≡ Some name
-  read_found laws s ok v name w read same =
+  -- where no two names read equal values, the look-up of what is read answers its name
+  found_alone : IsEquivalence eq → (s : State V)
+      → ((n m : Name) (v w : V) → reads s n ≡ Some v → reads s m ≡ Some w → eq v w ≡ true → n ≡ m)
+      → (v : V) (name : Name) (w : V) → reads s name ≡ Some w → eq v w ≡ true
+      → name_of_value eq s v ≡ Some name
+  found_alone laws s apart v name w read same =
       let some = λ (none : name_of_value eq s v ≡ None). none_found s v none name w read in
       let n = some_read (name_of_value eq s v) (grind (arith, some)) in
       let r = found_reads s v n.0 n.1 in
       let alike = sym (laws.congr v r.0 w r.2) ∙ same in
-      n.1 ∙ ap Some (read_once eq s ok n.0 name r.0 w r.1 read alike)
+      n.1 ∙ ap Some (apart n.0 name r.0 w r.1 read alike)
+
+  pub read_found : IsEquivalence eq → (s : State V) → IsState eq s → (v : V) (name : Name) (w : V)
+      → reads s name ≡ Some w → eq v w ≡ true → name_of_value eq s v ≡ Some name
+  read_found laws s ok = found_alone laws s (read_once eq s ok)
 
   -- ---- whether two names are one
 
@@ -243,6 +249,48 @@ module _ {V : Type 0} (eq : V → V → Bool) where
       go : (o : Option ℕ) → birth_of eq s v ≡ o → IsTelling (or_added o s v).state
       go (Some b) found = is
       go None none = added_telling laws s v is (ap (option_map (name_in s)) none)
+
+  -- ---- what a look-up answers after an interning: what it did, or the new name in place of none
+
+  -- where what was read is read, and nothing more but under one name
+  found_on : IsEquivalence eq → (s t : State V) (fresh : Name) → IsTelling t
+      → ((n : Name) (u : V) → reads s n ≡ Some u → reads t n ≡ Some u)
+      → ((n : Name) (u : V) → reads t n ≡ Some u → (n ≡ fresh) ⊎ (reads s n ≡ Some u)) → (w : V)
+      → (name_of_value eq t w ≡ name_of_value eq s w)
+      ⊎ ((name_of_value eq s w ≡ None) × (name_of_value eq t w ≡ Some fresh))
+  found_on laws s t fresh is on back w = go (name_of_value eq s w) (name_of_value eq t w) refl refl
+    where
+      go : (o p : Option Name) → name_of_value eq s w ≡ o → name_of_value eq t w ≡ p
+          → (name_of_value eq t w ≡ name_of_value eq s w)
+          ⊎ ((name_of_value eq s w ≡ None) × (name_of_value eq t w ≡ Some fresh))
+      go (Some n) p was now =
+          let r = found_reads s w n was in
+          inl (found_alone laws t is.apart w n r.0 (on n r.0 r.1) r.2 ∙ sym was)
+      go None None was now = inl (now ∙ sym was)
+      go None (Some m) was now =
+          let r = found_reads t w m now in
+          grind (arith, r.2, back m r.0 r.1, none_found s w was m r.0)
+
+  pub found_or_new : IsEquivalence eq → (s : State V) → IsState eq s → (v w : V)
+      → (name_of_value eq (interned eq s v).state w ≡ name_of_value eq s w)
+      ⊎ ((name_of_value eq s w ≡ None)
+      × (name_of_value eq (interned eq s v).state w ≡ Some (name_in s s.next)))
+  found_or_new laws s ok v =
+      found_on laws s (interned eq s v).state (name_in s s.next)
+      (interned_telling laws s v (state_telling s ok)) (interned_reads_on eq s ok v)
+      (λ n u read. grind (arith, interned_new_or_read s v n u read))
+
+  pub found_or_new_counted : IsEquivalence eq → (s : State V) → IsState eq s → (v w : V)
+      → (name_of_value eq (interned_counted eq s v) w ≡ name_of_value eq s w)
+      ⊎ ((name_of_value eq s w ≡ None)
+      × (name_of_value eq (interned_counted eq s v) w ≡ Some (name_in s s.next)))
+  found_or_new_counted laws s ok v =
+      let i = interned eq s v in
+      found_on laws s (interned_counted eq s v) (name_in s s.next)
+      (counted_telling i.state i.birth (interned_telling laws s v (state_telling s ok)))
+      (interned_counted_reads_on eq s ok v)
+      (λ n u read.
+      grind (arith, interned_new_or_read s v n u (sym (counted_up_reads i.state i.birth n) ∙ read)))
 
   -- names of values that are equal to two others are one exactly if those two are equal
   pub telling_alike : IsEquivalence eq → (s : State V) → IsTelling s → (n m : Name) (v w x y : V)

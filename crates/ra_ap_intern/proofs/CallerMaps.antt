@@ -1,24 +1,30 @@
 -- Maps under handles and symbols: what they have under each name, value and text after a change.
-use Rattle.std.proofs.Common.{◌≡◌, ◌↔◌, ℕ, Bool, true, false, cond, List, Result, Ok, Err, OnErr, Option, Some, None, is_some, refl, sym, ap, subst, ◌∙◌, arith}
+use Rattle.std.proofs.Common.{◌≡◌, ◌↔◌, ◌⊎◌, inl, inr, ℕ, Bool, true, false, cond, List, [], Result, Ok, Err, OnErr, Option, Some, None, IsSome, is_some, refl, sym, ap, subst, ◌∙◌, arith}
 use Rattle.std.specs.Cmp.{IsEquivalence}
+use Rattle.std.specs.Cmp.Lexicographic.{nat_list_eq_equiv}
 use Rattle.std.specs.HashMap.{HashMap, get, get_by}
 use Rattle.std.specs.List.{filter}
 use Rattle.std.specs.Map.{lookup}
+use Rattle.std.specs.Option.{option_map}
 use Rattle.std.specs.Prelude.{option_and_then}
 use Rattle.std.specs.Str.{bytes_eq}
 use Rattle.std.proofs.lemmas.Map.Entries.{lookup-filter-keys}
 use Rattle.std.proofs.lemmas.Slice.Eq.{bytes_eq-Decides}
 use Rattle.ra_ap_intern.specs.Handle.{ref_name}
+use Rattle.ra_ap_intern.specs.Interning.{ReadsOn}
 use Rattle.ra_ap_intern.specs.Name.{Name}
 use Rattle.ra_ap_intern.specs.Named.{same_name}
-use Rattle.ra_ap_intern.specs.State.{State, IsState, reads, interned, interned_name, interned_counted, name_of_value}
-use Rattle.ra_ap_intern.specs.Symbols.{Named, same_named, symbol_ref_name, named_in, symbol_in, due_symbol}
-use Rattle.ra_ap_intern.specs.Under.{under_name, under_value, under_symbol, under_text}
+use Rattle.ra_ap_intern.specs.Presets.{place_of}
+use Rattle.ra_ap_intern.specs.State.{State, IsState, name_in, reads, interned, interned_name, interned_counted, name_of_value}
+use Rattle.ra_ap_intern.specs.Symbols.{Named, same_named, symbol_ref_name, text_of, named_at, named_in, symbol_at, symbol_in, due_symbol}
+use Rattle.ra_ap_intern.specs.Symbols.Named.{entry}
+use Rattle.ra_ap_intern.specs.Under.{under_name, under_value, Covers, under_symbol, under_text, CoversTexts}
 use Rattle.ra_ap_intern.specs.declared.storage.Ref.{Ref}
 use Rattle.ra_ap_intern.specs.declared.symbol.SymbolRef.{SymbolRef}
 use Rattle.intern_store.proofs.Named.{names_same, same_names}
 use Rattle.intern_store.proofs.Reading.{interned_reads}
-use Rattle.ra_ap_intern.proofs.CallerInterning.{found_reads, read_found, interned_counted_reads, interned_found_elsewhere, interned_counted_found_elsewhere}
+use Rattle.ra_ap_intern.proofs.CallerInterning.{found_reads, read_found, interned_counted_reads, interned_found_elsewhere, interned_counted_found_elsewhere, found_or_new, found_or_new_counted}
+use Rattle.ra_ap_intern.proofs.CallerReads.{some_read, read_below}
 use Rattle.ra_ap_intern.proofs.CallerSymbols.{named_by, named_same, same_nameds, named_here, named_there, named_once, references_tested}
 use Rattle.ra_ap_intern.proofs.CallerViews.{handles_tested}
 
@@ -223,3 +229,150 @@ module _ {M S : Type 0} (eq : SymbolRef → SymbolRef → Bool) (alike : (a b : 
       → under_text s new text ≡ under_text s old text
   texts_same s old new same text =
       λ i. option_and_then (λ a. symbols_same eq alike old new same a i) (named_in s text)
+
+-- ---- what a map has something under is read
+
+-- what is put under one key, or taken away, is covered where that key is read
+put_covered : {A M V : Type 0} (same : A → A → Bool) (alike : (a b : A) → same a b ≡ true → a ≡ b)
+    (read : A → Option V) (old new : A → Option M) (key : A) (value : Option M)
+    → ((a : A) → new a ≡ cond (same key a) value (old a)) → IsSome (read key)
+    → ((a : A) (m : M) → old a ≡ Some m → IsSome (read a)) → (a : A) (m : M) → new a ≡ Some m
+    → IsSome (read a)
+put_covered same alike read old new key value put here covers a m at =
+    go (same key a) refl (sym (put a) ∙ at)
+  where
+    go : (t : Bool) → same key a ≡ t → cond t value (old a) ≡ Some m → IsSome (read a)
+    go true is found = subst (λ b. IsSome (read b)) (alike key a is) here
+    go false is found = covers a m found
+
+-- nothing is under what isn't read
+none_uncovered : {A M V : Type 0} (read : A → Option V) (under : A → Option M)
+    → ((a : A) (m : M) → under a ≡ Some m → IsSome (read a)) → (a : A) → (IsSome (read a) → ⊥)
+    → under a ≡ None
+none_uncovered {M = M} read under covers a unread = go (under a) refl
+  where
+    go : (o : Option M) → under a ≡ o → o ≡ None
+    go None is = refl
+    go (Some m) is = absurd (unread (covers a m is))
+
+-- what a look-up finds has under it what it had, where it finds what it found, or else nothing is
+-- under what it finds now
+same_through : {A M : Type 0} (under : A → Option M) (found now : Option A) (fresh : A)
+    → under fresh ≡ None → (now ≡ found) ⊎ ((found ≡ None) × (now ≡ Some fresh))
+    → option_and_then under now ≡ option_and_then under found
+same_through under found now fresh none (inl same) = ap (option_and_then under) same
+same_through under found now fresh none (inr new) =
+    ap (option_and_then under) new.1 ∙ none ∙ sym (ap (option_and_then under) new.0)
+
+-- the next name isn't read yet
+next_unread : {V : Type 0} (eq : V → V → Bool) (s : State V) → IsState eq s
+    → IsSome (reads s (name_in s s.next)) → ⊥
+next_unread eq s ok is = omega (arith, read_below eq s ok (name_in s s.next) is)
+
+module _ {K V M S : Type 0} where
+  -- a map that has nothing is covered
+  pub covers_none : (s : State V) (map : HashMap (Ref K) M S) → map.entries ≡ [] → Covers s map
+  covers_none s map none n m at =
+      let found = sym (ap (lookup (λ r. same_name n (ref_name r))) none) ∙ at in absurd (cc)
+
+  -- and each is that was, where what was read is read
+  pub covers_on : (s t : State V) (map : HashMap (Ref K) M S) → ReadsOn s t → Covers s map
+      → Covers t map
+  covers_on s t map on covers n m at =
+      let v = some_read (reads s n) (covers n m at) in ap is_some (on n v.0 v.1)
+
+  -- after what is read of a state was retained
+  pub covers_retained : (t : State V) (old new : HashMap (Ref K) M S)
+      → ((n : Name) → under_name new n ≡ cond (is_some (reads t n)) (under_name old n) None)
+      → Covers t new
+  covers_retained t old new kept n m at = go (is_some (reads t n)) (sym (kept n) ∙ at)
+    where
+      go : (b : Bool) → cond b (under_name old n) None ≡ Some m → b ≡ true
+      go true found = refl
+      go false found = absurd (cc)
+
+  module _ (test : Ref K → Ref K → Bool) (alike : (a b : Ref K) → (test a b ≡ true) ↔ (ref_name a ≡ ref_name b)) (s : State V) where
+    -- after a value was put under a reference that is read, or taken away from under it
+    pub covers_put : (old new : HashMap (Ref K) M S) (key : Ref K) (value : Option M)
+        → ((q : Ref K) → get test new q ≡ cond (test key q) value (get test old q))
+        → IsSome (reads s (ref_name key)) → Covers s old → Covers s new
+    covers_put old new key value put =
+        put_covered same_name names_same (reads s) (under_name old) (under_name new) (ref_name key)
+        value (names_changed test alike old new key value put)
+
+    -- where the map holds the same in another order
+    pub covers_alike : (old new : HashMap (Ref K) M S)
+        → ((q : Ref K) → get test new q ≡ get test old q) → Covers s old → Covers s new
+    covers_alike old new same covers n m at =
+        covers n m (sym (names_alike test alike old new same n) ∙ at)
+
+  -- ---- so an interning that puts nothing into the map leaves what is under each value
+
+  module _ (eq : V → V → Bool) (laws : IsEquivalence eq) (s : State V) (ok : IsState eq s) (v : V) (map : HashMap (Ref K) M S) (covers : Covers s map) where
+    none_next : under_name map (name_in s s.next) ≡ None
+    none_next =
+        none_uncovered (reads s) (under_name map) covers (name_in s s.next) (next_unread eq s ok)
+
+    -- in collected mode
+    pub value_stays : (u : V) → under_value eq (interned eq s v).state map u ≡ under_value eq s map u
+    value_stays u =
+        same_through (under_name map) (name_of_value eq s u)
+        (name_of_value eq (interned eq s v).state u) (name_in s s.next) none_next
+        (found_or_new eq laws s ok v u)
+
+    -- and in counted mode
+    pub value_stays_counted : (u : V)
+        → under_value eq (interned_counted eq s v) map u ≡ under_value eq s map u
+    value_stays_counted u =
+        same_through (under_name map) (name_of_value eq s u)
+        (name_of_value eq (interned_counted eq s v) u) (name_in s s.next) none_next
+        (found_or_new_counted eq laws s ok v u)
+
+-- ---- the same of maps under symbols
+
+module _ {M S : Type 0} where
+  pub covers_texts_none : (s : State (List ℕ)) (map : HashMap SymbolRef M S) → map.entries ≡ []
+      → CoversTexts s map
+  covers_texts_none s map none a m at =
+      let found = sym (ap (lookup (λ r. same_named a (symbol_ref_name r))) none) ∙ at in absurd (cc)
+
+  pub covers_texts_on : (s t : State (List ℕ)) (map : HashMap SymbolRef M S)
+      → ((a : Named) (text : List ℕ) → text_of s a ≡ Some text → text_of t a ≡ Some text)
+      → CoversTexts s map → CoversTexts t map
+  covers_texts_on s t map on covers a m at =
+      let v = some_read (text_of s a) (covers a m at) in ap is_some (on a v.0 v.1)
+
+  module _ (eq : SymbolRef → SymbolRef → Bool) (alike : (a b : SymbolRef) → (eq a b ≡ true) ↔ (symbol_ref_name a ≡ symbol_ref_name b)) (s : State (List ℕ)) where
+    pub covers_texts_put : (old new : HashMap SymbolRef M S) (key : SymbolRef) (value : Option M)
+        → ((q : SymbolRef) → get eq new q ≡ cond (eq key q) value (get eq old q))
+        → IsSome (text_of s (symbol_ref_name key)) → CoversTexts s old → CoversTexts s new
+    covers_texts_put old new key value put =
+        put_covered same_named named_same (text_of s) (under_symbol old) (under_symbol new)
+        (symbol_ref_name key) value (symbols_changed eq alike old new key value put)
+
+    pub covers_texts_same : (old new : HashMap SymbolRef M S)
+        → ((q : SymbolRef) → get eq new q ≡ get eq old q) → CoversTexts s old → CoversTexts s new
+    covers_texts_same old new same covers a m at =
+        covers a m (sym (symbols_same eq alike old new same a) ∙ at)
+
+  -- what is under each text stays where a text is interned and nothing put under it
+  pub text_stays_under : (s : State (List ℕ)) → IsState bytes_eq s → (text : List ℕ)
+      (map : HashMap SymbolRef M S) → CoversTexts s map → (other : List ℕ)
+      → under_text (symbol_in s text).table map other ≡ under_text s map other
+  text_stays_under s ok text map covers other = go (place_of text) (place_of other)
+    where
+      fresh : under_symbol map (entry (name_in s s.next)) ≡ None
+      fresh =
+          none_uncovered (text_of s) (under_symbol map) covers (entry (name_in s s.next))
+          (next_unread bytes_eq s ok)
+
+      go : (p q : Option ℕ)
+          → option_and_then (under_symbol map) (named_at q (symbol_at p s text).table other)
+          ≡ option_and_then (under_symbol map) (named_at q s other)
+      go p (Some place) = refl
+      go (Some place) None = refl
+      go None None =
+          same_through (under_symbol map) (option_map entry (name_of_value bytes_eq s other))
+          (option_map entry (name_of_value bytes_eq (interned_counted bytes_eq s text) other))
+          (entry (name_in s s.next)) fresh
+          (grind (arith, found_or_new_counted bytes_eq nat_list_eq_equiv s ok text other))

@@ -6,7 +6,9 @@ pub mod CallerInterning
 pub mod CallerLemmas
 pub mod CallerMaps
 pub mod CallerOrder
+pub mod CallerOutcomes
 pub mod CallerReads
+pub mod CallerRoots
 pub mod CallerSlices
 pub mod CallerStates
 pub mod CallerSymbols
