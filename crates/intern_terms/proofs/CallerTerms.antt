@@ -10,4 +10,4 @@ pub use Rattle.intern_terms.proofs.Trees.{forest_first, forest_none, forest_one,
 pub use Rattle.intern_terms.proofs.Trees.{forest_length, forest_append}
 pub use Rattle.intern_terms.specs.Tree.{joined}
 -- what a name reads is what its tree is made of, and where it reads nothing it has none
-pub use Rattle.intern_terms.proofs.Trees.{tree_head, tree_arguments, unread}
+pub use Rattle.intern_terms.proofs.Trees.{tree_node, tree_head, tree_arguments, unread}

@@ -14,7 +14,7 @@ use Rattle.intern_terms.specs.Store.{arguments, same_node, IsBuilt, IsTerms}
 use Rattle.intern_terms.specs.Tree.{Tree, Trees, tree, no_more, one_more, count, joined, head_name, UnfoldsTo, AllUnfold}
 use Rattle.intern_terms.specs.declared.handle.TermRef.{TermRef}
 use Rattle.intern_terms.proofs.Names.{same_node-Decides, same_node_laws}
-use Rattle.ra_ap_intern.proofs.CallerLemmas.{one_tree as tree_once, one_name as name_once, one_list as list_once, names_tell_trees as tell_trees, has_tree as tree_there, tree_on as stays_on, forest_on as stay_on, tree_interned as stays_interned, tree_made, forest_first as first_of, forest_none as none_of, forest_one as one_of, forest_two as two_of, becomes_either, reads-recounted}
+use Rattle.ra_ap_intern.proofs.CallerLemmas.{one_tree as tree_once, one_name as name_once, one_list as list_once, tree_node as node_of, names_tell_trees as tell_trees, has_tree as tree_there, tree_on as stays_on, forest_on as stay_on, tree_interned as stays_interned, tree_made, forest_first as first_of, forest_none as none_of, forest_one as one_of, forest_two as two_of, becomes_either, reads-recounted}
 
 module _ (s : State (Sliced Symbol TermRef)) where
   -- a name has one tree
@@ -57,6 +57,11 @@ module _ (s : State (Sliced Symbol TermRef)) (name : Name) where
   tree_arguments head ts is args read =
       subst (λ items. AllUnfold s (map term_name items) ts)
       (sym (same_Some _ _ (read ∙ ap (option_map (λ v. v.items)) is.1))) is.3
+
+  -- both at once, where a term is read
+  pub tree_node : (t : Tree) (v : Sliced Symbol TermRef) → UnfoldsTo s name t → reads s name ≡ Some v
+      → (ts : Trees) × (t ≡ tree (head_name v) ts) × AllUnfold s (arguments v) ts
+  tree_node t v = node_of arguments head_name s t name v
 
   -- where nothing is read there is no tree
   pub unread : {X : Type 0} (part : Sliced Symbol TermRef → X) (t : Tree)

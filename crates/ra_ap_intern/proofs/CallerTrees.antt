@@ -3,6 +3,7 @@ use Rattle.std.proofs.Common.{◌≡◌, ◌↔◌, ℕ, zero, suc, ◌<◌, Boo
 use Rattle.std.specs.Cmp.{IsEquivalence}
 use Rattle.std.specs.declared.alloc.AllocError.{AllocError}
 use Rattle.std.proofs.lemmas.Bool.{or_left, or_right}
+use Rattle.std.proofs.lemmas.Option.{same_Some}
 use Rattle.ra_ap_intern.specs.Families.{entries_of, kept_named}
 use Rattle.ra_ap_intern.specs.Name.{Name}
 use Rattle.ra_ap_intern.specs.Names.{has}
@@ -63,6 +64,17 @@ module _ {V X : Type 0} (children : V → List Name) (see : V → X) where
     pub tree_read : (x : Tree X) (name : Name) → UnfoldsTo children see s name x
         → IsSome (reads s name)
     tree_read (tree x ts) name a = ap is_some a.1
+
+    -- its tree is what is seen of the value that it reads, over the trees of the children of that
+    pub tree_node : (t : Tree X) (name : Name) (v : V) → UnfoldsTo children see s name t
+        → reads s name ≡ Some v
+        → (ts : Trees X) × (t ≡ tree (see v) ts) × AllUnfold children see s (children v) ts
+    tree_node (tree x ts) name v is read =
+        let same = same_Some _ _ (sym is.1 ∙ read) in (
+          ts,
+          ap (λ seen. tree seen ts) (sym is.2 ∙ ap see same),
+          subst (λ w. AllUnfold children see s (children w) ts) same is.3,
+        )
 
     -- the name that unfolds into the first of a list of trees, and those of the others
     pub forest_first : (t : Tree X) (ts : Trees X) (names : List Name)

@@ -7,6 +7,7 @@ pub mod CallerLemmas
 pub mod CallerMaps
 pub mod CallerOrder
 pub mod CallerOutcomes
+pub mod CallerPresets
 pub mod CallerReads
 pub mod CallerRoots
 pub mod CallerSlices

@@ -20,6 +20,7 @@ pub use Rattle.intern_marks.specs.Reach
 pub use Rattle.intern_marks.specs.Trace
 pub use Rattle.intern_presets.specs.Numbers
 pub use Rattle.intern_presets.specs.Presets
+pub use Rattle.intern_presets.specs.Table
 pub use Rattle.intern_store.specs.Kept
 pub use Rattle.intern_store.specs.Memory
 pub use Rattle.intern_store.specs.Named
