@@ -15,6 +15,7 @@ use Rattle.ra_ap_intern.specs.Kept.{recount}
 use Rattle.ra_ap_intern.specs.Name.{Name}
 use Rattle.ra_ap_intern.specs.Outcome.{OwesBack, Becomes}
 use Rattle.ra_ap_intern.specs.State.{State, IsState, entry_at, count_at, name_in, reads, counts, counted_up, added_with, due, zero_count, added, or_added, interned, interned_name, interned_counted, released, birth_of, name_of_value}
+use Rattle.ra_ap_intern.proofs.CallerOutcomes.{becomes_ok, owes_back_ok}
 use Rattle.ra_ap_intern.proofs.CallerReads.{some_read, read_at, read_below, read_once, reads-added, counts_read, counts-recounted, due_counted, counted_up_reads, interned_reads_given, interned_reads_on, interned_counted_reads_on}
 
 -- what is so exactly if another thing is, and this exactly if a third is
@@ -86,12 +87,11 @@ module _ {V : Type 0} (eq : V → V → Bool) where
       → {A H : Type 0} (r : Result A (Refused H)) (handle : H)
       → OwesBack r (due t name zero_count) handle → Becomes r t u (released stays t name.birth)
       → u ≡ released stays (interned_counted eq s v) (interned_name eq s v).birth
-  interned_undone laws s v stays t u name counted named (Ok _) handle owes becomes =
-      becomes ∙ (λ i. released stays (counted i) (named i).birth)
-  interned_undone laws s v stays t u name counted named (Err refused) handle owes becomes =
+  interned_undone laws s v stays t u name counted named r handle owes becomes =
       let free = (λ i. due (counted i) (named i) zero_count) ∙ interned_counted_due laws s v in
-      let owed = owes.0 in
-      absurd (cc)
+      becomes_ok r t u (released stays t name.birth) becomes
+      (owes_back_ok r handle (subst (λ d. OwesBack r d handle) free owes))
+      ∙ (λ i. released stays (counted i) (named i).birth)
 
   -- after that each birth has the entry that it had, if it had one that was counted or none
   undone_at : (s : State V) → IsState eq s → (v : V)

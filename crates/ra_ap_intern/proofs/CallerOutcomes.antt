@@ -1,5 +1,5 @@
 -- What a call answers, and leaves, by what is known of its outcome.
-use Rattle.std.proofs.Common.{◌≡◌, Bool, false, Option, None, Result, Ok, Err, IsOk, IsErr, refl}
+use Rattle.std.proofs.Common.{◌≡◌, Bool, false, Option, None, Result, Ok, Err, IsOk, IsErr, OnOk, OnErr, refl}
 use Rattle.ra_ap_intern.specs.Outcome.{Owes, OwesBack, MayWant, MayWantBack, Becomes}
 use Rattle.ra_ap_intern.specs.Refusal.{Refusal}
 use Rattle.ra_ap_intern.specs.Refused.{Refused}
@@ -48,6 +48,16 @@ pub ok_may_want_back : {A O : Type 0} (r : Result A (Refused O)) (due : Option R
     (given : O) → MayWantBack r due needs given → IsOk r → due ≡ None
 ok_may_want_back (Ok a) due needs given wants ok = wants
 ok_may_want_back (Err refused) due needs given wants ok = absurd (cc)
+
+-- ---- what holds where it isn't refused, or where it is
+
+pub on_ok_of : {A E : Type 0} (r : Result A E) {P : Type 0} → OnOk r P → IsOk r → P
+on_ok_of (Ok a) p ok = p
+on_ok_of (Err e) p ok = absurd (cc)
+
+pub on_err_of : {A E : Type 0} (r : Result A E) {P : Type 0} → OnErr r P → IsErr r → P
+on_err_of (Ok a) p err = absurd (cc)
+on_err_of (Err e) p err = p
 
 -- ---- what it leaves
 

@@ -1,16 +1,17 @@
 //! Memos: what a function came to, each under the handle of its argument.
 #![tactic(auto)]
 
+ghost use Rattle.std.proofs.Props.{props};
 ghost use Rattle.std.specs.Prelude.{◌≡◌, ◌⊎◌, List, true, Some, None, IfOk, IfErr, OnOk, OnErr, map as list_map, if◌then◌else◌, option_copied};
 ghost use Rattle.ra_ap_intern.specs.Families.{IsCollection, entries_of, kept_named};
 ghost use Rattle.ra_ap_intern.specs.Handle.{ref_name};
 ghost use Rattle.ra_ap_intern.specs.Name.{Name};
 ghost use Rattle.ra_ap_intern.specs.Names.{has};
-ghost use Rattle.ra_ap_intern.specs.Outcome.{Becomes};
+ghost use Rattle.ra_ap_intern.specs.Outcome.{Becomes, MayWant};
 ghost use Rattle.ra_ap_intern.specs.Reach.{starts_with};
 ghost use Rattle.ra_ap_intern.specs.Refusal.TheVariants.{OutOfMemory};
-ghost use Rattle.ra_ap_intern.specs.State.{new_state, interned, due_interning, any_count, name_of_value};
-ghost use Rattle.ra_ap_intern.specs.Under.{under_value};
+ghost use Rattle.ra_ap_intern.specs.State.{new_state, interned, interned_name, is_new, due_interning, any_count, name_of_value};
+ghost use Rattle.ra_ap_intern.specs.Under.{under_value, Covers};
 ghost use Rattle.ra_ap_intern.specs.declared.gc.Collected.{Collected as Told};
 
 use ra_ap_intern::{
@@ -28,6 +29,8 @@ pub struct Memos<T: Internable, V> {
     pub arguments: InternStorage<T>,
     /// What the function came to for each.
     pub results: HashMap<InternedRef<T>, V>,
+    // Each argument of which something is noted is stored.
+    ghost covered: { Covers arguments results } by { Prim.hlevel props },
 }
 
 impl<T: Internable + GcInternedVisit + Drop, V: Drop> Memos<T, V> {
@@ -68,6 +71,25 @@ impl<T: Internable + GcInternedVisit + Drop, V: Drop> Memos<T, V> {
         let stored: Result<_, _> = self.results.insert(handle, value);
         stored.unwrap();
         Ok(())
+    }
+
+    /// The handle of an argument, which is stored where it isn't. What was noted stays. Refused:
+    /// `NumbersUsedUp`, `OutOfMemory`.
+    pub fn ask(&mut self, argument: T) -> Result<InternedRef<T>, Refusal>
+        requires { T.Internable.USE_GC ≡ true }
+        ensures name { IfOk result (λ r.
+            ref_name r ≡ interned_name T.eq self.old.arguments argument) }
+        ensures refused { MayWant result
+            (due_interning T.eq self.old.arguments argument any_count)
+            (is_new T.eq self.old.arguments argument) }
+        ensures arguments { Becomes result self.old.arguments self.new.arguments
+            (interned T.eq self.old.arguments argument).state }
+        ensures stays { (other : T) →
+            under_value T.eq self.new.arguments self.new.results other
+            ≡ under_value T.eq self.old.arguments self.old.results other }
+    {
+        let _number = self.arguments.number();
+        self.arguments.get_or_intern_gc(argument)
     }
 
     /// What the function came to, as far as it was noted. It takes no memory.

@@ -45,3 +45,16 @@ fn what_was_noted_last_is_found_until_it_is_forgotten(rt: HostRuntime) {
     finds(&rt, &sums, Two(3, 4), Some(7));
     is_equal(&rt, sums.results.len(), 1);
 }
+
+#[test]
+fn what_was_noted_stays_where_another_argument_is_asked_for(rt: HostRuntime) {
+    let mut sums = Memos::new(rt.alloc(), 1);
+    note(&rt, &mut sums, Two(1, 2), 3);
+    let noted = sums.ask(Two(1, 2)).expect(&rt, "stored");
+    let asked = sums.ask(Two(3, 4)).expect(&rt, "stored");
+    assert!(rt; noted != asked);
+    assert!(rt; sums.arguments.get(&Two(3, 4)) == Some(asked));
+    finds(&rt, &sums, Two(1, 2), Some(3));
+    finds(&rt, &sums, Two(3, 4), None);
+    is_equal(&rt, sums.results.len(), 1);
+}

@@ -1,6 +1,37 @@
-use Rattle.std.proofs.Common.{Some, cond, ◌∙◌}
-use Rattle.ra_ap_intern.proofs.CallerLemmas.{on_err, state_interned, value_put, values_alike}
+use Rattle.std.proofs.Common.{Some, IsSome, cond, sym, subst, ◌∙◌, arith}
+use Rattle.ra_ap_intern.specs.State.{interned, reads}
+use Rattle.ra_ap_intern.proofs.CallerLemmas.{covers_alike, covers_on, covers_put, interned_is_read, interned_reads_on, on_err, on_ok_of, state_interned, value_put, values_alike}
 use Rattle.use_memos.proofs.Memos.note.Goals as goal
+
+pub invariant_of-self-in-Break-branch-2 : goal.invariant_of-self-in-Break-branch-2
+invariant_of-self-in-Break-branch-2 g c =
+    let memos = c.args.self.now in
+    record {
+      covered = rw c.in_err-handle.ensures.state
+          (covers_alike _ c.references_are_names.ensures.equal memos.arguments memos.results
+          c.reserve.new.self c.reserve.ensures.entries.2 memos.covered);
+    }
+
+pub invariant_of-self-2 : goal.invariant_of-self-2
+invariant_of-self-2 g c =
+    let eq = g.T.PartialEq.eq in
+    let memos = c.args.self.now in
+    let old = memos.arguments in
+    let next = (interned eq old c.args.argument).state in
+    let alike = c.references_are_names.ensures.equal in
+    let results = c.reserve.new.self in
+    let covered = covers_alike _ alike old memos.results results c.reserve.ensures.entries.2 memos.covered in
+    let puts = on_ok_of c.insert-stored.result c.insert-stored.ensures.updates
+    (c.insert-stored.ensures.succeeds (omega (arith, c.in_ok-reserve.ensures.ok))) in
+    record {
+      covered = rw c.in_ok-handle.ensures.state
+          (covers_put _ alike next results c.insert-stored.new.self c.in_ok-handle.handle
+          (Some c.args.value) puts.0
+          (subst (λ n. IsSome (reads next n)) (sym c.in_ok-handle.ensures.name)
+          (interned_is_read eq g.met.T.Eq.laws old c.args.argument))
+          (covers_on old next results
+          (interned_reads_on eq old c.number-number.ensures.state c.args.argument) covered));
+    }
 
 pub returns-in_err-handle-clause-stays : goal.returns-in_err-handle-clause-stays
 returns-in_err-handle-clause-stays g c =
