@@ -1,5 +1,5 @@
 -- What queries over sheets read and give.
-use Rattle.std.proofs.Common.{◌≡◌, ◌↔◌, ◌==◌, ◌&&◌, ◌+◌, Bool, true, false, cond, arith, Contains, Decides, IsPermutation, IsSome, is_some, List, Option, Result, Ok, Err, IfOk, refl, sym, ap, subst, ◌∙◌}
+use Rattle.std.proofs.Common.{◌≡◌, ◌↔◌, ◌==◌, ◌&&◌, ◌+◌, Bool, true, false, cond, arith, Contains, Decides, IsPermutation, IsSome, is_some, List, Option, refl, sym, ap, subst, ◌∙◌}
 use Rattle.std.proofs.lemmas.Bool.{and_parts, and_from}
 use Rattle.std.proofs.lemmas.Bool.Decides.{Decides-eqb}
 use Rattle.std.proofs.lemmas.List.Sorted.{Contains-permutation, IsPermutation-sym}
@@ -20,12 +20,6 @@ use Rattle.queries.specs.declared.place.Place.{Place}
 use Rattle.queries.specs.declared.value.Value.{Value}
 use Rattle.queries.specs.Formula.{Postfix}
 use Rattle.queries.specs.Sheet.{Formulas, formula_at, same_place, place_order, reads_of, formula_reads, gives, cell_value}
-
--- a fact of the value in an `Ok` from another
-pub if_ok : {X E : Type 0} (P Q : X → Type 0) → ((x : X) → P x → Q x) → (r : Result X E)
-    → IfOk r P → IfOk r Q
-if_ok P Q more (Ok x) is = more x is
-if_ok P Q more (Err e) is = tt
 
 -- a look-up by the equality of places
 pub found_at : (eq : Place → Place → Bool) → ((p q : Place) → eq p q ≡ same_place p q)
