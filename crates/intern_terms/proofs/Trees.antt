@@ -58,7 +58,7 @@ module _ (s : State (Sliced Symbol TermRef)) (name : Name) where
       subst (λ items. AllUnfold s (map term_name items) ts)
       (sym (same_Some _ _ (read ∙ ap (option_map (λ v. v.items)) is.1))) is.3
 
-  -- both at once, where a term is read
+  -- both at once, where what is read is known
   pub tree_node : (t : Tree) (v : Sliced Symbol TermRef) → UnfoldsTo s name t → reads s name ≡ Some v
       → (ts : Trees) × (t ≡ tree (head_name v) ts) × AllUnfold s (arguments v) ts
   tree_node t v = node_of arguments head_name s t name v

@@ -146,7 +146,7 @@ module _ {V : Type 0} (eq : V → V → Bool) where
       let other = not_stored eq s v stored name.birth in
       let r = read_at s name w read in grind (arith, r.at, r.same, other)
 
-  -- where no two names read equal values, the look-up of what is read answers its name
+  -- where no two names read equal values, the look-up of one that is read answers its name
   found_alone : IsEquivalence eq → (s : State V)
       → ((n m : Name) (v w : V) → reads s n ≡ Some v → reads s m ≡ Some w → eq v w ≡ true → n ≡ m)
       → (v : V) (name : Name) (w : V) → reads s name ≡ Some w → eq v w ≡ true
@@ -158,6 +158,7 @@ module _ {V : Type 0} (eq : V → V → Bool) where
       let alike = sym (laws.congr v r.0 w r.2) ∙ same in
       n.1 ∙ ap Some (apart n.0 name r.0 w r.1 read alike)
 
+  -- the look-up of what is read answers its name
   pub read_found : IsEquivalence eq → (s : State V) → IsState eq s → (v : V) (name : Name) (w : V)
       → reads s name ≡ Some w → eq v w ≡ true → name_of_value eq s v ≡ Some name
   read_found laws s ok = found_alone laws s (read_once eq s ok)
@@ -250,9 +251,10 @@ module _ {V : Type 0} (eq : V → V → Bool) where
       go (Some b) found = is
       go None none = added_telling laws s v is (ap (option_map (name_in s)) none)
 
-  -- ---- what a look-up answers after an interning: what it did, or the new name in place of none
+  -- ---- what a look-up answers later
 
-  -- where what was read is read, and nothing more but under one name
+  -- where what was read is read, and nothing more but under one new name, it answers what it did, or
+  -- that name in place of none
   found_on : IsEquivalence eq → (s t : State V) (fresh : Name) → IsTelling t
       → ((n : Name) (u : V) → reads s n ≡ Some u → reads t n ≡ Some u)
       → ((n : Name) (u : V) → reads t n ≡ Some u → (n ≡ fresh) ⊎ (reads s n ≡ Some u)) → (w : V)
@@ -271,6 +273,7 @@ module _ {V : Type 0} (eq : V → V → Bool) where
           let r = found_reads t w m now in
           grind (arith, r.2, back m r.0 r.1, none_found s w was m r.0)
 
+  -- after an interning it answers what it did, or the new name in place of none
   pub found_or_new : IsEquivalence eq → (s : State V) → IsState eq s → (v w : V)
       → (name_of_value eq (interned eq s v).state w ≡ name_of_value eq s w)
       ⊎ ((name_of_value eq s w ≡ None)
@@ -280,6 +283,7 @@ module _ {V : Type 0} (eq : V → V → Bool) where
       (interned_telling laws s v (state_telling s ok)) (interned_reads_on eq s ok v)
       (λ n u read. grind (arith, interned_new_or_read s v n u read))
 
+  -- and so in counted mode
   pub found_or_new_counted : IsEquivalence eq → (s : State V) → IsState eq s → (v w : V)
       → (name_of_value eq (interned_counted eq s v) w ≡ name_of_value eq s w)
       ⊎ ((name_of_value eq s w ≡ None)

@@ -270,18 +270,18 @@ next_unread : {V : Type 0} (eq : V → V → Bool) (s : State V) → IsState eq 
 next_unread eq s ok is = omega (arith, read_below eq s ok (name_in s s.next) is)
 
 module _ {K V M S : Type 0} where
-  -- a map that has nothing is covered
+  -- a map that has no entries is covered
   pub covers_none : (s : State V) (map : HashMap (Ref K) M S) → map.entries ≡ [] → Covers s map
   covers_none s map none n m at =
       let found = sym (ap (lookup (λ r. same_name n (ref_name r))) none) ∙ at in absurd (cc)
 
-  -- and each is that was, where what was read is read
+  -- one that is covered stays so where what was read is read
   pub covers_on : (s t : State V) (map : HashMap (Ref K) M S) → ReadsOn s t → Covers s map
       → Covers t map
   covers_on s t map on covers n m at =
       let v = some_read (reads s n) (covers n m at) in ap is_some (on n v.0 v.1)
 
-  -- after what is read of a state was retained
+  -- one of which what is read was retained is covered
   pub covers_retained : (t : State V) (old new : HashMap (Ref K) M S)
       → ((n : Name) → under_name new n ≡ cond (is_some (reads t n)) (under_name old n) None)
       → Covers t new
@@ -292,7 +292,7 @@ module _ {K V M S : Type 0} where
       go false found = absurd (cc)
 
   module _ (test : Ref K → Ref K → Bool) (alike : (a b : Ref K) → (test a b ≡ true) ↔ (ref_name a ≡ ref_name b)) (s : State V) where
-    -- after a value was put under a reference that is read, or taken away from under it
+    -- a map stays covered where a value was put under a reference that is read, or taken away
     pub covers_put : (old new : HashMap (Ref K) M S) (key : Ref K) (value : Option M)
         → ((q : Ref K) → get test new q ≡ cond (test key q) value (get test old q))
         → IsSome (reads s (ref_name key)) → Covers s old → Covers s new
@@ -300,20 +300,21 @@ module _ {K V M S : Type 0} where
         put_covered same_name names_same (reads s) (under_name old) (under_name new) (ref_name key)
         value (names_changed test alike old new key value put)
 
-    -- where the map holds the same in another order
+    -- and where it holds the same in another order
     pub covers_alike : (old new : HashMap (Ref K) M S)
         → ((q : Ref K) → get test new q ≡ get test old q) → Covers s old → Covers s new
     covers_alike old new same covers n m at =
         covers n m (sym (names_alike test alike old new same n) ∙ at)
 
-  -- ---- so an interning that puts nothing into the map leaves what is under each value
+  -- ---- so what is under each value stays where nothing is put into the map
 
   module _ (eq : V → V → Bool) (laws : IsEquivalence eq) (s : State V) (ok : IsState eq s) (v : V) (map : HashMap (Ref K) M S) (covers : Covers s map) where
+    -- nothing is under the next name
     none_next : under_name map (name_in s s.next) ≡ None
     none_next =
         none_uncovered (reads s) (under_name map) covers (name_in s s.next) (next_unread eq s ok)
 
-    -- in collected mode
+    -- after an interning in collected mode
     pub value_stays : (u : V) → under_value eq (interned eq s v).state map u ≡ under_value eq s map u
     value_stays u =
         same_through (under_name map) (name_of_value eq s u)
@@ -328,14 +329,16 @@ module _ {K V M S : Type 0} where
         (name_of_value eq (interned_counted eq s v) u) (name_in s s.next) none_next
         (found_or_new_counted eq laws s ok v u)
 
--- ---- the same of maps under symbols
+-- ---- under symbols
 
 module _ {M S : Type 0} where
+  -- a map that has no entries is covered
   pub covers_texts_none : (s : State (List ℕ)) (map : HashMap SymbolRef M S) → map.entries ≡ []
       → CoversTexts s map
   covers_texts_none s map none a m at =
       let found = sym (ap (lookup (λ r. same_named a (symbol_ref_name r))) none) ∙ at in absurd (cc)
 
+  -- one that is covered stays so where the texts of symbols stay
   pub covers_texts_on : (s t : State (List ℕ)) (map : HashMap SymbolRef M S)
       → ((a : Named) (text : List ℕ) → text_of s a ≡ Some text → text_of t a ≡ Some text)
       → CoversTexts s map → CoversTexts t map
@@ -343,6 +346,7 @@ module _ {M S : Type 0} where
       let v = some_read (text_of s a) (covers a m at) in ap is_some (on a v.0 v.1)
 
   module _ (eq : SymbolRef → SymbolRef → Bool) (alike : (a b : SymbolRef) → (eq a b ≡ true) ↔ (symbol_ref_name a ≡ symbol_ref_name b)) (s : State (List ℕ)) where
+    -- and where a value was put under a symbol that has a text, or taken away
     pub covers_texts_put : (old new : HashMap SymbolRef M S) (key : SymbolRef) (value : Option M)
         → ((q : SymbolRef) → get eq new q ≡ cond (eq key q) value (get eq old q))
         → IsSome (text_of s (symbol_ref_name key)) → CoversTexts s old → CoversTexts s new
@@ -350,6 +354,7 @@ module _ {M S : Type 0} where
         put_covered same_named named_same (text_of s) (under_symbol old) (under_symbol new)
         (symbol_ref_name key) value (symbols_changed eq alike old new key value put)
 
+    -- and where it holds the same in another order
     pub covers_texts_same : (old new : HashMap SymbolRef M S)
         → ((q : SymbolRef) → get eq new q ≡ get eq old q) → CoversTexts s old → CoversTexts s new
     covers_texts_same old new same covers a m at =

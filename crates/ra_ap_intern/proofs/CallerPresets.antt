@@ -12,16 +12,18 @@ use Rattle.ra_ap_intern.specs.Presets.{preset_text}
 use Rattle.ra_ap_intern.specs.Symbols.{source_of, symbol_name, own_text, has_its_text}
 use Rattle.ra_ap_intern.specs.declared.symbol.Symbol.{Symbol}
 
--- each has the one that is listed
+-- each constant has the text that is listed with it
 pub constants_listed : list_all has_its_text constants ≡ true
 unfolding constants preset_text source_of table
 constants_listed = refl
 
+-- an optional text that is found to be this is it
 equal_text : (o : Option (List ℕ)) (text : List ℕ) → option_eq bytes_eq o (Some text) ≡ true
     → o ≡ Some text
 equal_text (Some other) text is = ap Some ((bytes_eq-Decides other text).0 is)
 equal_text None text is = absurd (cc)
 
+-- and so one that is listed
 pub constant_text : (c : Symbol) (text : List ℕ) → Contains constants (c, text)
     → own_text (symbol_name c) ≡ Some text
 constant_text c text listed =

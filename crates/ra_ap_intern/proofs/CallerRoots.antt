@@ -1,20 +1,26 @@
--- What a list of roots has that a map declares: the names of its keys, and of what is under them.
-use Rattle.std.proofs.Common.{◌≡◌, zero, suc, Bool, true, false, List, [], ◌∷◌, ◌++◌, Some, Contains, cond, refl, sym, subst, ◌∙◌, arith}
+-- What roots list that a map declares: what its keys declare, and what is under them.
+use Rattle.std.proofs.Common.{◌≡◌, zero, suc, Bool, true, false, List, [], ◌∷◌, ◌++◌, Some, is_some, Result, Contains, cond, refl, sym, ap, subst, ◌∙◌, arith}
 use Rattle.std.specs.HashMap.{HashMap, get_by}
 use Rattle.std.specs.List.{flat_map}
 use Rattle.std.specs.Map.{lookup}
+use Rattle.std.specs.declared.alloc.AllocError.{AllocError}
 use Rattle.std.proofs.lemmas.Bool.{or_left, or_right}
 use Rattle.std.proofs.lemmas.List.Folds.{list_any-append}
 use Rattle.std.proofs.lemmas.Option.{same_Some}
+use Rattle.ra_ap_intern.specs.Families.{entries_of}
 use Rattle.ra_ap_intern.specs.Handle.{ref_name}
 use Rattle.ra_ap_intern.specs.Name.{Name}
 use Rattle.ra_ap_intern.specs.Named.{same_name}
 use Rattle.ra_ap_intern.specs.Names.{has}
+use Rattle.ra_ap_intern.specs.Reach.{starts_with}
+use Rattle.ra_ap_intern.specs.State.{State, reads}
 use Rattle.ra_ap_intern.specs.Symbols.{Named, same_named, symbol_ref_name}
-use Rattle.ra_ap_intern.specs.Under.{under_name, under_symbol}
+use Rattle.ra_ap_intern.specs.Under.{under_name, Covers, under_symbol}
 use Rattle.ra_ap_intern.specs.Visitors.{of_map, own_name}
+use Rattle.ra_ap_intern.specs.declared.gc.Collected.{Collected}
 use Rattle.ra_ap_intern.specs.declared.storage.Ref.{Ref}
 use Rattle.ra_ap_intern.specs.declared.symbol.SymbolRef.{SymbolRef}
+use Rattle.ra_ap_intern.proofs.CallerViews.{CollectsOne, root_collected}
 
 -- two lists in one have the names of both
 pub has_front : (names others : List Name) (n : Name) → has names n ≡ true
@@ -40,13 +46,13 @@ module _ {K V : Type 0} (keys : K → List Name) (values : V → List Name) wher
   abbrev of_entry : K × V → List Name
   of_entry e = keys e.0 ++ values e.1
 
-  -- of an entry its key
+  -- what the key of an entry declares is listed
   pub key_listed : {S : Type 0} (map : HashMap K V S) (key : K) (v : V) (n : Name)
       → Contains map.entries (key, v) → has (keys key) n ≡ true → has (of_map keys values map) n ≡ true
   key_listed map key v n among is =
       has_each of_entry map.entries (key, v) n among (has_front (keys key) (values v) n is)
 
-  -- and what is under it
+  -- and so is what the value under it declares
   pub value_listed : {S : Type 0} (map : HashMap K V S) (key : K) (v : V) (n : Name)
       → Contains map.entries (key, v) → has (values v) n ≡ true → has (of_map keys values map) n ≡ true
   value_listed map key v n among is =
@@ -67,7 +73,7 @@ module _ {K V : Type 0} (keys : K → List Name) (values : V → List Name) wher
           (subst (λ w. has (keys e.0 ++ values w) n ≡ true) (sym (same_Some _ _ found)) (each e.0 passes))
       go false fails found later = has_back (of_entry e) (flat_map of_entry es) n (later found)
 
-  -- what is found declares
+  -- and what the value declares that is found under a key that passes a test
   pub found_value_listed : {S : Type 0} (test : K → Bool) (map : HashMap K V S) (v : V) (n : Name)
       → get_by test map ≡ Some v → has (values v) n ≡ true → has (of_map keys values map) n ≡ true
   found_value_listed test map v n at is =
@@ -81,13 +87,24 @@ module _ {K V S : Type 0} (values : V → List Name) (map : HashMap (Ref K) V S)
       found_listed own_name values (λ r. same_name n (ref_name r)) n v
       (λ r same. has_front (own_name r) (values v) n (or_left _ _ same)) map.entries at
 
-  -- and what this declares
+  -- and so is what the value under it declares
   pub under_name_listed : (keys : Ref K → List Name) (n : Name) (v : V) (m : Name)
       → under_name map n ≡ Some v → has (values v) m ≡ true → has (of_map keys values map) m ≡ true
   under_name_listed keys n v m =
       found_value_listed keys values (λ r. same_name n (ref_name r)) map v m
 
--- and of a map under symbols what is under one declares
+  -- a collection of one storage from this map
+  module _ {T : Type 0} (children : T → List Name) (s t : State T) (r : Result Collected AllocError) (is : CollectsOne children (starts_with (of_map own_name values map) (entries_of children s)) s t r) where
+    -- what is read stays under each name under which the map has something
+    pub name_collected : (n : Name) (v : V) → under_name map n ≡ Some v → reads t n ≡ reads s n
+    name_collected n v at =
+        root_collected children (of_map own_name values map) s t r is n (name_listed n v at)
+
+    -- so that the map stays covered
+    pub covers_collected : Covers s map → Covers t map
+    covers_collected covers n v at = ap is_some (name_collected n v at) ∙ covers n v at
+
+-- of a map under symbols, what the value under one declares
 pub under_symbol_listed : {V S : Type 0} (keys : SymbolRef → List Name) (values : V → List Name)
     (map : HashMap SymbolRef V S) (a : Named) (v : V) (n : Name) → under_symbol map a ≡ Some v
     → has (values v) n ≡ true → has (of_map keys values map) n ≡ true
