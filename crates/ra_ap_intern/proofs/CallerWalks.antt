@@ -4,7 +4,7 @@ use Rattle.std.specs.Bool.{MatchBool}
 use Rattle.std.specs.List.{list_any}
 use Rattle.std.specs.List.Sorted.{IsPermutation}
 use Rattle.std.proofs.lemmas.Bool.{and_from, and_parts, or_left, or_right}
-use Rattle.std.proofs.lemmas.List.{length-append, map-append}
+use Rattle.std.proofs.lemmas.List.{length-append}
 use Rattle.std.proofs.lemmas.List.Sorted.{list_any-IsPermutation}
 use Rattle.intern_marks.proofs.Names.{has_append, same_as_itself}
 use Rattle.intern_store.proofs.Named.{names_same}
@@ -13,12 +13,14 @@ use Rattle.ra_ap_intern.specs.Handle.{ref_name}
 use Rattle.ra_ap_intern.specs.Name.{Name}
 use Rattle.ra_ap_intern.specs.Named.{same_name}
 use Rattle.ra_ap_intern.specs.Names.{has}
-use Rattle.ra_ap_intern.specs.Reach.{Entry, IsPath, entry_of, children_of, is_entry}
+use Rattle.ra_ap_intern.specs.Reach.{Entry, IsPath, entry_of, children_of}
 use Rattle.ra_ap_intern.specs.State.{State, reads}
 use Rattle.ra_ap_intern.specs.Walks.{children_left, begins_walk, IsWithin, IsWalk, turns_left}
 use Rattle.ra_ap_intern.specs.declared.storage.Ref.{Ref}
 use Rattle.ra_ap_intern.proofs.CallerCollections.{entry_read, children_read}
+use Rattle.ra_ap_intern.proofs.CallerCounts.{has_last, names_pushed}
 use Rattle.ra_ap_intern.proofs.CallerReads.{some_read}
+use Rattle.ra_ap_intern.proofs.CallerRoots.{has_front, has_back}
 use Rattle.ra_ap_intern.proofs.CallerViews.{handles_tested}
 
 -- ---- a walk by names
@@ -90,12 +92,10 @@ module _ {V : Type 0} (children : V → List Name) (s : State V) where
   module _ (roots all rest met : List Name) (p : Name) (last : all ≡ rest ++ p ∷ [])
       (walk : IsWalk children s roots all met) where
     last_ahead : has all p ≡ true
-    last_ahead =
-        ap (λ xs. has xs p) last ∙ has_append rest (p ∷ []) p
-        ∙ or_right _ _ (or_left _ _ (same_as_itself p))
+    last_ahead = ap (λ xs. has xs p) last ∙ has_last rest p
 
     rest_ahead : (n : Name) → has rest n ≡ true → has all n ≡ true
-    rest_ahead n is = ap (λ xs. has xs n) last ∙ has_append rest (p ∷ []) n ∙ or_left _ _ is
+    rest_ahead n is = ap (λ xs. has xs n) last ∙ has_front rest (p ∷ []) n is
 
     -- what isn't read, or was met, is passed over
     pub walk_passed : (IsSome (reads s p) → has met p ≡ true) → IsWalk children s roots rest met
@@ -150,7 +150,7 @@ module _ {V : Type 0} (children : V → List Name) (s : State V) where
             go false at among = child (sym (same n) ∙ among)
 
         is_ahead : (n : Name) → has (children v) n ≡ true → has (rest ++ more) n ≡ true
-        is_ahead n is = has_append rest more n ∙ or_right _ _ (same n ∙ is)
+        is_ahead n is = has_back rest more n (same n ∙ is)
 
         below : (parent : Name) (w : V) → parent ≡ p → reads s parent ≡ Some w → (n : Name)
             → has (children w) n ≡ true → has (children v) n ≡ true
@@ -162,7 +162,7 @@ module _ {V : Type 0} (children : V → List Name) (s : State V) where
             → (has (rest ++ more) n || has now n) ≡ true
         on n =
             there_on all rest (rest ++ more) met now p n last
-            (λ is. has_append rest more n ∙ or_left _ _ is)
+            (has_front rest more n)
             (λ is. also n ∙ or_right _ _ is)
             (λ one. also p ∙ or_left _ _ (same_as_itself p))
 
@@ -252,11 +252,6 @@ module _ {V : Type 0} (children : V → List Name) (s : State V) where
 -- ---- a walk by references: a list of those ahead, and a set of those met
 
 module _ {K : Type 0} where
-  -- the last of a list of references, by names
-  pub last_named : (all rest : List (Ref K)) (p : Ref K) → all ≡ rest ++ p ∷ []
-      → map ref_name all ≡ map ref_name rest ++ ref_name p ∷ []
-  last_named all rest p last = ap (map ref_name) last ∙ map-append ref_name rest (p ∷ [])
-
   named_any : (keys : List (Ref K)) (n : Name)
       → has (map ref_name keys) n ≡ list_any (λ r. same_name n (ref_name r)) keys
   named_any [] n = refl
@@ -276,7 +271,7 @@ pub walk_unread : {K V : Type 0} (children : V → List Name) (s : State V) (roo
     → IsWalk children s roots (map ref_name all) met
     → IsWalk children s roots (map ref_name rest) met
 walk_unread children s roots met all rest p last none walk =
-    walk_passed children s roots _ _ met _ (last_named all rest p last) walk
+    walk_passed children s roots _ _ met _ (names_pushed ref_name rest all p last) walk
     (λ is. grind (arith, none, is))
 
 module _ {K V : Type 0} (children : V → List Name) (s : State V) (eq : Ref K → Ref K → Bool)
@@ -292,7 +287,7 @@ module _ {K V : Type 0} (children : V → List Name) (s : State V) (eq : Ref K �
       let same = subst (λ t. MatchBool t (IsPermutation (p ∷ met) now) (now ≡ met)) old puts in
       let was : has (map ref_name met) (ref_name p) ≡ true = grind (arith, set_named eq alike met p, new, old) in
       subst (λ keys. IsWalk children s roots (map ref_name rest) (map ref_name keys)) (sym same)
-      (walk_passed children s roots _ _ _ _ (last_named all rest p last) walk (λ _. was))
+      (walk_passed children s roots _ _ _ _ (names_pushed ref_name rest all p last) walk (λ _. was))
 
   module _ (added_now : added ≡ true) where
     has_also : HasAlso (map ref_name met) (map ref_name now) (ref_name p)
@@ -309,7 +304,7 @@ module _ {K V : Type 0} (children : V → List Name) (s : State V) (eq : Ref K �
         → IsWalk children s roots ahead (map ref_name now)
     walk_on roots v ahead read more walk =
         subst (λ names. IsWalk children s roots names (map ref_name now)) (sym more)
-        (walk_met children s roots _ _ _ _ (last_named all rest p last) walk (children v) _ v read
+        (walk_met children s roots _ _ _ _ (names_pushed ref_name rest all p last) walk (children v) _ v read
         (λ n. refl) has_also)
 
     -- which takes a turn
@@ -320,5 +315,5 @@ module _ {K V : Type 0} (children : V → List Name) (s : State V) (eq : Ref K �
     turns_on v ahead read more =
         subst (λ names. turns_left children s names (map ref_name now)
         < turns_left children s (map ref_name all) (map ref_name met)) (sym more)
-        (met_turns children s _ _ _ (children v) _ (ref_name p) v (last_named all rest p last) read
+        (met_turns children s _ _ _ (children v) _ (ref_name p) v (names_pushed ref_name rest all p last) read
         (grind (arith, set_named eq alike met p, new, added_now)) has_also refl)
