@@ -253,8 +253,8 @@ module _ {V : Type 0} (eq : V → V → Bool) where
 
   -- ---- what a look-up answers later
 
-  -- where what was read is read, and nothing more but under one new name, it answers what it did, or
-  -- that name in place of none
+  -- where what was read is read, and nothing more but under one new name: it answers what it did,
+  -- or that name in place of none
   found_on : IsEquivalence eq → (s t : State V) (fresh : Name) → IsTelling t
       → ((n : Name) (u : V) → reads s n ≡ Some u → reads t n ≡ Some u)
       → ((n : Name) (u : V) → reads t n ≡ Some u → (n ≡ fresh) ⊎ (reads s n ≡ Some u)) → (w : V)
