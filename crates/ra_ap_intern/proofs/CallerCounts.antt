@@ -15,7 +15,7 @@ use Rattle.std.proofs.lemmas.List.Sorted.{sum_by-IsPermutation}
 use Rattle.std.proofs.lemmas.List.Sums.{sum_by-cons, sum_by_push}
 use Rattle.intern_store.proofs.Births.{is_stored}
 use Rattle.intern_store.proofs.Compared.{get-inserted, get-removed, get-modified, get-retained}
-use Rattle.ra_ap_intern.specs.Families.{kept_named}
+use Rattle.ra_ap_intern.specs.Families.{entries_of, kept_named}
 use Rattle.ra_ap_intern.specs.Held.{times_held, times_counted, IsBalanced, IsCounted, emptied}
 use Rattle.ra_ap_intern.specs.Kept.{Kept, recount}
 use Rattle.ra_ap_intern.specs.Name.{Name}
@@ -23,12 +23,13 @@ use Rattle.ra_ap_intern.specs.Named.{same_name}
 use Rattle.ra_ap_intern.specs.Names.{has}
 use Rattle.ra_ap_intern.specs.Outcome.{OwesBack, Becomes}
 use Rattle.ra_ap_intern.specs.Presets.{place_of}
+use Rattle.ra_ap_intern.specs.Reach.{starts_with, IsReachedSet}
 use Rattle.ra_ap_intern.specs.Refusal.{Refusal}
 use Rattle.ra_ap_intern.specs.Refused.{Refused}
 use Rattle.ra_ap_intern.specs.State.{State, IsState, new_state, name_in, entry_at, counts, reads, with_count, counted_up, counted_down, taken, added, or_added, is_new, birth_of, interned, interned_name, interned_counted, due, zero_count, is_last, released}
 use Rattle.ra_ap_intern.specs.Symbols.{Named, entry_name, entry_names, symbol_at, symbol_in, due_of, at_entry}
 use Rattle.ra_ap_intern.specs.Symbols.Named.{preset, entry}
-use Rattle.ra_ap_intern.proofs.CallerCollections.{counts-kept_named}
+use Rattle.ra_ap_intern.proofs.CallerCollections.{counted_starts, counts-kept_named, counted_kept}
 use Rattle.ra_ap_intern.proofs.CallerReads.{read_at, is_there, counts-recounted, due_counted, released_either}
 
 -- the last of a list is in it
@@ -54,6 +55,7 @@ pub balanced_new : (V : Type 0) (number top numbers : ℕ)
     → IsBalanced {V = V} (new_state number top numbers) []
 balanced_new V number top numbers = λ n. grind (arith, get-empty {X = Kept V} nat_cmp n.birth)
 
+-- and has no count zero
 pub counted_new : (V : Type 0) (number top numbers : ℕ)
     → IsCounted {V = V} (new_state number top numbers)
 counted_new V number top numbers = λ b k at. grind (arith, get-empty {X = Kept V} nat_cmp b)
@@ -130,6 +132,7 @@ module _ {V : Type 0} where
       → same_name n (name_in s m.birth) ≡ same_name n m
   at_home s m home n = ap (λ k. same_name n (record { storage = k; birth = m.birth })) (sym home)
 
+  -- one more at its name
   pub times_counted_up : (s : State V) (m n : Name) (test : ℕ → Option Refusal)
       → due s m test ≡ None
       → times_counted (counted_up s m.birth) n ≡ times_counted s n + cond (same_name n m) 1 0
@@ -137,6 +140,7 @@ module _ {V : Type 0} where
       let there = is_there s m test free in
       grind (arith, nat_tests, counts-counted_up s m.birth n, at_home s m there.home n, there.at)
 
+  -- one less
   pub times_counted_down : (s : State V) (m n : Name) → due s m zero_count ≡ None
       → times_counted (counted_down s m.birth) n + cond (same_name n m) 1 0 ≡ times_counted s n
   times_counted_down s m n free =
@@ -165,10 +169,12 @@ module _ {V : Type 0} where
         there.passes,
       )
 
+  -- what is interned counts what it did
   pub times_interned : (eq : V → V → Bool) (s : State V) (v : V) (n : Name) → IsState eq s
       → times_counted (interned eq s v).state n ≡ times_counted s n
   times_interned eq s v n ok = grind (arith, counts-interned eq s v n, unborn eq s n ok)
 
+  -- and counted, one more
   pub times_interned_counted : (eq : V → V → Bool) (s : State V) (v : V) (n : Name)
       → IsState eq s
       → times_counted (interned_counted eq s v) n
@@ -232,6 +238,7 @@ module _ {V : Type 0} where
 
   -- ---- what is held is counted
 
+  -- one or more
   pub held_counted : (s : State V) (held : List Name) (n : Name) → IsBalanced s held
       → has held n ≡ true → (c : ℕ) × (counts s n ≡ Some (c + 1))
   held_counted s held n is among = go (counts s n) (is n) (some_held held n among)
@@ -266,6 +273,15 @@ module _ {V : Type 0} where
       → ((n : Name) (c : ℕ) → counts s n ≡ Some (c + 1) → set n ≡ true) → IsBalanced s held
       → IsBalanced (kept_named s set) held
   balanced_kept s set held all is = λ n. times_kept s set n (all n) ∙ is n
+
+  -- as one of this storage alone does
+  pub balanced_collected : (children : V → List Name) (s : State V) (listed names held : List Name)
+      → IsReachedSet (starts_with listed (entries_of children s)) (entries_of children s) names
+      → IsBalanced s held → IsBalanced (kept_named s (has names)) held
+  balanced_collected children s listed names held reached is =
+      balanced_kept s (has names) held (λ n c at.
+      counted_kept listed (entries_of children s) names reached n
+      (counted_starts children s n (c + 1) at (omega arith))) is
 
   -- ---- the same of calls with these clauses, where handles of any type are held in a list
 
@@ -322,6 +338,7 @@ module _ {V : Type 0} where
       let some = counted n.birth there.kept there.at in
       grind (arith, nat_tests, there.home, there.at, some)
 
+  -- none is zero after a count more, or an interning that counts
   pub counted_counted_up : (s : State V) (b : ℕ) → IsCounted s → IsCounted (counted_up s b)
   counted_counted_up s b counted = λ c k at.
       grind (arith, get-modified (recount (λ n. n + 1)) s.map b c, counted c)
@@ -342,7 +359,7 @@ module _ {V : Type 0} where
             counted c,
           )
 
-  -- where entries go with their last handle
+  -- nor after a release, where entries go with their last handle
   pub counted_released : (s : State V) (b : ℕ) → IsCounted s → IsCounted (released false s b)
   counted_released s b counted = λ c k at.
       grind (
@@ -353,6 +370,7 @@ module _ {V : Type 0} where
         counted c,
       )
 
+  -- nor after a sweep
   pub counted_kept_named : (s : State V) (set : Name → Bool) → IsCounted s
       → IsCounted (kept_named s set)
   counted_kept_named s set counted = λ c k at.
