@@ -1,6 +1,5 @@
 -- What was read, as trees, after each change.
-use Rattle.std.proofs.Common.{◌≡◌, Bool, true, false, cond, List, [], ◌∷◌, ◌++◌, map, reverse, length, Option, Some, None, refl, sym, ap, subst, ◌∙◌, Result, Ok, Err}
-use Rattle.std.specs.Prelude.{IfOk, OnOk}
+use Rattle.std.proofs.Common.{◌≡◌, Bool, true, false, cond, List, [], ◌∷◌, ◌++◌, map, reverse, length, Option, Some, None, refl, sym, ap, subst, ◌∙◌}
 use Rattle.std.proofs.lemmas.List.{reverse-append, reverse-reverse}
 use Rattle.intern_terms.specs.Handle.{term_name}
 use Rattle.intern_terms.specs.Tree.{Tree, Trees, tree, no_more, one_more, count, UnfoldsTo}
@@ -167,16 +166,6 @@ completed_term old mid new same f o head term parts whole name t some made is un
     (made (with_last o.parts t)
     (subst (λ s. Stand s parts (with_last o.parts t)) (sym same)
     (subst (λ terms. Stand old terms (with_last o.parts t)) (sym whole) stand)))
-
--- a fact about what was answered, from another
-pub if_ok_more : {A E : Type 0} (r : Result A E) (P Q : A → Type 0) → ((x : A) → P x → Q x)
-    → IfOk r P → IfOk r Q
-if_ok_more (Ok x) P Q more is = more x is
-if_ok_more (Err e) P Q more is = tt
-
-pub on_ok_more : {A E : Type 0} (r : Result A E) (P Q : Type 0) → (P → Q) → OnOk r P → OnOk r Q
-on_ok_more (Ok x) P Q more is = more is
-on_ok_more (Err e) P Q more is = tt
 
 -- an item is added
 pub item_stands : (old new : Store) → Keeps old new → (before after : List TermRef)

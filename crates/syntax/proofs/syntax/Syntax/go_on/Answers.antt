@@ -1,6 +1,6 @@
 use Rattle.std.proofs.Common.{◌≡◌, None}
+use Rattle.std.proofs.lemmas.Result.{on_ok_weaker}
 use Rattle.syntax.specs.Parsing.{Reaches}
-use Rattle.syntax.proofs.Reading.{on_ok_more}
 use Rattle.syntax.proofs.Steps.{gone_between, gone_marked, if_unexpected_more}
 use Rattle.syntax.proofs.syntax.Syntax.go_on.Goals as goal
 
@@ -15,7 +15,7 @@ returns-in_ok-open_infix-in-Infix-clause-ok c items os t before unfolds =
 
 pub returns-in_ok-whole-in-Mark-clause-ok : goal.returns-in_ok-whole-in-Mark-clause-ok
 returns-in_ok-whole-in-Mark-clause-ok c =
-    on_ok_more c.mark.result _ _ (λ goes items os t before unfolds.
+    on_ok_weaker c.mark.result (λ goes items os t before unfolds.
     gone_marked c.args.self.now.terms c.reduce-in-Mark.new.self.terms c.in_ok-whole-in-Mark.ensures.keeps
     c.args.machine.now c.reduce-in-Mark.new.machine c.in-Mark.mark c.args.placed.token
     c.in-Mark.is c.in_ok-whole-in-Mark.whole c.in_ok-whole-in-Mark.ensures.items
