@@ -140,7 +140,8 @@ changed_through like same found now old new x a value here there once itself put
     grind (arith, here y, there y, once y, itself, put)
 
 module _ {K V M S : Type 0} (eq : V → V → Bool) (laws : IsEquivalence eq) (test : Ref K → Ref K → Bool) (alike : (a b : Ref K) → (test a b ≡ true) ↔ (ref_name a ≡ ref_name b)) where
-  -- a value is put under the reference of one that is read, and look-ups of others find what they found
+  -- a value is put under the reference of one that is read, and look-ups of others find what they
+  -- found
   put_under : (s t : State V) → IsState eq t → (v w : V) (key : Ref K)
       → reads t (ref_name key) ≡ Some w → eq v w ≡ true
       → ((u : V) → eq v u ≡ false → name_of_value eq t u ≡ name_of_value eq s u)
@@ -188,8 +189,8 @@ pub values_alike : {K V M S : Type 0} (eq : V → V → Bool) (test : Ref K → 
 values_alike eq test alike s old new same v =
     λ i. option_and_then (λ n. names_alike test alike old new same n i) (name_of_value eq s v)
 
--- a later state that reads no more than one before, and a map of which what is read then is retained:
--- what is stored has under it what it had
+-- a later state that reads no more than one before, and a map of which what is read then is
+-- retained: what is stored has under it what it had
 pub value_retained : {K V M S : Type 0} (eq : V → V → Bool) → IsEquivalence eq → (s t : State V)
     → IsState eq s → ((n : Name) (u : V) → reads t n ≡ Some u → reads s n ≡ Some u)
     → (old new : HashMap (Ref K) M S)

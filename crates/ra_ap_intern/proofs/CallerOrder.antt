@@ -160,7 +160,8 @@ module _ {V X : Type 0} (children : V → List Name) (parent : V → Option Name
       ∙ ap (option_map (λ xs. see v ∷ xs))
       (enough name.birth (suc above.birth) above below (omega arith))
 
-  -- so that a loop that keeps what it saw last, and nothing before it, has the end of all at its end
+  -- so that a loop that keeps what it saw last, and nothing before it, has the end of all at its
+  -- end
   pub end_up : (name : Name) (v : V) → reads s name ≡ Some v
       → line_end parent see s name ≡ end_from (see v) (line_end parent see s) (parent v)
   unfolding line

@@ -206,7 +206,8 @@ module _ {F V : Type 0} (part : F → State V) (kept : F → (Name → Bool) →
   Collects r = IfOk r (λ told. (names : List Name) × IsCollection begins all names told
       × (t ≡ kept s (has names))) × OnErr r (t ≡ s)
 
-  -- what holds where the family is cut to what is reached holds after a collection, if it held before
+  -- what holds where the family is cut to what is reached holds after a collection, if it held
+  -- before
   pub collected : (P : F → Type 0) → P s
       → ((names : List Name) → IsReachedSet begins all names → P (kept s (has names)))
       → (r : Result Collected AllocError) → Collects r → P t

@@ -60,7 +60,8 @@ module _ {V : Type 0} where
       → State V → State V → List V → List Name → List Name → Type 0
   Interns after eq owed = AddsInTurn after (interned_name eq) (λ s v. due_interning eq s v (owed s))
 
-  -- a value is refused as interning it alone is, or for want of memory for the list, where this holds
+  -- a value is refused as interning it alone is, or for want of memory for the list, where this
+  -- holds
   abbrev pub IsOwed : (V → V → Bool) → State V → (ℕ → Option Refusal) → Type 0 → Refused V → Type 0
   IsOwed eq s by_count holds r = IsWhy (due_interning eq s r.back by_count) (is_new eq s r.back) r.why
       ⊎ ((r.why ≡ OutOfMemory) × holds)

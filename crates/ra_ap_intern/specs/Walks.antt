@@ -21,8 +21,8 @@ module _ {V : Type 0} (children : V → List Name) (s : State V) where
   abbrev pub IsWithin : List Name → Name → Type 0
   IsWithin roots = Reached (begins_walk roots) (entries_of children s)
 
-  -- a walk under way: what it met is below its roots, and so is what it has ahead, as far as that is
-  -- read; and each root, and each child of what it met, is ahead or met, if it is read
+  -- a walk under way: what it met is below its roots, and so is what it has ahead, as far as that
+  -- is read; and each root, and each child of what it met, is ahead or met, if it is read
   pub record IsWalk (roots ahead met : List Name) : Type 0 where
     pub met_within : (n : Name) → has met n ≡ true → IsWithin roots n
     pub ahead_within : (n : Name) → has ahead n ≡ true → IsSome (reads s n) → IsWithin roots n
