@@ -89,12 +89,12 @@ module _ {V : Type 0} where
   pub counts-released : (stays : Bool) (s : State V) (b : ℕ) (n : Name)
       → counts (released stays s b) n
       ≡ cond (same_name n (name_in s b))
-        (cond (is_last stays s b) None (option_map (λ c. c - 1) (counts s n))) (counts s n)
+      (cond (is_last stays s b) None (option_map (λ c. c - 1) (counts s n))) (counts s n)
   counts-released stays s b n = go (is_last stays s b)
     where
       go : (t : Bool) → counts (cond t (taken s b) (counted_down s b)) n
           ≡ cond (same_name n (name_in s b))
-            (cond t None (option_map (λ c. c - 1) (counts s n))) (counts s n)
+          (cond t None (option_map (λ c. c - 1) (counts s n))) (counts s n)
       go true = counts-taken s b n
       go false = counts-counted_down s b n
 
@@ -121,7 +121,7 @@ module _ {V : Type 0} where
       go : (o : Option ℕ) → birth_of eq s v ≡ o
           → let i = or_added o s v in
           cond (same_name n (name_in i.state i.birth))
-            (option_map (λ c. c + 1) (counts i.state n)) (counts i.state n)
+          (option_map (λ c. c + 1) (counts i.state n)) (counts i.state n)
           ≡ cond (same_name n (name_in s i.birth)) (Some (times_counted s n + 1)) (counts s n)
       go (Some b) is = grind (arith, nat_tests, is_stored eq s v b is)
       go None is = grind (arith, nat_tests, counts-added s v n, unborn eq s n ok)
