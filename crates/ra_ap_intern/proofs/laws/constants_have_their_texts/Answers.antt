@@ -1,5 +1,10 @@
-use Rattle.ra_ap_intern.proofs.CallerPresets.{constants_listed}
+use Rattle.std.proofs.Common.{refl}
+use Rattle.intern_presets.specs.Table.{table}
+use Rattle.intern_presets.specs.Presets.{preset_text}
+use Rattle.ra_ap_intern.specs.Constants.{constants}
+use Rattle.ra_ap_intern.specs.Symbols.{source_of}
 use Rattle.ra_ap_intern.proofs.laws.constants_have_their_texts.Goals as goal
 
 pub returns : goal.returns
-returns c = constants_listed
+unfolding constants preset_text source_of table
+returns c = refl
